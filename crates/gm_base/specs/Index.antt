@@ -1,0 +1,26 @@
+-- Where the clauses of a group stand among all clauses.
+use Rattle.std.specs.Prelude.{◌≡◌, ℕ, Bool, not, ◌==◌, ◌||◌, List, All, Contains, IsSomeAnd, slice_get}
+use Rattle.std.specs.List.{list_all}
+use Rattle.std.specs.List.Sorted.{IsNonDecreasingBy}
+use Rattle.gm_base.specs.declared.clause.Clause.{Clause}
+use Rattle.gm_base.specs.declared.index.Placed.{Placed}
+use Rattle.gm_base.specs.Literals.{clause_true}
+
+-- the clause at this place is of this group
+abbrev pub IsOfGroup : List Clause → ℕ → ℕ → Type 0
+IsOfGroup clauses group at = IsSomeAnd (slice_get clauses at) (λ c. c.group ≡ group)
+
+-- the places of the clauses of a group: each of them, and no other
+pub record ArePlaces (clauses : List Clause) (group : ℕ) (places : List Placed) : Type 0 where
+  pub of_group : All (λ placed. IsOfGroup clauses group placed.at) places
+  pub each : (at : ℕ) → IsOfGroup clauses group at → Contains places (record { group = group; at = at })
+
+-- the group and the place of each clause, ascending by group
+pub record IsIndex (clauses : List Clause) (index : List Placed) : Type 0 where
+  pub ascends : IsNonDecreasingBy (λ placed. placed.group) index
+  pub of_group : All (λ placed. IsOfGroup clauses placed.group placed.at) index
+  pub each : (at group : ℕ) → IsOfGroup clauses group at → Contains index (record { group = group; at = at })
+
+-- the assignment makes each clause of the group true
+abbrev pub group_true : List Clause → List Bool → ℕ → Bool
+group_true clauses assign group = list_all (λ c. not (c.group == group) || clause_true assign c.lits) clauses

@@ -1,0 +1,12 @@
+pub mod Sets
+pub mod Literals
+pub mod Problem
+pub mod Minimal
+pub mod Report
+pub mod Laws
+pub mod Index
+pub mod Derivation
+pub mod Evidence
+pub mod Explored
+pub mod Rows
+pub mod EvidenceRows

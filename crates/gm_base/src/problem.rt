@@ -1,0 +1,146 @@
+//! Problems.
+//!
+//! A problem is a list of clauses in groups. Beside them stands an index, by which the clauses of a group are found
+//! without a walk over the others. Contracts see the clauses alone.
+ghost use Rattle.std.specs.Prelude.{◌≡◌, ◌<◌, ◌+◌, ◌^◌, ◌↔◌, IsTrue, IfOk, Some, length, slice_get};
+ghost use Rattle.gm_base.specs.Problem.{IsClause, IsProblem, satisfies};
+ghost use Rattle.gm_base.specs.Index.{ArePlaces, group_true};
+
+use crate::assign::Assign;
+use crate::clause::{Clause, Clauses};
+use crate::group_set::GroupSet;
+use crate::index::{Placed, index_of, stretch};
+use std::alloc::{AllocError, Global};
+use std::marker::Model;
+
+/// Clauses in groups from 0 to `groups`, over variables from 1 to `vars`.
+#[derive(Debug, Drop)]
+pub struct Problem {
+    vars: u32,
+    groups: u32,
+    clauses: Vec<Clause>,
+    index: Vec<Placed>,
+}
+
+impl Model for Problem {
+    ghost use Rattle.std.specs.Prelude.{◌+◌, ◌^◌, ◌<◌};
+    ghost use Rattle.gm_base.specs.Problem.{Problem, IsProblem};
+    ghost use Rattle.gm_base.specs.Index.{IsIndex};
+
+    ghost Value = { Problem };
+
+    ghost view = { λ p. record { vars = p.vars; groups = p.groups; clauses = p.clauses.items } };
+
+    ghost invariant = { λ p.
+        record {
+          well_formed : IsProblem (record { vars = p.vars; groups = p.groups; clauses = p.clauses.items });
+          small : p.vars + p.groups < 2 ^ 31;
+          index : IsIndex p.clauses.items p.index.items;
+        } };
+}
+
+impl Problem {
+    /// A problem of these clauses. `clause_fits` tells whether a clause is over these variables and groups.
+    pub fn new(
+        alloc: Global,
+        vars: u32,
+        groups: u32,
+        clauses: Clauses,
+    ) -> Result<Problem, AllocError>
+        requires well_formed { IsProblem (record { vars = vars; groups = groups; clauses = clauses }) }
+        requires small { vars + groups < 2 ^ 31 }
+        ensures { IfOk result (λ p. p ≡ record { vars = vars; groups = groups; clauses = clauses }) }
+    {
+        let clauses = clauses.items;
+        let index = index_of(alloc, clauses.as_slice())?;
+        Ok(Problem {
+            vars,
+            groups,
+            clauses,
+            index,
+        })
+    }
+
+    pub fn vars(&self) -> u32
+        ensures { result ≡ self.now.vars }
+    {
+        self.vars
+    }
+
+    /// The greatest group number.
+    pub fn groups(&self) -> u32
+        ensures count { result ≡ self.now.groups }
+        ensures well_formed { IsProblem self.now }
+        ensures small { self.now.vars + self.now.groups < 2 ^ 31 }
+    {
+        self.groups
+    }
+
+    /// How many clauses it has.
+    pub fn len(&self) -> usize
+        ensures { result ≡ length self.now.clauses }
+    {
+        self.clauses.len()
+    }
+
+    /// The clause at a place, from 0.
+    pub fn clause(&self, at: usize) -> &Clause
+        requires { at < length self.now.clauses }
+        ensures same { slice_get self.now.clauses at ≡ Some result.now }
+        ensures fits { IsClause self.now.vars self.now.groups result.now }
+    {
+        &self.clauses[at]
+    }
+
+    /// Where the clauses of a group stand, without a walk over the others.
+    pub fn places(&self, group: u32) -> &[Placed]
+        ensures { ArePlaces self.now.clauses group result.now }
+    {
+        stretch(self.index.as_slice(), group)
+    }
+
+    /// Whether the assignment makes the clauses of this group true.
+    fn group_holds(&self, group: u32, assign: &Assign) -> bool
+        requires { length assign.now ≡ self.now.vars }
+        ensures { result ≡ group_true self.now.clauses assign.now group }
+    {
+        for placed in self.places(group) {
+            let clause = self.clause(placed.at as usize);
+            if !assign.makes_any_true(clause.lits.as_slice()) {
+                return false;
+            }
+        }
+        true
+    }
+
+    /// Whether the assignment makes the background and the groups of the set true.
+    pub fn holds(&self, set: &GroupSet, assign: &Assign) -> bool
+        requires { length assign.now ≡ self.now.vars }
+        ensures { result ≡ satisfies self.now set.now assign.now }
+    {
+        if !self.group_holds(0, assign) {
+            return false;
+        }
+        for g in set.as_slice() {
+            if !self.group_holds(*g, assign) {
+                return false;
+            }
+        }
+        true
+    }
+}
+
+/// Whether a clause is over these groups and variables.
+pub fn clause_fits(vars: u32, groups: u32, clause: &Clause) -> bool
+    ensures { IsTrue result ↔ IsClause vars groups clause.now }
+{
+    if clause.group > groups {
+        return false;
+    }
+    for lit in clause.lits.as_slice() {
+        if lit.var() > vars {
+            return false;
+        }
+    }
+    true
+}
