@@ -1,0 +1,55 @@
+#!/usr/bin/env python3
+"""The report of a GCNF file by trying every set of groups: slow, plain, and independent of gmus.
+
+usage: brute_force.py FILE
+"""
+import sys
+from itertools import product
+
+
+def read(path):
+    with open(path) as lines:
+        words = " ".join(l for l in lines if not l.lstrip(" \t").startswith("c"))
+    words = words.replace("{", " { ").replace("}", " } ").split()
+    assert words[:2] == ["p", "gcnf"]
+    variables, clauses, groups = map(int, words[2:5])
+    found, rest = [], words[5:]
+    while rest:
+        end = rest.index("0", 3)
+        found.append((int(rest[1]), [int(w) for w in rest[3:end]]))
+        rest = rest[end + 1:]
+    assert len(found) == clauses
+    return variables, groups, found
+
+
+def main(path):
+    variables, groups, clauses = read(path)
+    # for each assignment, the groups it satisfies, where it satisfies the background
+    satisfied = set()
+    for values in product([False, True], repeat=variables):
+        broken = {g for g, lits in clauses if not any(values[abs(l) - 1] == (l > 0) for l in lits)}
+        if 0 not in broken:
+            satisfied.add(frozenset(range(1, groups + 1)) - broken)
+    known = {}
+
+    def sat(chosen):
+        if chosen not in known:
+            known[chosen] = any(chosen <= s for s in satisfied)
+        return known[chosen]
+
+    everything = frozenset(range(1, groups + 1))
+    conflicts, corrections = [], []
+    for bits in product([False, True], repeat=groups):
+        chosen = frozenset(g for g, b in zip(range(1, groups + 1), bits) if b)
+        if not sat(chosen) and all(sat(chosen - {g}) for g in chosen):
+            conflicts.append(sorted(chosen))
+        if sat(everything - chosen) and all(not sat(everything - chosen | {g}) for g in chosen):
+            corrections.append(sorted(chosen))
+    print(f"p gmus {groups}\ns COMPLETE")
+    for letter, sets in (("u", conflicts), ("m", corrections)):
+        for chosen in sorted(sets):
+            print(" ".join([letter] + [str(g) for g in chosen] + ["0"]))
+    print(f"e {len(conflicts)} {len(corrections)}")
+
+
+main(sys.argv[1])
