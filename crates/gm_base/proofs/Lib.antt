@@ -3,4 +3,4 @@ pub mod SetLemmas
 pub mod SatLemmas
 pub mod IndexLemmas
 pub mod Singles
-pub mod Tests
+pub mod TestLemmas

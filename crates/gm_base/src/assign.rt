@@ -42,7 +42,8 @@ impl Assign {
     pub fn set(&mut self, var: u32, value: bool)
         requires not_zero { 0 < var }
         requires in_range { var ≤ length self.old }
-        ensures { self.new ≡ slice_set self.old (var - 1) value }
+        ensures value { self.new ≡ slice_set self.old (var - 1) value }
+        ensures len { length self.new ≡ length self.old }
     {
         self.values[(var - 1) as usize] = value;
     }

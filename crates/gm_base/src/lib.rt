@@ -23,6 +23,8 @@ pub mod laws;
 mod lit;
 mod problem;
 mod sets;
+#[cfg(test)]
+mod tests;
 
 pub use assign::Assign;
 pub use clause::{Clause, Clauses};
