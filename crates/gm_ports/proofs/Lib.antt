@@ -1,0 +1,4 @@
+pub mod MemFilesLemmas
+pub mod MemFilesPort
+pub mod ReadingLemmas
+pub mod ToldLemmas

@@ -1,0 +1,10 @@
+use Rattle.std.proofs.Common.{◌<◌, [], length, arith}
+use Rattle.std.proofs.lemmas.Grind.{common_steps}
+use Rattle.gm_ports.proofs.MemFilesLemmas.{set-text}
+use Rattle.gm_ports.proofs.file_list.FileList.clear.Goals as goal
+
+-- the file at the place is the only one that is another one now
+pub returns : goal.returns
+returns c =
+    let there : c.args.place < length c.self.inside.files.items = grind (arith, common_steps) in
+    let cleared = set-text c.self.inside.files.items c.args.place c.index_mut.result.now [] there c.index_mut.ensures.value in cc

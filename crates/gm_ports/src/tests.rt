@@ -1,0 +1,188 @@
+//! What the objects in memory answer, call by call.
+ghost use Rattle.std.specs.Prelude.{◌<◌};
+
+use crate::{Calls, Failed, Files, MemFiles, MemSink, Reading, Rooms, Sink, Texts, read_whole};
+use std::alloc::{AllocError, Global};
+use std::test::Fail;
+
+/// One file `f`, and room under `f` and `g`.
+fn files_with(
+    alloc: Global,
+    text: &[u8],
+    room: u64,
+    per_call: usize,
+    failing_reads: &[u64],
+    failing_writes: &[u64],
+) -> Result<MemFiles, AllocError>
+    requires { 0 < per_call }
+{
+    let mut held = Texts::new(alloc);
+    held.push(alloc, "f", text)?;
+    let mut rooms = Rooms::new(alloc);
+    rooms.push(alloc, "g", room)?;
+    rooms.push(alloc, "f", room)?;
+    MemFiles::new(
+        alloc,
+        held,
+        rooms,
+        per_call,
+        per_call,
+        Calls::from_slice(alloc, failing_reads)?,
+        Calls::from_slice(alloc, failing_writes)?,
+    )
+}
+
+#[test]
+fn sink_keeps_what_fits_and_fails_as_told(rt: HostRuntime) -> Result<(), Fail> {
+    let alloc = rt.alloc();
+    // the most a write takes, the room, the failing calls; then the answers to three writes, what was got, the faults
+    for (per_write, room, failing, answers, got, faults) in [
+        (10, 100, [0, 0], [Some(6), Some(2), Some(0)], "abcdefxy", 0),
+        (4, 100, [0, 0], [Some(4), Some(2), Some(0)], "abcdxy", 0),
+        (10, 7, [0, 0], [Some(6), Some(1), Some(0)], "abcdefx", 0),
+        (10, 6, [0, 0], [Some(6), None, Some(0)], "abcdef", 1),
+        (10, 0, [0, 0], [None, None, Some(0)], "", 2),
+        (10, 100, [2, 0], [Some(6), None, Some(0)], "abcdef", 1),
+        (10, 100, [1, 3], [None, Some(2), None], "xy", 2),
+    ] {
+        assert!(rt; per_write > 0usize);
+        let failing = Calls::from_slice(alloc, &failing)?;
+        let mut sink = MemSink::new(alloc, per_write, room, failing)?;
+        for (piece, answer) in ["abcdef", "xy", ""].iter().zip(answers) {
+            assert_eq!(rt;
+                sink.write(piece.as_bytes()).ok(),
+                answer,
+                "{piece} for {got}"
+            );
+        }
+        assert_eq!(rt; sink.got(), got.as_bytes());
+        assert_eq!(rt; sink.faults(), faults, "{got}");
+    }
+    Ok(())
+}
+
+#[test]
+fn whole_file_is_read_up_to_the_limit(rt: HostRuntime) -> Result<(), Fail> {
+    let alloc = rt.alloc();
+    // name, text, limit, the most a read gives, the failing call; then the answer and the faults
+    for (name, text, limit, per_read, failing, answer, faults) in [
+        ("f", "abcd", 4, 100, 0, "abcd", 0),
+        ("f", "abcd", 4, 1, 0, "abcd", 0),
+        ("f", "abcde", 4, 100, 0, "too long", 0),
+        ("f", "abcde", 4, 3, 0, "too long", 0),
+        ("f", "", 4, 100, 0, "", 0),
+        ("f", "", 0, 1, 0, "", 0),
+        ("f", "a", 0, 1, 0, "too long", 0),
+        ("f", "abcd", u64::MAX, 3, 0, "abcd", 0),
+        ("g", "abcd", 4, 100, 0, "failed", 1),
+        ("h", "abcd", 4, 100, 0, "failed", 1),
+        ("f", "abcd", 4, 3, 1, "failed", 1),
+        ("f", "abcd", 4, 3, 2, "failed", 1),
+        ("f", "abcd", 4, 3, 4, "failed", 1),
+        ("f", "abcd", 4, 3, 5, "abcd", 0),
+    ] {
+        assert!(rt; per_read > 0usize);
+        let mut files = files_with(alloc, text.as_bytes(), 9, per_read, &[failing], &[])?;
+        match read_whole(alloc, &mut files, name, limit) {
+            Reading::Whole(bytes) => assert_eq!(rt; bytes.as_slice(), answer.as_bytes(), "{text}"),
+            Reading::TooLong => assert_eq!(rt; "too long", answer, "{text}"),
+            Reading::Failed => assert_eq!(rt; "failed", answer, "{text}"),
+            Reading::Memory => return Err(Fail::from("out of memory")),
+        }
+        assert_eq!(rt; files.read_faults(), faults, "{text}");
+        assert_eq!(rt; files.write_faults(), 0, "{text}");
+    }
+    Ok(())
+}
+
+/// Opens an output and writes the text once; how much of it was taken, and whether the output was ended.
+fn put<F: Files>(files: &mut F, name: &str, text: &[u8]) -> Result<usize, Failed> {
+    files.open_out(name)?;
+    let taken = files.write(text)?;
+    files.finish_out()?;
+    Ok(taken)
+}
+
+#[test]
+fn written_bytes_are_held_under_their_name(rt: HostRuntime) -> Result<(), Fail> {
+    let alloc = rt.alloc();
+    // name, text, room, the most a write takes, the failing call; then the answer, what `f` and `g` hold, the faults
+    for (name, text, room, per_write, failing, answer, f, g, faults) in [
+        ("g", "xyz", 3, 100, 0, Some(3), Some("old"), Some("xyz"), 0),
+        ("g", "xyz", 3, 2, 0, Some(2), Some("old"), Some("xy"), 0),
+        ("g", "xyz", 2, 100, 0, Some(2), Some("old"), Some("xy"), 0),
+        ("g", "xyz", 0, 100, 0, None, Some("old"), Some(""), 1),
+        ("g", "", 0, 100, 0, Some(0), Some("old"), Some(""), 0),
+        ("f", "xyz", 3, 100, 0, Some(3), Some("xyz"), None, 0),
+        ("f", "xyz", 9, 1, 0, Some(1), Some("x"), None, 0),
+        ("h", "xyz", 9, 100, 0, None, Some("old"), None, 1),
+        ("g", "xyz", 9, 100, 1, None, Some("old"), None, 1),
+        ("g", "xyz", 9, 100, 2, None, Some("old"), Some(""), 1),
+        ("g", "xyz", 9, 100, 3, None, Some("old"), Some("xyz"), 1),
+        ("g", "xyz", 9, 100, 4, Some(3), Some("old"), Some("xyz"), 0),
+    ] {
+        assert!(rt; per_write > 0usize);
+        let mut files = files_with(alloc, b"old", room, per_write, &[], &[failing])?;
+        assert_eq!(rt;
+            put(&mut files, name, text.as_bytes()).ok(),
+            answer,
+            "{name} {failing}"
+        );
+        assert_eq!(rt;
+            files.held("f"),
+            f.map(|text| text.as_bytes()),
+            "{name} {failing}"
+        );
+        assert_eq!(rt;
+            files.held("g"),
+            g.map(|text| text.as_bytes()),
+            "{name} {failing}"
+        );
+        assert_eq!(rt; files.write_faults(), faults, "{name} {failing}");
+        assert_eq!(rt; files.read_faults(), 0, "{name} {failing}");
+    }
+    Ok(())
+}
+
+#[test]
+fn calls_without_an_open_file_fail(rt: HostRuntime) -> Result<(), Fail> {
+    let mut files = files_with(rt.alloc(), b"old", 9, 100, &[], &[])?;
+    assert!(rt; files.read(&mut [0; 4]).is_err());
+    assert!(rt; files.write(b"x").is_err());
+    assert!(rt; files.finish_out().is_err());
+    assert_eq!(rt; files.read_faults(), 1);
+    assert_eq!(rt; files.write_faults(), 2);
+
+    // an output that was ended, and one that a failed opening closed
+    assert_eq!(rt; put(&mut files, "g", b"new").ok(), Some(3));
+    assert!(rt; files.write(b"x").is_err());
+    assert!(rt; files.open_out("g").is_ok());
+    assert!(rt; files.open_out("h").is_err());
+    assert!(rt; files.write(b"x").is_err());
+    assert_eq!(rt; files.write_faults(), 5);
+
+    // an input that a failed opening closed
+    assert!(rt; files.open_in("f").is_ok());
+    assert!(rt; files.open_in("h").is_err());
+    assert!(rt; files.read(&mut [0; 4]).is_err());
+    assert_eq!(rt; files.read_faults(), 3);
+    Ok(())
+}
+
+#[test]
+fn what_was_written_is_read_back(rt: HostRuntime) -> Result<(), Fail> {
+    let mut files = files_with(rt.alloc(), b"old", 9, 2, &[], &[])?;
+    let mut into = [0; 4];
+    assert!(rt; files.open_in("f").is_ok());
+    assert_eq!(rt; files.read(&mut into).ok(), Some(2));
+    assert_eq!(rt; into.as_slice(), b"ol\0\0".as_slice());
+
+    // the file is emptied under its reader, and grows again
+    assert!(rt; files.open_out("f").is_ok());
+    assert_eq!(rt; files.read(&mut into).ok(), Some(0));
+    assert_eq!(rt; files.write(b"ne").ok(), Some(2));
+    assert_eq!(rt; files.write(b"w").ok(), Some(1));
+    assert_eq!(rt; files.read(&mut into).ok(), Some(1));
+    assert_eq!(rt; into.as_slice(), b"wl\0\0".as_slice());
+    Ok(())
+}
