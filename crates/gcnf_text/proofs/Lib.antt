@@ -1,0 +1,6 @@
+pub mod DigitLemmas
+pub mod Unique
+pub mod LiteralLemmas
+pub mod ClauseLemmas
+pub mod HeaderLemmas
+pub mod WholeLemmas
