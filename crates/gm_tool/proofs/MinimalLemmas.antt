@@ -1,16 +1,16 @@
 -- Minimality by single removals decides the tests over all proper subsets.
-use Rattle.std.proofs.Common.{◌≡◌, ◌⊎◌, ℕ, zero, suc, ◌+◌, ◌<◌, ◌≤◌, Bool, true, false, not, ◌&&◌, List, [], ◌∷◌, length, get_or, take, refl, sym, ◌∙◌, ap, subst, inl, inr, arith, eqb}
-use Rattle.std.specs.List.{list_all, list_any}
-use Rattle.std.proofs.lemmas.Bool.{false≢true, true≢false, false_from_ne_true, eqb-true, eq-eqb, not-true}
+use Rattle.std.proofs.Common.{◌≡◌, ℕ, ◌<◌, ◌≤◌, Bool, true, false, not, ◌&&◌, List, length, get_or, take, refl, sym, ◌∙◌, ap, eqb}
+use Rattle.std.specs.List.{list_all}
+use Rattle.std.proofs.lemmas.Bool.{false_from_ne_true, eqb-true, eq-eqb, not-true}
 use Rattle.std.proofs.lemmas.List.{take_all}
 use Rattle.std.proofs.lemmas.List.Folds.{list_any_at}
 use Rattle.gm_base.specs.Sets.{has, without, complement, IsGroupSet, proper_sublists}
-use Rattle.gm_base.specs.Problem.{Problem, Sat}
+use Rattle.gm_base.specs.Problem.{Problem}
 use Rattle.gm_base.specs.Minimal.{is_sat, is_conflict, is_correction}
 use Rattle.gm_base.proofs.Members.{all_at, any_from}
-use Rattle.gm_base.proofs.SatLemmas.{Sat-from_test, test-from_Sat, unsat-from_test, test-from_unsat}
+use Rattle.gm_base.proofs.SatLemmas.{Sat-from_test, unsat-from_test}
 use Rattle.gm_base.proofs.Singles.{IsConflict-from_singles, singles-from_IsConflict, IsCorrection-from_singles, singles-from_IsCorrection}
-use Rattle.gm_base.proofs.Tests.{IsConflict-from_test, test-from_IsConflict, IsCorrection-from_test, test-from_IsCorrection}
+use Rattle.gm_base.proofs.TestLemmas.{IsConflict-from_test, test-from_IsConflict, IsCorrection-from_test, test-from_IsCorrection}
 
 -- what holds of each group by a scan
 each_group : (test : ℕ → Bool) (set : List ℕ) → list_all test set ≡ true → (g : ℕ) → has set g ≡ true → test g ≡ true
@@ -29,8 +29,8 @@ pub conflict-scanned : (p : Problem) (set items : List ℕ) (i : ℕ) → IsGrou
 conflict-scanned p set items i ok unsat same past h =
     test-from_IsConflict p set ok
     (IsConflict-from_singles p set (unsat-from_test p set unsat)
-     (λ g inside. Sat-from_test p (without set g)
-       (each_group (λ g. is_sat p (without set g)) set (scanned (λ g. is_sat p (without set g)) set items i same past h) g inside)))
+    (λ g inside. Sat-from_test p (without set g)
+    (each_group (λ g. is_sat p (without set g)) set (scanned (λ g. is_sat p (without set g)) set items i same past h) g inside)))
 
 pub conflict_sat : (p : Problem) (set : List ℕ) → is_sat p set ≡ true → is_conflict p set ≡ false
 unfolding is_conflict
@@ -47,8 +47,8 @@ correction-scanned p set items i ok sat same past h =
     let test = λ (g : ℕ). not (is_sat p (complement p.groups (without set g))) in
     test-from_IsCorrection p set ok
     (IsCorrection-from_singles p set (Sat-from_test p (complement p.groups set) sat)
-     (λ g inside. unsat-from_test p (complement p.groups (without set g))
-       (not-true (is_sat p (complement p.groups (without set g))) (each_group test set (scanned test set items i same past h) g inside))))
+    (λ g inside. unsat-from_test p (complement p.groups (without set g))
+    (not-true (is_sat p (complement p.groups (without set g))) (each_group test set (scanned test set items i same past h) g inside))))
 
 pub correction_unsat : (p : Problem) (set : List ℕ) → is_sat p (complement p.groups set) ≡ false → is_correction p set ≡ false
 unfolding is_correction

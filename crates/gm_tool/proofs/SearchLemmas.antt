@@ -1,13 +1,13 @@
 -- The order of a depth-first search over truth values, and why it may leave branches out.
-use Rattle.std.proofs.Common.{◌≡◌, ◌≢◌, ◌⊎◌, ℕ, zero, suc, ◌+◌, ◌-◌, ◌<◌, ◌≤◌, Bool, true, false, not, ◌&&◌, ◌||◌, List, [], ◌∷◌, ◌++◌, length, get_or, take, refl, sym, ◌∙◌, ap, subst, inl, inr, arith, eqb, leb, length-append}
+use Rattle.std.proofs.Common.{◌≡◌, ◌⊎◌, ℕ, zero, suc, ◌+◌, ◌-◌, ◌<◌, ◌≤◌, Bool, true, false, not, ◌&&◌, ◌||◌, List, [], ◌∷◌, ◌++◌, length, get_or, take, refl, sym, ◌∙◌, ap, subst, inl, inr, arith, leb, length-append}
 use Rattle.std.specs.Prelude.{ℤ, pos, negsuc, slice_get, Some}
 use Rattle.std.proofs.lemmas.List.{take_more, take_all}
 use Rattle.std.proofs.lemmas.List.Folds.{list_any-append}
-use Rattle.std.specs.List.{list_any, list_all, AllByRecursion}
+use Rattle.std.specs.List.{list_any, AllByRecursion}
 use Rattle.std.proofs.lemmas.Bool.{or_cases, or_left, or_right, or_from, and_parts, and_from, and_cases, false≢true, true≢false, cases_Bool, false_from_ne_true, true_from_ne_false, leb-true, le-leb, not-true}
 use Rattle.gm_base.specs.declared.clause.Clause.{Clause}
-use Rattle.gm_base.specs.Literals.{var_of, literal_true, clause_true, IsLiteral, AreLiterals}
-use Rattle.gm_base.specs.Problem.{Problem, IsProblem, IsClause, Sat, satisfies, is_present}
+use Rattle.gm_base.specs.Literals.{var_of, literal_true, clause_true, AreLiterals}
+use Rattle.gm_base.specs.Problem.{Problem, IsProblem, IsClause, satisfies, is_present}
 use Rattle.gm_base.specs.Minimal.{is_sat}
 use Rattle.gm_base.proofs.Members.{In, all_at, all_from, any_at, any_from}
 use Rattle.gm_base.proofs.SatLemmas.{test-from_Sat, test-from_unsat}
@@ -150,39 +150,39 @@ fails-begins p set q a ok t h =
     let gone = clause_true-begins p.vars q a c.lits h (In-IsClause p.vars p.groups p.clauses c ok inside).lits failed in
     false_from_ne_true (satisfies p set a)
     (λ s.
-      elim (or_cases (not (is_present set c)) (clause_true a c.lits) (all_at (λ (c : Clause). not (is_present set c) || clause_true a c.lits) p.clauses c s inside)) [
-          inl absent ↦ false≢true (sym (ap not present) ∙ absent)
-        | inr made ↦ false≢true (sym gone ∙ made)
-      ])
+    elim (or_cases (not (is_present set c)) (clause_true a c.lits) (all_at (λ (c : Clause). not (is_present set c) || clause_true a c.lits) p.clauses c s inside)) [
+      | inl absent ↦ false≢true (sym (ap not present) ∙ absent)
+      | inr made ↦ false≢true (sym gone ∙ made)
+    ])
 
 -- with a value for each variable, a clause that is not false is true
 clause_true-whole : (values : List Bool) (lits : List ℤ) → AreLiterals (length values) lits → clause_false values lits ≡ false → clause_true values lits ≡ true
 clause_true-whole values [] ok t = absurd (false≢true (sym t))
 clause_true-whole values (l ∷ ls) ok t =
     elim (and_cases (literal_false values l) (clause_false values ls) t) [
-        inr later ↦ or_right (literal_true values l) (clause_true values ls) (clause_true-whole values ls ok.1 later)
+      | inr later ↦ or_right (literal_true values l) (clause_true values ls) (clause_true-whole values ls ok.1 later)
       | inl here ↦
-            or_left (literal_true values l) (clause_true values ls)
-            (elim (and_cases (leb (var_of l) (length values)) (not (literal_true values l)) here) [
-                inl beyond ↦ absurd (false≢true (sym beyond ∙ le-leb (var_of l) (length values) ok.0.in_range))
-              | inr made ↦ true_from_ne_false (literal_true values l) (λ e. false≢true (sym made ∙ ap not e))
-            ])
+          or_left (literal_true values l) (clause_true values ls)
+          (elim (and_cases (leb (var_of l) (length values)) (not (literal_true values l)) here) [
+            | inl beyond ↦ absurd (false≢true (sym beyond ∙ le-leb (var_of l) (length values) ok.0.in_range))
+            | inr made ↦ true_from_ne_false (literal_true values l) (λ e. false≢true (sym made ∙ ap not e))
+          ])
     ]
 
 satisfies-whole : (p : Problem) (set : List ℕ) (values : List Bool) → IsProblem p → length values ≡ p.vars → falsifies p set values ≡ false → satisfies p set values ≡ true
 satisfies-whole p set values ok len t =
     all_from (λ (c : Clause). not (is_present set c) || clause_true values c.lits) p.clauses
     (λ c inside.
-      elim (cases_Bool (is_present set c)) [
-          inr absent ↦ or_left (not (is_present set c)) (clause_true values c.lits) (ap not absent)
-        | inl present ↦
-              let kept : clause_false values c.lits ≡ false =
-                  false_from_ne_true (clause_false values c.lits)
-                  (λ f. false≢true (sym t ∙ any_at (λ (c : Clause). is_present set c && clause_false values c.lits) p.clauses c inside (and_from (is_present set c) (clause_false values c.lits) present f))) in
-              let lits = (In-IsClause p.vars p.groups p.clauses c ok inside).lits in
-              or_right (not (is_present set c)) (clause_true values c.lits)
-              (clause_true-whole values c.lits (subst (λ n. AreLiterals n c.lits) (sym len) lits) kept)
-      ])
+    elim (cases_Bool (is_present set c)) [
+      | inr absent ↦ or_left (not (is_present set c)) (clause_true values c.lits) (ap not absent)
+      | inl present ↦
+          let kept : clause_false values c.lits ≡ false =
+          false_from_ne_true (clause_false values c.lits)
+          (λ f. false≢true (sym t ∙ any_at (λ (c : Clause). is_present set c && clause_false values c.lits) p.clauses c inside (and_from (is_present set c) (clause_false values c.lits) present f))) in
+          let lits = (In-IsClause p.vars p.groups p.clauses c ok inside).lits in
+          or_right (not (is_present set c)) (clause_true values c.lits)
+          (clause_true-whole values c.lits (subst (λ n. AreLiterals n c.lits) (sym len) lits) kept)
+    ])
 
 -- the answers
 pub sat-from_stack : (p : Problem) (set : List ℕ) (values : List Bool) → IsProblem p → length values ≡ p.vars → falsifies p set values ≡ false → is_sat p set ≡ true
@@ -192,11 +192,11 @@ pub unsat-from_stack : (p : Problem) (set : List ℕ) (values : List Bool) → I
 unsat-from_stack p set values ok short tried t all =
     test-from_unsat p set
     (λ sat.
-      let (a, len, made) = sat in
-      elim (begins-true a values all (omega arith)) [
-          inl before ↦ false≢true (sym (tried a len before) ∙ made)
-        | inr begins ↦ false≢true (sym (fails-begins p set values a ok t begins) ∙ made)
-      ])
+    let (a, len, made) = sat in
+    elim (begins-true a values all (omega arith)) [
+      | inl before ↦ false≢true (sym (tried a len before) ∙ made)
+      | inr begins ↦ false≢true (sym (fails-begins p set values a ok t begins) ∙ made)
+    ])
 
 -- the steps
 pub Tried-start : (p : Problem) (set : List ℕ) (values : List Bool) → values ≡ [] → Tried p set values
@@ -213,7 +213,7 @@ pub Tried-turn : (p : Problem) (set : List ℕ) (old new : List Bool) → IsProb
 Tried-turn p set old new ok short tried t h a len before =
     let long : length (h.front ++ false ∷ h.top) ≤ length a = let same = ap length h.was in omega arith in
     elim (before-turn a h.front h.top h.all_true long (subst (IsBefore a) h.is before)) [
-        inl sooner ↦ tried a len (subst (IsBefore a) (sym h.was) sooner)
+      | inl sooner ↦ tried a len (subst (IsBefore a) (sym h.was) sooner)
       | inr begins ↦ fails-begins p set old a ok t (subst (λ q. Begins q a) (sym h.was) begins)
     ]
 
@@ -227,4 +227,4 @@ pub nodes_left-turned : (n : ℕ) (old new : List Bool) → length old ≤ n →
 nodes_left-turned n old new short h =
     subst (λ q. nodes_left n q < nodes_left n old) (sym h.is)
     (subst (λ q. nodes_left n (h.front ++ true ∷ []) < nodes_left n q) (sym h.was)
-     (nodes_left-turn n h.front h.top (let same = ap length h.was in omega arith)))
+    (nodes_left-turn n h.front h.top (let same = ap length h.was in omega arith)))

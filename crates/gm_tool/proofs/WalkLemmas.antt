@@ -1,9 +1,9 @@
 -- The walk over all sets.
-use Rattle.std.proofs.Common.{◌≡◌, ◌⊎◌, ℕ, zero, suc, ◌+◌, ◌-◌, ◌<◌, ◌≤◌, Bool, true, false, List, [], ◌∷◌, ◌++◌, map, length, refl, sym, ◌∙◌, ap, subst, inl, inr, arith, append_assoc, append-nil, cond}
+use Rattle.std.proofs.Common.{◌≡◌, ℕ, suc, ◌+◌, ◌-◌, ◌<◌, ◌≤◌, Bool, true, false, List, [], ◌∷◌, ◌++◌, map, length, refl, sym, ◌∙◌, ap, subst, arith, append_assoc, append-nil, cond}
 use Rattle.std.specs.List.{range_with_len, filter}
 use Rattle.std.specs.Prelude.{MatchBool}
 use Rattle.std.proofs.lemmas.Bool.{MatchBool-at_true, MatchBool-at_false}
-use Rattle.gm_base.specs.Sets.{nonempty_sublists, AscendsAbove, subsets, sublists, IsGroupSet}
+use Rattle.gm_base.specs.Sets.{nonempty_sublists, AscendsAbove, subsets, IsGroupSet}
 use Rattle.gm_base.specs.Problem.{Problem}
 use Rattle.gm_base.specs.Minimal.{conflicts, corrections, is_conflict, is_correction}
 use Rattle.gm_tool.specs.Walk.{later, next_of, groups_from, IsNext}
@@ -118,13 +118,13 @@ next-raise groups old new front g taken was is asc top =
     let raise = later-raise groups 1 front g taken (omega arith) (omega arith) in
     let same : (front ++ g ∷ []) ++ taken ∷ [] ≡ front ++ g ∷ taken ∷ [] = append_assoc front (g ∷ []) (taken ∷ []) in
     let up : AscendsAbove 0 (front ++ (g + 1) ∷ []) =
-      AscendsAbove-push 0 front (g + 1) (AscendsAbove-front 0 front (g ∷ []) front_ok) (omega arith) (let f = next_of-front 0 front g front_ok in omega arith) in
+    AscendsAbove-push 0 front (g + 1) (AscendsAbove-front 0 front (g ∷ []) front_ok) (omega arith) (let f = next_of-front 0 front g front_ok in omega arith) in
     let end = next_of-push 1 front (g + 1) in
     record {
       next =
-        subst (λ o. later groups 1 (o ++ taken ∷ []) ≡ new ∷ later groups 1 new) (sym was)
-        (subst (λ n. later groups 1 ((front ++ g ∷ []) ++ taken ∷ []) ≡ n ∷ later groups 1 n) (sym is)
-         (ap (later groups 1) same ∙ raise));
+          subst (λ o. later groups 1 (o ++ taken ∷ []) ≡ new ∷ later groups 1 new) (sym was)
+          (subst (λ n. later groups 1 ((front ++ g ∷ []) ++ taken ∷ []) ≡ n ∷ later groups 1 n) (sym is)
+          (ap (later groups 1) same ∙ raise));
       in_range = subst (λ n. next_of 1 n ≤ groups + 1) (sym is) (omega (arith, end));
     }
 

@@ -1,2 +1,4 @@
 pub mod Search
 pub mod Walk
+pub mod Words
+pub mod Run

@@ -3,11 +3,10 @@ ghost use Rattle.std.specs.Prelude.{◌≡◌, ◌++◌, ◌∷◌, [], IfOk, On
 ghost use Rattle.gm_base.specs.Minimal.{conflicts, corrections};
 ghost use Rattle.gm_tool.specs.Walk.{ListsAll};
 
-use std::alloc::{AllocError, Global};
-
 use crate::minimal::{is_minimal_conflict, is_minimal_correction};
 use crate::walk::next_set;
 use gm_base::{GroupSet, Problem, Sets};
+use std::alloc::{AllocError, Global};
 
 /// Sets of groups that were found, each list in lexicographic order.
 #[derive(Drop)]

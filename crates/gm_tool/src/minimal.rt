@@ -6,10 +6,9 @@
 ghost use Rattle.std.specs.Prelude.{◌≡◌, IfOk};
 ghost use Rattle.gm_base.specs.Minimal.{is_conflict, is_correction};
 
-use std::alloc::{AllocError, Global};
-
 use crate::search::is_satisfiable;
 use gm_base::{GroupSet, Problem};
+use std::alloc::{AllocError, Global};
 
 #[tactic(auto, using(crate::proofs::MinimalLemmas::conflict_sat))]
 pub fn is_minimal_conflict(

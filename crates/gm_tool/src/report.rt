@@ -4,10 +4,9 @@ ghost use Rattle.std.specs.Fmt.{decimal};
 ghost use Rattle.std.specs.List.{flat_map};
 ghost use Rattle.gm_base.specs.Report.{report_text, set_line};
 
-use std::alloc::{AllocError, Global};
-
 use gm_base::{GroupSet, Sets};
 use itoa::Buffer;
+use std::alloc::{AllocError, Global};
 
 fn push_text(out: &mut Vec<u8>, text: &str) -> Result<(), AllocError>
     ensures { OnOk result (out.new.items ≡ out.old.items ++ text.now) }
@@ -58,7 +57,14 @@ pub fn report(
     push_text(&mut out, "p gmus ")?;
     push_number(&mut out, u64::from(groups))?;
     push_text(&mut out, "\n")?;
-    push_text(&mut out, if complete { "s COMPLETE\n" } else { "s PARTIAL\n" })?;
+    push_text(
+        &mut out,
+        if complete {
+            "s COMPLETE\n"
+        } else {
+            "s PARTIAL\n"
+        },
+    )?;
     push_sets(&mut out, "u", conflicts)?;
     push_sets(&mut out, "m", corrections)?;
     push_text(&mut out, "e ")?;

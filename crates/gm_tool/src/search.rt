@@ -9,9 +9,8 @@ ghost use Rattle.gm_base.specs.Problem.{is_present};
 ghost use Rattle.gm_base.specs.Minimal.{is_sat};
 ghost use Rattle.gm_tool.specs.Search.{literal_false, clause_false, falsifies, TurnsLast, AreTrue};
 
-use std::alloc::{AllocError, Global};
-
 use gm_base::{Clause, GroupSet, Lit, Problem};
+use std::alloc::{AllocError, Global};
 
 /// Whether the values of the first variables make the literal false.
 fn is_literal_false(values: &[bool], lit: Lit) -> bool
@@ -66,11 +65,7 @@ fn turn_last(values: &mut Vec<bool>) -> Result<bool, AllocError>
 }
 
 /// Whether some assignment makes the background and the groups of the set true.
-pub fn is_satisfiable(
-    alloc: Global,
-    problem: &Problem,
-    set: &GroupSet,
-) -> Result<bool, AllocError>
+pub fn is_satisfiable(alloc: Global, problem: &Problem, set: &GroupSet) -> Result<bool, AllocError>
     ensures { IfOk result (λ yes. yes ≡ is_sat problem.now set.now) }
 {
     let vars = problem.vars() as usize;

@@ -6,9 +6,8 @@ ghost use Rattle.std.specs.Prelude.{◌≡◌, ◌+◌, ◌<◌, ◌≤◌, ◌^
 ghost use Rattle.gm_base.specs.Sets.{IsGroupSet};
 ghost use Rattle.gm_tool.specs.Walk.{later, next_of, IsNext};
 
-use std::alloc::AllocError;
-
 use gm_base::GroupSet;
+use std::alloc::AllocError;
 
 /// Goes on to the next set of groups up to this one, or answers that this set is the last.
 pub fn next_set(set: &mut GroupSet, groups: u32) -> Result<bool, AllocError>

@@ -1,4 +1,4 @@
-use Rattle.std.proofs.Common.{◌≡◌, ◌≤◌, ◌<◌, ◌++◌, ◌∷◌, [], ◌+◌, subst, sym, ap, ◌∙◌, refl, arith, length}
+use Rattle.std.proofs.Common.{◌≡◌, ◌≤◌, ◌++◌, ◌∷◌, [], ◌+◌, subst, sym, ap, refl, arith, length}
 use Rattle.std.specs.List.{filter}
 use Rattle.gm_base.specs.Minimal.{is_conflict, is_correction, conflicts, corrections}
 use Rattle.gm_tool.specs.Walk.{later, next_of, IsNext}
@@ -11,11 +11,11 @@ loop-set-init c =
     record {
       in_range = subst (λ set. next_of 1 set ≤ p.groups + 1) (sym c.new-set.ensures) (omega arith);
       conflicts =
-        subst (λ set. c.new-conflicts.result ++ filter (is_conflict p) (set ∷ later p.groups 1 set) ≡ conflicts p) (sym c.new-set.ensures)
-        (conflicts_start p c.new-conflicts.result c.new-conflicts.ensures);
+          subst (λ set. c.new-conflicts.result ++ filter (is_conflict p) (set ∷ later p.groups 1 set) ≡ conflicts p) (sym c.new-set.ensures)
+          (conflicts_start p c.new-conflicts.result c.new-conflicts.ensures);
       corrections =
-        subst (λ set. c.new-corrections.result ++ filter (is_correction p) (set ∷ later p.groups 1 set) ≡ corrections p) (sym c.new-set.ensures)
-        (corrections_start p c.new-corrections.result c.new-corrections.ensures);
+          subst (λ set. c.new-corrections.result ++ filter (is_correction p) (set ∷ later p.groups 1 set) ≡ corrections p) (sym c.new-set.ensures)
+          (corrections_start p c.new-corrections.result c.new-corrections.ensures);
     }
 
 -- the walk went on
@@ -32,13 +32,13 @@ loop-set-preserved c =
     record {
       in_range = (went c).in_range;
       conflicts =
-        kept-next (is_conflict p) c.keep.new.sets (conflicts p) rest next
-        (kept-seen (is_conflict p) c.loop-set.conflicts c.keep.new.sets (conflicts p) set set rest c.in_ok-conflict.conflict c.loop-set.invariant.conflicts refl c.in_ok-conflict.ensures c.in_ok-keep.ensures)
-        (went c).next;
+          kept-next (is_conflict p) c.keep.new.sets (conflicts p) rest next
+          (kept-seen (is_conflict p) c.loop-set.conflicts c.keep.new.sets (conflicts p) set set rest c.in_ok-conflict.conflict c.loop-set.invariant.conflicts refl c.in_ok-conflict.ensures c.in_ok-keep.ensures)
+          (went c).next;
       corrections =
-        kept-next (is_correction p) c.keep-in-loop-set.new.sets (corrections p) rest next
-        (kept-seen (is_correction p) c.loop-set.corrections c.keep-in-loop-set.new.sets (corrections p) set set rest c.in_ok-correction.correction c.loop-set.invariant.corrections refl c.in_ok-correction.ensures c.in_ok-keep-2.ensures)
-        (went c).next;
+          kept-next (is_correction p) c.keep-in-loop-set.new.sets (corrections p) rest next
+          (kept-seen (is_correction p) c.loop-set.corrections c.keep-in-loop-set.new.sets (corrections p) set set rest c.in_ok-correction.correction c.loop-set.invariant.corrections refl c.in_ok-correction.ensures c.in_ok-keep-2.ensures)
+          (went c).next;
     }
 
 pub loop-set-smaller : goal.loop-set-smaller
@@ -51,14 +51,14 @@ returns-then-not-branch c =
     let set = c.loop-set.set in
     let rest = later p.groups 1 set in
     let end : rest ≡ [] =
-        next-ended c.groups-groups.result p.groups set c.next_set.new.set set c.in_ok-next_set.field-0 c.in_ok-next_set.ensures (cc) c.groups-groups.ensures.count refl in
+    next-ended c.groups-groups.result p.groups set c.next_set.new.set set c.in_ok-next_set.field-0 c.in_ok-next_set.ensures (cc) c.groups-groups.ensures.count refl in
     record {
       conflicts =
-        kept-all (is_conflict p) c.keep.new.sets (conflicts p) rest
-        (kept-seen (is_conflict p) c.loop-set.conflicts c.keep.new.sets (conflicts p) set set rest c.in_ok-conflict.conflict c.loop-set.invariant.conflicts refl c.in_ok-conflict.ensures c.in_ok-keep.ensures)
-        end;
+          kept-all (is_conflict p) c.keep.new.sets (conflicts p) rest
+          (kept-seen (is_conflict p) c.loop-set.conflicts c.keep.new.sets (conflicts p) set set rest c.in_ok-conflict.conflict c.loop-set.invariant.conflicts refl c.in_ok-conflict.ensures c.in_ok-keep.ensures)
+          end;
       corrections =
-        kept-all (is_correction p) c.keep-in-loop-set.new.sets (corrections p) rest
-        (kept-seen (is_correction p) c.loop-set.corrections c.keep-in-loop-set.new.sets (corrections p) set set rest c.in_ok-correction.correction c.loop-set.invariant.corrections refl c.in_ok-correction.ensures c.in_ok-keep-2.ensures)
-        end;
+          kept-all (is_correction p) c.keep-in-loop-set.new.sets (corrections p) rest
+          (kept-seen (is_correction p) c.loop-set.corrections c.keep-in-loop-set.new.sets (corrections p) set set rest c.in_ok-correction.correction c.loop-set.invariant.corrections refl c.in_ok-correction.ensures c.in_ok-keep-2.ensures)
+          end;
     }

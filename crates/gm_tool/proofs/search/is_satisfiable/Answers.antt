@@ -1,4 +1,4 @@
-use Rattle.std.proofs.Common.{◌≡◌, ◌<◌, ◌≤◌, ◌++◌, ◌∷◌, [], true, false, length, sym, subst, ap, ◌∙◌, arith, length-append}
+use Rattle.std.proofs.Common.{◌≡◌, ◌<◌, ◌≤◌, ◌∷◌, [], true, false, length, sym, subst, ap, ◌∙◌, arith, length-append}
 use Rattle.std.proofs.lemmas.Bool.{MatchBool-at_true, MatchBool-at_false}
 use Rattle.gm_tool.specs.Search.{falsifies, TurnsLast, AreTrue}
 use Rattle.gm_tool.proofs.SearchLemmas.{Tried-start, Tried-push, Tried-turn, sat-from_stack, unsat-from_stack, length-turn, nodes_left, nodes_left-push, nodes_left-turned}

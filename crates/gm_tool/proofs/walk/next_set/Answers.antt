@@ -12,7 +12,7 @@ push-requires-then-last-groups-2 c =
 pub returns-then-last-groups : goal.returns-then-last-groups
 returns-then-last-groups c =
     let new : c.push-then-last-groups-2.new.self ≡ (c.pop.new.self ++ c.in-Some.last ∷ []) ++ (c.in-Some.last + 1) ∷ [] =
-        c.in_ok-push-in-Some-2.ensures.ok ∙ ap (λ s. s ++ (c.in-Some.last + 1) ∷ []) c.in_ok-push-in-Some.ensures.ok in
+    c.in_ok-push-in-Some-2.ensures.ok ∙ ap (λ s. s ++ (c.in-Some.last + 1) ∷ []) c.in_ok-push-in-Some.ensures.ok in
     next-push c.args.groups c.args.set.now c.push-then-last-groups-2.new.self c.pop.new.self c.in-Some.last c.in-Some.ensures.groups new c.as_slice-ascends.ensures.ascends c.if-last-groups.true
 
 pub raise_last-requires-clause-greatest : goal.raise_last-requires-clause-greatest

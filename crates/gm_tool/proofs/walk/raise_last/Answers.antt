@@ -1,4 +1,4 @@
-use Rattle.std.proofs.Common.{arith, ◌≡◌, ◌<◌, ◌++◌, ◌∷◌, [], subst}
+use Rattle.std.proofs.Common.{arith, ◌<◌, ◌++◌, ◌∷◌, [], subst}
 use Rattle.gm_base.specs.Sets.{IsGroupSet}
 use Rattle.gm_tool.proofs.WalkLemmas.{next-raise, ascends-raised, AscendsAbove-two}
 use Rattle.gm_tool.proofs.walk.raise_last.Goals as goal
@@ -6,7 +6,7 @@ use Rattle.gm_tool.proofs.walk.raise_last.Goals as goal
 pub overflow_add-g : goal.overflow_add-g
 overflow_add-g c =
     let below : c.in-Some.g < c.args.taken =
-        AscendsAbove-two 0 c.pop.new.self c.in-Some.g c.args.taken (subst (λ o. IsGroupSet (o ++ c.args.taken ∷ [])) c.in-Some.ensures.groups c.requires.ascends) in
+    AscendsAbove-two 0 c.pop.new.self c.in-Some.g c.args.taken (subst (λ o. IsGroupSet (o ++ c.args.taken ∷ [])) c.in-Some.ensures.groups c.requires.ascends) in
     omega arith
 
 pub push-requires : goal.push-requires

@@ -1,0 +1,80 @@
+//! The top call.
+ghost use Rattle.std.specs.Prelude.{◌≡◌, ◌⊎◌, map, None, MatchOption};
+ghost use Rattle.std.specs.String.{string_bytes};
+ghost use Rattle.gm_ports.specs.Faults.{Rose};
+ghost use Rattle.gm_ports.specs.FilesState.{ReadingLeaves};
+ghost use Rattle.gm_tool.specs.Words.{words_read};
+ghost use Rattle.gm_tool.specs.Run.{OfNamed, TellsNamed, IsReadToEnd, IsAccepted, IsListed, IsCutOff, GetsLine, IsStatus, IsSilent, IsFaultless, error_line, status_of};
+
+use crate::error_line::write_error_line;
+use crate::list::{Ending, list_file};
+use crate::words::file_of;
+use gm_ports::{Files, Sink};
+use std::alloc::Global;
+use std::sync::Wait;
+use std::thread::Threads;
+
+/// How a run ended: 0 complete, 2 bad command line, 5 input refused, 6 read fault, 7 write fault, 8 want of memory.
+#[derive(Clone, Copy, Debug, PartialEq, Eq)]
+pub struct Finish {
+    pub status: u8,
+}
+
+fn finish_of(ending: Ending) -> Finish
+    ensures { result.status ≡ status_of ending }
+{
+    let status = match ending {
+        Ending::Complete => 0,
+        Ending::BadWords => 2,
+        Ending::Refused => 5,
+        Ending::ReadFault => 6,
+        Ending::WriteFault => 7,
+        Ending::Memory => 8,
+    };
+    Finish { status }
+}
+
+/// Lists all minimal conflicts and corrections of the file that the words name.
+///
+/// `words` are those behind the program's name. Status 0 says that the file is accepted and was read to its end, and that
+/// `out` got exactly the report of all its minimal conflicts and all its minimal corrections, each once, in lexicographic
+/// order.
+pub fn run<R: Threads + Wait + Sync, F: Files, O: Sink, E: Sink>(
+    _rt: &R,
+    alloc: Global,
+    words: &[String],
+    files: &mut F,
+    out: &mut O,
+    err: &mut E,
+) -> Finish
+    ensures known { IsStatus result.status }
+
+    // What each status tells.
+    ensures listed { result.status ≡ 0 → OfNamed (words_read (map string_bytes words.now)) (F.state files.old) (IsListed (O.got out.old) (O.got out.new)) }
+    ensures read_to_end { result.status ≡ 0 → IsReadToEnd (words_read (map string_bytes words.now)) (F.state files.old) (F.state files.new) }
+    ensures bad_words { result.status ≡ 2 → words_read (map string_bytes words.now) ≡ None }
+    ensures refused { result.status ≡ 5 → OfNamed (words_read (map string_bytes words.now)) (F.state files.old) (λ text. ¬ IsAccepted text) }
+    ensures read_fault { result.status ≡ 6 → Rose (F.state files.old).read_faults (F.state files.new).read_faults }
+    ensures write_fault { result.status ≡ 7 → Rose (O.faults out.old) (O.faults out.new) }
+    ensures cut_off { result.status ≡ 7 → OfNamed (words_read (map string_bytes words.now)) (F.state files.old) (IsCutOff (O.got out.old) (O.got out.new)) }
+
+    // When a status has to come.
+    ensures without_reading { words_read (map string_bytes words.now) ≡ None → (result.status ≡ 2) ⊎ (result.status ≡ 8) }
+    ensures accepted { ¬ Rose (F.state files.old).read_faults (F.state files.new).read_faults → ¬ Rose (O.faults out.old) (O.faults out.new) →
+        TellsNamed (words_read (map string_bytes words.now)) (F.state files.old) IsAccepted → (result.status ≡ 0) ⊎ (result.status ≡ 8) }
+
+    // What stays, and what standard error got.
+    ensures untouched { words_read (map string_bytes words.now) ≡ None → F.state files.new ≡ F.state files.old }
+    ensures files { ReadingLeaves (F.state files.old) (F.state files.new) }
+    ensures silent { IsSilent result.status → O.got out.new ≡ O.got out.old }
+    ensures no_read_fault_dropped { IsFaultless result.status → (F.state files.new).read_faults ≡ (F.state files.old).read_faults }
+    ensures no_write_fault_dropped { IsFaultless result.status → O.faults out.new ≡ O.faults out.old }
+    ensures error_line { GetsLine (error_line result.status) (E.got err.old) (E.got err.new) (E.faults err.old) (E.faults err.new) }
+{
+    let ending = match file_of(words) {
+        Some(name) => list_file(alloc, name, files, out),
+        None => Ending::BadWords,
+    };
+    write_error_line(err, ending);
+    finish_of(ending)
+}
