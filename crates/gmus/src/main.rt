@@ -1,0 +1,38 @@
+//! The program: the real files and streams, the words of the command line, and one call of `run`.
+#![tactic(auto)]
+
+mod files;
+mod sinks;
+#[cfg(test)]
+mod tests;
+
+use files::RealFiles;
+use gm_tool::run;
+use sinks::StreamSink;
+use std::alloc::Global;
+use std::process::ExitCode;
+use std::{env, io};
+
+fn main(rt: HostRuntime) -> ExitCode {
+    let alloc = rt.alloc();
+    let words = match words_after_name(&rt, alloc) {
+        Ok(words) => words,
+        Err(error) => {
+            if error.kind() == io::ErrorKind::OutOfMemory {
+                return ExitCode::from(8);
+            }
+            // A word that is not UTF-8 is a wrong command line, as no words are.
+            Vec::new(alloc)
+        }
+    };
+    let mut files = RealFiles::new(&rt);
+    let mut out = StreamSink::new(rt.stdout());
+    let mut err = StreamSink::new(rt.stderr());
+    let finish = run(&rt, alloc, words.as_slice(), &mut files, &mut out, &mut err);
+    ExitCode::from(finish.status)
+}
+
+fn words_after_name(rt: &(impl env::Env + AllocGlobal), alloc: Global) -> io::Result<Vec<String>> {
+    let words = env::args(rt)?.skip(1).collect(alloc)?;
+    Ok(words)
+}
