@@ -1,0 +1,10 @@
+pub mod Badges
+pub mod Beginnings
+pub mod Places
+pub mod Carried
+pub mod Turned
+pub mod Seated
+pub mod Steps
+pub mod Turns
+pub mod Gathered
+pub mod Ended

@@ -1,0 +1,6 @@
+pub mod Calls
+pub mod Seats
+pub mod Closings
+pub mod Rule
+pub mod Moves
+pub mod Badges
