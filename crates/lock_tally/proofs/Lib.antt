@@ -1,0 +1,4 @@
+pub mod Callers
+pub mod Sums
+pub mod Worked
+pub mod Crewed
