@@ -1,0 +1,52 @@
+-- What the words ask for, by what clap says of them.
+use Rattle.std.proofs.Common.{◌≡◌, ◌∙◌, ap, sym, refl, Bool, true, false, List, [], ◌∷◌, Option, None, inl, inr, rules}
+use Rattle.std.specs.Prelude.{option_map, option_and_then, if◌then◌else◌}
+use Rattle.clap.specs.Values.{kind_of}
+use Rattle.clap.specs.Walk.{Text, is_empty}
+use Rattle.clap.specs.Simple.{App, HasMatchesOf, is_simple, subcommand_of, subcommand_rows_of}
+use Rattle.clap.specs.Kinds.{HasKind, Kinds}
+use Rattle.clap.specs.Faults.{fault_of, is_simple_and_free}
+use Rattle.clap.specs.declared.Error.{Error}
+use Rattle.clap.specs.declared.ArgMatches.{ArgMatches}
+use Rattle.clap.specs.declared.error.ErrorKind.TheVariants.{OutOfMemory}
+use Rattle.gm_words.specs.Reading.{asked_of, gmus_app, words_read}
+use Rattle.gm_words.specs.Requests.{asked_by}
+use Rattle.gm_words.specs.declared.request.Request.{Request}
+
+-- the command is simple, and no argument has a rule on another
+gmus_free : is_simple_and_free gmus_app ≡ true
+gmus_free = refl
+
+gmus_simple : is_simple gmus_app ≡ true
+gmus_simple = refl
+
+free : (a : App) → a ≡ gmus_app → is_simple_and_free a ≡ true
+free a is = ap is_simple_and_free is ∙ gmus_free
+
+-- where clap has read the words
+pub read_of_matches : (a : App) (words : List Text) (m : ArgMatches) (r : Option Request) → a ≡ gmus_app
+    → (is_simple_and_free a ≡ true → fault_of a words ≡ []) → HasMatchesOf a words m
+    → option_map asked_by r ≡ option_and_then (λ p. asked_of p.0 p.1) (subcommand_rows_of m)
+    → option_map asked_by r ≡ words_read words
+read_of_matches a words m r is kinds has read =
+    let none : fault_of gmus_app words ≡ [] = ap (λ (x : App). fault_of x words) (sym is) ∙ kinds (free a is) in
+    let sub : subcommand_rows_of m ≡ subcommand_of gmus_app words =
+    (has (ap is_simple is ∙ gmus_simple)).1 ∙ ap (λ (x : App). subcommand_of x words) is in
+    read ∙ ap (option_and_then (λ p. asked_of p.0 p.1)) sub
+    ∙ sym (ap (λ (ks : Kinds). if is_empty ks
+    then option_and_then (λ p. asked_of p.0 p.1) (subcommand_of gmus_app words) else None) none)
+
+has_one : (ks : Kinds) (e : Error) → HasKind ks e → (kind_of e ≡ OutOfMemory → ⊥) → is_empty ks ≡ false
+has_one [] e (inl memory) other = absurd (other memory)
+has_one [] e (inr never) other = absurd never
+has_one (k ∷ ks) e h other = search rules
+
+-- where it refuses them, for another cause than memory
+pub read_of_error : (a : App) (words : List Text) (e : Error) → a ≡ gmus_app
+    → (is_simple_and_free a ≡ true → HasKind (fault_of a words) e) → (kind_of e ≡ OutOfMemory → ⊥)
+    → None ≡ words_read words
+read_of_error a words e is kinds other =
+    let some : is_empty (fault_of a words) ≡ false = has_one _ e (kinds (free a is)) other in
+    let some_here : is_empty (fault_of gmus_app words) ≡ false = ap (λ (x : App). is_empty (fault_of x words)) (sym is) ∙ some in
+    sym (ap (λ (b : Bool). if b
+    then option_and_then (λ p. asked_of p.0 p.1) (subcommand_of gmus_app words) else None) some_here)

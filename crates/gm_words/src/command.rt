@@ -1,0 +1,40 @@
+//! The command that clap reads the words by.
+ghost use Rattle.std.specs.Prelude.{◌≡◌, IfOk, false};
+ghost use Rattle.clap.specs.Words.{app_of, rule_of};
+ghost use Rattle.clap.specs.declared.builder.command.Command.TheViews.{out-Command};
+ghost use Rattle.gm_words.specs.Reading.{gmus_app, gmus_top, list_app, place_rule};
+
+use clap::{Arg, Command};
+use std::alloc::{AllocError, Global};
+
+/// The whole command.
+pub(crate) fn gmus_command<'a>(alloc: Global) -> Result<Command<'a>, AllocError>
+    ensures app { IfOk result (λ c. app_of c ≡ gmus_app) }
+{
+    gmus_top_command(alloc).subcommand(list_command(alloc)?)
+}
+
+/// The command without its subcommands. The words do not begin with the program's name.
+fn gmus_top_command<'a>(alloc: Global) -> Command<'a>
+    ensures app { app_of result ≡ gmus_top }
+{
+    Command::new(alloc, "gmus")
+        .no_binary_name(true)
+        .subcommand_required(true)
+}
+
+/// `list FILE`
+fn list_command<'a>(alloc: Global) -> Result<Command<'a>, AllocError>
+    ensures app { IfOk result (λ c. app_of c ≡ list_app) }
+    ensures local { IfOk result (λ c. (out-Command c).has_globals ≡ false) }
+{
+    Command::new(alloc, "list").arg(place(alloc, "file"))
+}
+
+/// A word that is required at its place.
+fn place<'a>(alloc: Global, name: &'a str) -> Arg<'a>
+    ensures rule { rule_of result ≡ place_rule name.now }
+    ensures local { result.global ≡ false }
+{
+    Arg::new(alloc, name).required(true)
+}

@@ -1,0 +1,25 @@
+//! The words of the command line, read by clap.
+//!
+//! [`read_words`] takes the words after the program's name and says what they ask for:
+//!
+//! ```text
+//! match read_words(alloc, words)? {
+//!     Some(Request::List(listing)) => list(listing.file),
+//!     None => usage(),
+//! }
+//! ```
+//!
+//! Start reading at `specs/Reading.antt`, which has the command as a value of clap's specification and what it reads of
+//! any words; `specs/Rows.antt` has worked command lines. What a request does is for the crates above, and no text of
+//! clap is printed: asking for help is a wrong command line like others.
+#![tactic(auto)]
+
+mod command;
+mod read;
+mod request;
+
+pub use read::read_words;
+pub use request::{Listing, Request};
+
+#[cfg(test)]
+mod tests;

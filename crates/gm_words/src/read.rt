@@ -1,0 +1,52 @@
+//! Reads the words of a command line.
+ghost use Rattle.std.specs.Prelude.{◌≡◌, IfOk, map, option_and_then, option_map, string_bytes};
+ghost use Rattle.clap.specs.Walk.{first_of, rows_of};
+ghost use Rattle.clap.specs.Words.{found_of, subcommand_rows_of};
+ghost use Rattle.gm_words.specs.Reading.{asked_of, listing_of, words_read};
+ghost use Rattle.gm_words.specs.Requests.{asked_by, text_of};
+
+use crate::command::gmus_command;
+use crate::request::{Listing, Request};
+use clap::ArgMatches;
+use clap::error::ErrorKind;
+use std::alloc::{AllocError, Global};
+
+/// Reads the words after the program's name. `None` is a wrong command line.
+pub fn read_words<'a>(alloc: Global, words: &'a [String]) -> Result<Option<Request<'a>>, AllocError>
+    ensures { IfOk result (λ r. option_map asked_by r ≡ words_read (map string_bytes words.entry.now)) }
+{
+    match gmus_command(alloc)?.try_get_matches_from(words) {
+        Ok(matches) => Ok(request_of(&matches)),
+        Err(error) => {
+            if error.kind() == ErrorKind::OutOfMemory {
+                Err(AllocError)
+            } else {
+                Ok(None)
+            }
+        }
+    }
+}
+
+/// What the matches of the whole command ask for.
+fn request_of<'a>(matches: &ArgMatches<'a>) -> Option<Request<'a>>
+    ensures { option_map asked_by result
+        ≡ option_and_then (λ p. asked_of p.0 p.1) (subcommand_rows_of matches.now) }
+{
+    let (name, inner) = matches.subcommand()?;
+    if name == "list" { listing(inner) } else { None }
+}
+
+/// What the matches of `list` ask for.
+fn listing<'a>(matches: &ArgMatches<'a>) -> Option<Request<'a>>
+    ensures { option_map asked_by result ≡ listing_of (rows_of (found_of matches.now)) }
+{
+    let file = text_given(matches, "file")?;
+    Some(Request::List(Listing { file }))
+}
+
+/// The text of an argument, if it was given.
+fn text_given<'a>(matches: &ArgMatches<'a>, id: &str) -> Option<&'a str>
+    ensures { text_of result ≡ first_of id.now (rows_of (found_of matches.now)) }
+{
+    matches.get_str(id)
+}
