@@ -1,0 +1,22 @@
+//! The report of a listing, as text.
+//!
+//! [`report`] takes the sets as they were found, in any order, and gives the whole text: the number of groups, whether all
+//! sets are there, a line for each minimal conflict and for each minimal correction, and the two counts.
+//!
+//! ```text
+//! let text = report(alloc, problem.groups(), true, &conflicts, &corrections)?;
+//! ```
+//!
+//! Lines of one kind stand in lexicographic order of their groups, compared as numbers, so that 9 comes before 10 and a
+//! set before those that it begins. The text itself is defined in `gm_base` (`specs/Report.antt`); start reading here at
+//! `specs/Reports.antt`, which says in which order the sets stand in it.
+//!
+//! Sets that were found twice are written twice, and nothing here says that they are conflicts or corrections.
+#![tactic(auto)]
+
+mod order;
+#[cfg(test)]
+mod tests;
+mod text;
+
+pub use text::report;

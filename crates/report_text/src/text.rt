@@ -1,0 +1,86 @@
+//! The report's text.
+ghost use Rattle.std.specs.Prelude.{◌≡◌, ◌++◌, codes, OnOk, IfOk};
+ghost use Rattle.std.specs.List.{flat_map};
+ghost use Rattle.gm_base.specs.Report.{report_text, set_line};
+ghost use Rattle.report_text.specs.Reports.{IsReportOf};
+ghost use Rattle.report_text.specs.Sorted.{lists_of};
+
+use crate::order::in_order;
+use gm_base::{GroupSet, Sets};
+use std::alloc::{AllocError, Global};
+use token_text::put_number;
+
+fn push_text(out: &mut Vec<u8>, text: &str) -> Result<(), AllocError>
+    ensures { OnOk result (out.new.items ≡ out.old.items ++ text.now) }
+{
+    out.extend_from_slice(text.as_bytes())
+}
+
+/// A line: a letter, the groups and 0.
+pub(crate) fn push_set(out: &mut Vec<u8>, letter: &str, set: &GroupSet) -> Result<(), AllocError>
+    ensures { OnOk result (out.new.items ≡ out.old.items ++ set_line letter.now set.now) }
+{
+    push_text(out, letter)?;
+    for g in set.as_slice() {
+        push_text(out, " ")?;
+        put_number(out, i128::from(*g))?;
+    }
+    push_text(out, " 0\n")
+}
+
+fn push_sets(out: &mut Vec<u8>, letter: &str, sets: &[&GroupSet]) -> Result<(), AllocError>
+    ensures { OnOk result (out.new.items ≡ out.old.items ++ flat_map (set_line letter.now) (lists_of sets.now)) }
+{
+    for set in sets {
+        push_set(out, letter, set)?;
+    }
+    Ok(())
+}
+
+/// The report of sets in the order in which they stand.
+#[tactic(auto, unfolding(gm_base::specs::Report::report_text))]
+fn text_in_order(
+    alloc: Global,
+    groups: u32,
+    complete: bool,
+    conflicts: &[&GroupSet],
+    corrections: &[&GroupSet],
+) -> Result<Vec<u8>, AllocError>
+    ensures { IfOk result (λ text. text.items ≡ report_text groups complete (lists_of conflicts.now) (lists_of corrections.now)) }
+{
+    let mut out = Vec::new(alloc);
+    push_text(&mut out, "p gmus ")?;
+    put_number(&mut out, i128::from(groups))?;
+    push_text(&mut out, "\n")?;
+    push_text(
+        &mut out,
+        if complete {
+            "s COMPLETE\n"
+        } else {
+            "s PARTIAL\n"
+        },
+    )?;
+    push_sets(&mut out, "u", conflicts)?;
+    push_sets(&mut out, "m", corrections)?;
+    push_text(&mut out, "e ")?;
+    put_number(&mut out, conflicts.len() as i128)?;
+    push_text(&mut out, " ")?;
+    put_number(&mut out, corrections.len() as i128)?;
+    push_text(&mut out, "\n")?;
+    Ok(out)
+}
+
+/// The whole report of these sets, which may come in any order: sorted, a line each, and counted.
+pub fn report(
+    alloc: Global,
+    groups: u32,
+    complete: bool,
+    conflicts: &Sets,
+    corrections: &Sets,
+) -> Result<Vec<u8>, AllocError>
+    ensures { IfOk result (λ text. IsReportOf groups complete conflicts.now corrections.now text.items) }
+{
+    let us = in_order(alloc, conflicts)?;
+    let ms = in_order(alloc, corrections)?;
+    text_in_order(alloc, groups, complete, us.as_slice(), ms.as_slice())
+}
