@@ -1,6 +1,6 @@
-pub mod DigitLemmas
-pub mod Unique
-pub mod LiteralLemmas
-pub mod ClauseLemmas
+pub mod StepLemmas
 pub mod HeaderLemmas
-pub mod WholeLemmas
+pub mod AcceptedLemmas
+pub mod SameLemmas
+pub mod TableLemmas
+pub mod StopLemmas

@@ -1,5 +1,6 @@
-pub mod Plain
+pub mod Grammar
+pub mod Table
 pub mod Read
-pub mod Parts
-pub mod Whole
-pub mod PlainRows
+pub mod Steps
+pub mod Laws
+pub mod Rows

@@ -1,103 +1,163 @@
-//! The lines of clauses.
+//! The clauses.
 //!
-//! What a line may hold is bounded by the header and by the literals of the lines before it, so each part is read under
-//! its bound and refused beyond it.
-ghost use Rattle.std.specs.Prelude.{◌<◌, ◌^◌, IfOk};
-ghost use Rattle.gm_base.specs.Literals.{IsLiteral};
-ghost use Rattle.gcnf_text.specs.Plain.{literal_text, clause_line};
-ghost use Rattle.gcnf_text.specs.Parts.{Reads, AreFewLiterals, IsFittingClause, literals_text};
-ghost use Rattle.gcnf_text.specs.Whole.{IsHeader, AreClausesOf, clauses_text};
+//! What a clause may hold is bounded by the header and by the literals of the clauses before it, so each token is looked at
+//! once, with the progress at hand. The literals of a clause are gathered in one scratch list, which serves all clauses,
+//! and are then copied into a list of just their size.
+ghost use Rattle.std.specs.Prelude.{◌≡◌, ◌≤◌, ◌<◌, ◌^◌, ℕ, [], ◌∷◌, pos, IfOk};
+ghost use Rattle.token_text.specs.Kinds.{Number, OpenBrace, CloseBrace};
+ghost use Rattle.gm_base.specs.Literals.{AreLiterals};
+ghost use Rattle.gm_base.specs.Problem.{IsClause};
+ghost use Rattle.gcnf_text.specs.Grammar.{clause_kinds, max_literals};
+ghost use Rattle.gcnf_text.specs.Table as table;
+ghost use Rattle.gcnf_text.specs.Steps.{AreClausesRead, Ends, FitsNext, IsFresh, Step, StepUnlessMemory, behind_clause, behind_literal, behind_literals, literal_kind, literals_kinds, sofar};
 
-use crate::cursor::Cursor;
-use crate::header::Header;
+use crate::offence::{
+    BAD_TOKEN, GROUP_TOO_BIG, Limit, NO_GROUP, Offence, Stop, TOO_MANY_CLAUSES, TRUNCATED,
+    VAR_TOO_BIG, refusal, too_large,
+};
+use crate::progress::Progress;
 use gm_base::{Clause, Clauses, Lit, Lits};
-use std::alloc::{AllocError, Global};
+use std::alloc::Global;
+use token_text::{Found, Tokens};
 
 /// The most literals in all clauses.
-const MAX_LITERALS: usize = 8_000_000;
+const MAX_LITERALS: u32 = 8_000_000;
 
-/// Goes behind a literal, and the blank behind it.
-fn read_literal(text: &mut Cursor<'_>, vars: u32) -> Option<Lit>
-    requires { vars < 2 ^ 31 }
-    ensures { Reads (IsLiteral vars) literal_text text.old text.new result }
-{
-    let negated = text.skip(b"-");
-    let var = text.positive(vars, b' ')?;
-    let lit = Lit::new(var as i32);
-    Some(if negated { lit.negated() } else { lit })
-}
-
-/// Goes behind at most `room` literals, and the 0 that ends them. They are gathered in `scratch`.
-fn read_literals(
-    alloc: Global,
-    text: &mut Cursor<'_>,
-    vars: u32,
-    room: usize,
-    scratch: &mut Vec<Lit>,
-) -> Result<Option<Lits>, AllocError>
-    requires { vars < 2 ^ 31 }
-    ensures { IfOk result (Reads (AreFewLiterals vars room) literals_text text.old text.new) }
-{
-    scratch.clear();
-    'literals: while !text.skip(b"0\n") {
-        if scratch.len() >= room {
-            return Ok(None);
-        }
-        let Some(lit) = read_literal(text, vars) else {
-            return Ok(None);
-        };
-        scratch.push(lit)?;
-    }
-    let lits = Lits::from_slice(alloc, scratch.as_slice())?;
-    Ok(Some(lits))
-}
-
-/// Goes behind the line of a clause of at most `room` literals.
-pub(crate) fn read_clause(
-    alloc: Global,
-    text: &mut Cursor<'_>,
-    vars: u32,
-    groups: u32,
-    room: usize,
-    scratch: &mut Vec<Lit>,
-) -> Result<Option<Clause>, AllocError>
-    requires { vars < 2 ^ 31 }
-    ensures { IfOk result (Reads (IsFittingClause vars groups room) clause_line text.old text.new) }
-{
-    if !text.skip(b"{") {
-        return Ok(None);
-    }
-    let Some(group) = text.number(groups, b'}') else {
-        return Ok(None);
-    };
-    if !text.skip(b" ") {
-        return Ok(None);
-    }
-    let Some(lits) = read_literals(alloc, text, vars, room, scratch)? else {
-        return Ok(None);
-    };
-    Ok(Some(Clause { group, lits }))
-}
-
-/// Goes behind the lines of all clauses that the header counts.
+/// Reads all clauses that the header counts, and then the end.
 pub(crate) fn read_clauses(
     alloc: Global,
-    text: &mut Cursor<'_>,
-    header: Header,
-) -> Result<Option<Clauses>, AllocError>
-    requires { IsHeader header }
-    ensures { IfOk result (Reads (AreClausesOf header) clauses_text text.old text.new) }
+    tokens: &mut Tokens<'_>,
+    header: Progress,
+) -> Result<Clauses, Stop>
+    requires { IsFresh (sofar header) }
+    ensures { AreClausesRead (sofar header) tokens.old result }
 {
+    let mut progress = header;
     let mut scratch = Vec::new(alloc);
     let mut clauses = Clauses::new(alloc);
-    let mut room = MAX_LITERALS;
-    'lines: while clauses.len() < header.clauses as usize {
-        let Some(clause) = read_clause(alloc, text, header.vars, header.groups, room, &mut scratch)?
-        else {
-            return Ok(None);
-        };
-        room -= clause.lits.len();
+    'clauses: while progress.ended < progress.clauses {
+        let clause = read_clause(alloc, tokens, &mut progress, &mut scratch)?;
         clauses.push(clause)?;
     }
-    Ok(Some(clauses))
+    read_end(tokens)?;
+    Ok(clauses)
+}
+
+/// Reads a clause.
+fn read_clause(
+    alloc: Global,
+    tokens: &mut Tokens<'_>,
+    progress: &mut Progress,
+    scratch: &mut Vec<Lit>,
+) -> Result<Clause, Stop>
+    requires small { progress.old.vars < 2 ^ 31 }
+    requires unended { progress.old.ended < progress.old.clauses }
+    requires room { progress.old.literals ≤ max_literals }
+    ensures step { StepUnlessMemory (table.Between (sofar progress.old)) clause_kinds (λ c. table.Between (behind_clause (sofar progress.old) c)) tokens.old tokens.new result }
+    ensures counted { IfOk result (λ c. sofar progress.new ≡ behind_clause (sofar progress.old) c) }
+    ensures room { progress.new.literals ≤ max_literals }
+    ensures fits { IfOk result (IsClause progress.old.vars progress.old.groups) }
+{
+    read_open(tokens)?;
+    let group = read_group(tokens, *progress)?;
+    read_close(tokens)?;
+    read_literals(tokens, progress, scratch)?;
+    let lits = Lits::from_slice(alloc, scratch.as_slice())?;
+    Ok(Clause { group, lits })
+}
+
+/// Reads the brace that a clause begins by.
+fn read_open(tokens: &mut Tokens<'_>) -> Result<(), Offence>
+    ensures { (s : table.Sofar) → s.ended < s.clauses
+        → Step (table.Between s) (λ _. OpenBrace ∷ []) (λ _. table.Group s) tokens.old tokens.new result }
+{
+    let answer = tokens.next();
+    match answer.found {
+        Found::OpenBrace => Ok(()),
+        Found::Number(_) => Err(refusal(NO_GROUP, answer)),
+        Found::End => Err(refusal(TRUNCATED, answer)),
+        _ => Err(refusal(BAD_TOKEN, answer)),
+    }
+}
+
+/// Reads the group of a clause.
+fn read_group(tokens: &mut Tokens<'_>, progress: Progress) -> Result<u32, Offence>
+    ensures step { Step (table.Group (sofar progress)) (λ g. Number (pos g) ∷ []) (λ _. table.Close (sofar progress)) tokens.old tokens.new result }
+    ensures fits { IfOk result (λ g. g ≤ progress.groups) }
+{
+    let answer = tokens.next();
+    let groups = i64::from(progress.groups);
+    match answer.found {
+        Found::Number(number) if number > groups => Err(refusal(GROUP_TOO_BIG, answer)),
+        Found::Number(number) if number >= 0 => Ok(number as u32),
+        Found::End => Err(refusal(TRUNCATED, answer)),
+        _ => Err(refusal(BAD_TOKEN, answer)),
+    }
+}
+
+/// Reads the brace behind the group of a clause.
+fn read_close(tokens: &mut Tokens<'_>) -> Result<(), Offence>
+    ensures { (s : table.Sofar) → Step (table.Close s) (λ _. CloseBrace ∷ []) (λ _. table.Literals s) tokens.old tokens.new result }
+{
+    let answer = tokens.next();
+    match answer.found {
+        Found::CloseBrace => Ok(()),
+        Found::End => Err(refusal(TRUNCATED, answer)),
+        _ => Err(refusal(BAD_TOKEN, answer)),
+    }
+}
+
+/// Reads the literals of a clause into `scratch`, and the 0 that ends it.
+fn read_literals(
+    tokens: &mut Tokens<'_>,
+    progress: &mut Progress,
+    scratch: &mut Vec<Lit>,
+) -> Result<(), Stop>
+    requires small { progress.old.vars < 2 ^ 31 }
+    requires unended { progress.old.ended < progress.old.clauses }
+    requires room { progress.old.literals ≤ max_literals }
+    ensures step { StepUnlessMemory (table.Literals (sofar progress.old)) (λ _. literals_kinds scratch.new.items)
+        (λ _. table.Between (behind_literals (sofar progress.old) scratch.new.items)) tokens.old tokens.new result }
+    ensures counted { IfOk result (λ _. sofar progress.new ≡ behind_literals (sofar progress.old) scratch.new.items) }
+    ensures fits { IfOk result (λ _. AreLiterals progress.old.vars scratch.new.items) }
+    ensures room { progress.new.literals ≤ max_literals }
+{
+    scratch.clear();
+    'literals: while let Some(lit) = read_literal(tokens, *progress)? {
+        scratch.push(lit)?;
+        progress.literals += 1;
+    }
+    progress.ended += 1;
+    Ok(())
+}
+
+/// Reads a literal, or the 0 that ends the clause.
+fn read_literal(tokens: &mut Tokens<'_>, progress: Progress) -> Result<Option<Lit>, Offence>
+    requires { progress.vars < 2 ^ 31 }
+    ensures step { Step (table.Literals (sofar progress)) literal_kind (behind_literal (sofar progress)) tokens.old tokens.new result }
+    ensures fits { IfOk result (FitsNext (sofar progress)) }
+{
+    let answer = tokens.next();
+    let vars = u64::from(progress.vars);
+    let is_full = progress.literals >= MAX_LITERALS;
+    match answer.found {
+        Found::Number(0) => Ok(None),
+        Found::Number(number) if number.unsigned_abs() > vars => Err(refusal(VAR_TOO_BIG, answer)),
+        Found::Number(_) if is_full => Err(too_large(Limit::Literals, answer)),
+        Found::Number(number) => Ok(Some(Lit::new(number as i32))),
+        Found::End => Err(refusal(TRUNCATED, answer)),
+        _ => Err(refusal(BAD_TOKEN, answer)),
+    }
+}
+
+/// Reads the end of the text, where all clauses were ended.
+fn read_end(tokens: &mut Tokens<'_>) -> Result<(), Offence>
+    ensures { (s : table.Sofar) → s.ended ≡ s.clauses → Ends (table.Between s) tokens.old result }
+{
+    let answer = tokens.next();
+    match answer.found {
+        Found::End => Ok(()),
+        Found::OpenBrace | Found::Number(_) => Err(refusal(TOO_MANY_CLAUSES, answer)),
+        _ => Err(refusal(BAD_TOKEN, answer)),
+    }
 }

@@ -1,34 +1,41 @@
-//! The reader of problems in plain text.
+//! The reader of problems in GCNF.
 //!
-//! The plain text of a problem is a header and a line for each clause, as in
+//! GCNF is the group-oriented CNF of the MUS track of the SAT competition 2011, in this project's profile. A text has a
+//! header, and then clauses with their groups in braces:
 //!
 //! ```text
+//! c two groups over a background
 //! p gcnf 2 3 2
 //! {0} 1 2 0
 //! {1} -1 0
 //! {2} -2 0
 //! ```
 //!
-//! and [`read_gcnf`] reads it back:
+//! White space and comment lines may stand between any two tokens. [`read_gcnf`] goes over the tokens once:
 //!
 //! ```text
 //! match read_gcnf(alloc, text) {
 //!     Read::Problem(problem) => ..,
-//!     Read::NotPlain => ..,
+//!     Read::Refused(Offence { number, limit, line, byte }) => ..,
 //!     Read::Memory => ..,
 //! }
 //! ```
 //!
-//! Start reading at `specs/Plain.antt`, which defines the plain text and the limits, and `specs/Read.antt`, which says
-//! what the three answers mean; `specs/PlainRows.antt` has worked texts. A text that is not plain is refused whole, and
-//! nothing here says where it goes wrong. Comments and free white space are not read.
+//! Start reading at `specs/Grammar.antt`, which says of which problem a text is, and at `specs/Table.antt`, which says
+//! what a text's first offence is; `specs/Read.antt` says what the three answers mean, `specs/Laws.antt` what a first
+//! offence is worth, and `specs/Rows.antt` has worked texts. What a token is, and what its place, is for the crate
+//! `token_text`.
 #![tactic(auto)]
 
 mod clause;
-mod cursor;
 mod header;
+pub mod laws;
+mod offence;
+mod progress;
 mod reader;
+
+pub use offence::{Limit, Offence};
+pub use reader::{MAX_BYTES, Read, read_gcnf};
+
 #[cfg(test)]
 mod tests;
-
-pub use reader::{MAX_BYTES, Read, read_gcnf};

@@ -1,8 +1,15 @@
-use crate::{Read, read_gcnf};
+use crate::{Limit, Offence, Read, read_gcnf};
 use gm_base::{Clause, Problem};
+use std::alloc::{AllocError, Global};
+use std::test::Fail;
 
 /// A clause as a row writes it: its group and its literals.
 type Line = (u32, &'static [i32]);
+
+/// A text, and the variables, groups and clauses of its problem.
+type Accepted = (&'static [u8], u32, u32, &'static [Line]);
+
+const FOUR_CLAUSES: &[Line] = &[(1, &[1]), (2, &[-1]), (3, &[-1, 2]), (4, &[-2])];
 
 fn is_clause(clause: &Clause, line: &Line) -> bool {
     let lits = clause.lits.as_slice();
@@ -29,16 +36,47 @@ fn is_problem(problem: &Problem, vars: u32, groups: u32, lines: &[Line]) -> bool
     true
 }
 
+fn is_refused(read: &Read, number: u32, limit: Option<Limit>, line: u64, byte: u64) -> bool {
+    let wanted = Offence {
+        number,
+        limit,
+        line,
+        byte,
+    };
+    match read {
+        Read::Refused(offence) => *offence == wanted,
+        _ => false,
+    }
+}
+
 #[test]
-fn plain_text_gives_its_problem(rt: HostRuntime) {
-    let rows: [(&[u8], u32, u32, &[Line]); 12] = [
+fn texts_give_their_problems(rt: HostRuntime) {
+    let rows: [Accepted; 16] = [
         (
             b"p gcnf 2 4 4\n{1} 1 0\n{2} -1 0\n{3} -1 2 0\n{4} -2 0\n",
             2,
             4,
-            &[(1, &[1]), (2, &[-1]), (3, &[-1, 2]), (4, &[-2])],
+            FOUR_CLAUSES,
         ),
-        (b"p gcnf 0 0 0\n", 0, 0, &[]),
+        (
+            b"c lenient\np gcnf 2 4 4\r\n{ 1 }1 0\r\n  c between\n{2} -1 0 {3} -1\n2 0\n{4} -2 0\n",
+            2,
+            4,
+            FOUR_CLAUSES,
+        ),
+        (
+            b"p gcnf 2 4 4 {1}1 0{2}-1 0{3}-1 2 0{4}-2 0",
+            2,
+            4,
+            FOUR_CLAUSES,
+        ),
+        (
+            b"\np\r\n gcnf\t2\nc in the header\n 4 \n4\n{\n1\n}\n1\n0\n{2} -1 0 {3} -1\n\t c in a clause\n2 0 {4} -2 0\n\nc",
+            2,
+            4,
+            FOUR_CLAUSES,
+        ),
+        (b"p gcnf 0 0 0", 0, 0, &[]),
         (b"p gcnf 1 1 1\n{1} 1 0\n", 1, 1, &[(1, &[1])]),
         (
             b"p gcnf 1 2 1\n{0} 1 0\n{0} -1 0\n",
@@ -51,19 +89,13 @@ fn plain_text_gives_its_problem(rt: HostRuntime) {
             b"p gcnf 2 4 5\n{1} 1 0\n{2} -1 0\n{3} -1 2 0\n{4} -2 0\n",
             2,
             5,
-            &[(1, &[1]), (2, &[-1]), (3, &[-1, 2]), (4, &[-2])],
+            FOUR_CLAUSES,
         ),
         (
             b"p gcnf 1 3 3\n{1} 1 0\n{2} 1 0\n{3} -1 0\n",
             1,
             3,
             &[(1, &[1]), (2, &[1]), (3, &[-1])],
-        ),
-        (
-            b"p gcnf 1 2 1\n{0} 1 0\n{1} -1 0\n",
-            1,
-            1,
-            &[(0, &[1]), (1, &[-1])],
         ),
         (
             b"p gcnf 1 3 11\n{9} 1 0\n{10} -1 0\n{11} 1 -1 0\n",
@@ -89,6 +121,18 @@ fn plain_text_gives_its_problem(rt: HostRuntime) {
             16_384,
             &[(16_384, &[65_536, -65_536, 1024])],
         ),
+        (
+            b"p gcnf 02 1 01\n{001} 00000000000000000000002 -01 00\n",
+            2,
+            1,
+            &[(1, &[2, -1])],
+        ),
+        (
+            b"cnf is a comment here\np gcnf 1 1 1\n{0} 1 0\n c",
+            1,
+            1,
+            &[(0, &[1])],
+        ),
     ];
     for (at, (text, vars, groups, lines)) in rows.into_iter().enumerate() {
         match read_gcnf(rt.alloc(), text) {
@@ -96,110 +140,255 @@ fn plain_text_gives_its_problem(rt: HostRuntime) {
                 is_problem(&problem, vars, groups, lines),
                 "row {at} is another problem"
             ),
-            Read::NotPlain => assert!(rt; false, "row {at} is refused"),
+            Read::Refused(offence) => assert!(rt; false, "row {at} is refused: {offence:?}"),
             Read::Memory => assert!(rt; false, "row {at} is out of memory"),
         }
     }
 }
 
 #[test]
-fn other_texts_are_refused(rt: HostRuntime) {
-    let rows: [(&str, &[u8]); 56] = [
-        ("nothing", b""),
-        ("a header without its line's end", b"p gcnf 0 0 0"),
-        ("a header that is cut", b"p gcnf 1 1\n"),
-        ("a number too many in the header", b"p gcnf 0 0 0 0\n"),
-        ("another format", b"p cnf 1 1\n1 0\n"),
-        ("capital letters", b"P GCNF 0 0 0\n"),
-        ("a blank before the header", b" p gcnf 0 0 0\n"),
-        ("a blank behind the header", b"p gcnf 0 0 0 \n"),
-        ("two blanks in the header", b"p gcnf  0 0 0\n"),
-        ("a tab in the header", b"p gcnf\t0 0 0\n"),
-        ("a comment first", b"c x\np gcnf 0 0 0\n"),
-        ("CR behind the header", b"p gcnf 0 0 0\r\n"),
-        ("a leading zero of the variables", b"p gcnf 01 0 0\n"),
-        ("a leading zero of the clauses", b"p gcnf 0 00 0\n"),
-        ("a leading zero of the groups", b"p gcnf 0 0 00\n"),
-        ("a plus in the header", b"p gcnf +1 0 0\n"),
-        ("a minus in the header", b"p gcnf -1 0 0\n"),
-        ("a letter in the header", b"p gcnf 1x 0 0\n"),
-        ("too many variables", b"p gcnf 65537 0 0\n"),
-        ("too many groups", b"p gcnf 0 0 16385\n"),
+fn first_offence_stands_at_its_place(rt: HostRuntime) {
+    let rows: [(&str, &[u8], u32, u64, u64); 55] = [
+        ("nothing", b"", 1, 1, 1),
+        ("a comment alone", b"c p gcnf 0 0 0", 1, 1, 15),
+        ("a comment line alone", b"c\n", 1, 2, 1),
+        ("another first word", b"\n q gcnf 0 0 0", 1, 2, 2),
+        ("a longer first word", b"pp gcnf 0 0 0", 1, 1, 1),
+        ("a brace first", b"{p gcnf 0 0 0", 1, 1, 1),
+        ("a byte order mark", b"\xef\xbb\xbfp gcnf 0 0 0\n", 1, 1, 1),
+        ("the end behind p", b"p", 2, 1, 2),
+        ("another format", b"p cnf 1 1\n", 2, 1, 3),
+        ("capital letters", b"p GCNF 0 0 0\n", 2, 1, 3),
+        ("the end in the header", b"p gcnf 1 1\n", 2, 2, 1),
+        ("a word in the header", b"p gcnf 1x 0 0\n", 2, 1, 8),
+        ("-0 in the header", b"p gcnf -0 0 0\n", 2, 1, 8),
         (
-            "too many clauses, none of which comes",
-            b"p gcnf 0 1000001 0\n",
+            "a number below 0 in the header",
+            b"p gcnf 0 -1 0\n",
+            2,
+            1,
+            10,
+        ),
+        ("a brace in the header", b"p gcnf 0 0 {", 2, 1, 12),
+        ("a word for a clause", b"p gcnf 2 1 1\nx\n", 3, 2, 1),
+        ("-0 for a clause", b"p gcnf 2 1 1\n-0\n", 3, 2, 1),
+        ("} for a clause", b"p gcnf 2 1 1\n}\n", 3, 2, 1),
+        ("a group below 0", b"p gcnf 1 1 1\n{-1} 1 0\n", 3, 2, 2),
+        ("no group in the braces", b"p gcnf 1 1 1\n{} 1 0\n", 3, 2, 2),
+        ("two groups", b"p gcnf 1 1 1\n{1 1} 1 0\n", 3, 2, 4),
+        (
+            "a brace that stays open",
+            b"p gcnf 1 1 1\n{1{ 1 0\n",
+            3,
+            2,
+            3,
+        ),
+        ("a word in a clause", b"p gcnf 2 1 1\n{1} 1 x 0\n", 3, 2, 7),
+        ("-0 in a clause", b"p gcnf 1 1 1\n{1} 1 -0\n", 3, 2, 7),
+        (
+            "a brace in a clause",
+            b"p gcnf 1 1 1\n{1} 1 {1} 0\n",
+            3,
+            2,
+            7,
+        ),
+        ("a NUL byte", b"p gcnf 1 1 1\n{1} 1\0 0\n", 3, 2, 5),
+        ("c behind CR", b"p gcnf 1 1 1\n{1}\rc\n1 0\n", 3, 2, 5),
+        ("c behind a clause", b"p gcnf 1 1 1\n{1} 1 0 c\n", 3, 2, 9),
+        (
+            "bytes that are not ASCII",
+            b"p gcnf 1 1 1\n{1} \xc3\xa4 0\n",
+            3,
+            2,
+            5,
+        ),
+        ("a word behind the last clause", b"p gcnf 0 0 0 x", 3, 1, 14),
+        ("} behind the last clause", b"p gcnf 0 0 0 }", 3, 1, 14),
+        ("-0 behind the last clause", b"p gcnf 0 0 0 -0", 3, 1, 14),
+        (
+            "a variable above the last",
+            b"p gcnf 2 1 1\n{1} 3 0\n",
+            4,
+            2,
+            5,
         ),
         (
-            "as many clauses as may be, none of which comes",
-            b"p gcnf 0 1000000 0\n",
-        ),
-        (
-            "variables that wrap round at 64 bits",
-            b"p gcnf 18446744073709551617 0 0\n",
-        ),
-        ("a clause too few", b"p gcnf 1 2 1\n{1} 1 0\n"),
-        ("a clause too many", b"p gcnf 1 1 1\n{1} 1 0\n{1} 1 0\n"),
-        ("a clause where there is none", b"p gcnf 0 0 0\n{0} 0\n"),
-        (
-            "an empty line behind the last clause",
-            b"p gcnf 1 1 1\n{1} 1 0\n\n",
-        ),
-        (
-            "a blank behind the last clause",
-            b"p gcnf 1 1 1\n{1} 1 0\n ",
-        ),
-        (
-            "a last clause without its line's end",
-            b"p gcnf 1 1 1\n{1} 1 0",
-        ),
-        ("a last clause without its 0", b"p gcnf 1 1 1\n{1} 1\n"),
-        (
-            "a comment behind the header",
-            b"p gcnf 1 1 1\nc x\n{1} 1 0\n",
-        ),
-        (
-            "an empty line behind the header",
-            b"p gcnf 1 1 1\n\n{1} 1 0\n",
-        ),
-        ("a clause without its group", b"p gcnf 1 1 1\n1 0\n"),
-        ("a group that is above the last", b"p gcnf 1 1 1\n{2} 1 0\n"),
-        ("a group with a leading zero", b"p gcnf 1 1 1\n{01} 1 0\n"),
-        ("a group below 0", b"p gcnf 1 1 1\n{-1} 1 0\n"),
-        ("no group in the braces", b"p gcnf 1 1 1\n{} 1 0\n"),
-        ("blanks in the braces", b"p gcnf 1 1 1\n{ 1 } 1 0\n"),
-        ("a brace that stays open", b"p gcnf 1 1 1\n{1 1 0\n"),
-        ("no blank behind the group", b"p gcnf 1 1 1\n{1}1 0\n"),
-        ("two blanks behind the group", b"p gcnf 1 1 1\n{1}  1 0\n"),
-        ("two blanks between literals", b"p gcnf 2 1 1\n{1} 1  2 0\n"),
-        ("two blanks before the 0", b"p gcnf 1 1 1\n{1} 1  0\n"),
-        ("a blank behind the 0", b"p gcnf 1 1 1\n{1} 1 0 \n"),
-        ("CR behind the 0", b"p gcnf 1 1 1\n{1} 1 0\r\n"),
-        (
-            "a variable that is above the last",
-            b"p gcnf 1 1 1\n{1} 2 0\n",
-        ),
-        (
-            "a negative variable that is above the last",
-            b"p gcnf 1 1 1\n{1} -2 0\n",
+            "a negated variable above the last",
+            b"p gcnf 2 1 1\n{1} 1 -3 0\n",
+            4,
+            2,
+            7,
         ),
         (
             "a variable that wraps round at 32 bits",
             b"p gcnf 1 1 1\n{1} 4294967297 0\n",
+            4,
+            2,
+            5,
         ),
-        ("a literal with a leading zero", b"p gcnf 1 1 1\n{1} 01 0\n"),
-        ("a literal with a plus", b"p gcnf 1 1 1\n{1} +1 0\n"),
-        ("a literal with two minuses", b"p gcnf 1 1 1\n{1} --1 0\n"),
-        ("a minus alone", b"p gcnf 1 1 1\n{1} - 0\n"),
-        ("minus 0 for the 0", b"p gcnf 1 1 1\n{1} 1 -0\n"),
-        ("00 for the 0", b"p gcnf 1 1 1\n{1} 1 00\n"),
-        ("a 0 within the clause", b"p gcnf 1 1 1\n{1} 1 0 1 0\n"),
-        ("a clause over two lines", b"p gcnf 2 1 1\n{1} 1\n2 0\n"),
+        (
+            "a variable that wraps round at 64 bits",
+            b"p gcnf 1 1 1\n{1} -18446744073709551617 0\n",
+            4,
+            2,
+            5,
+        ),
+        (
+            "a group above the last",
+            b"p gcnf 1 1 4\n{9} 1 0\n",
+            5,
+            2,
+            2,
+        ),
+        (
+            "a group that wraps round at 64 bits",
+            b"p gcnf 1 1 1\n{ 18446744073709551617} 1 0\n",
+            5,
+            2,
+            3,
+        ),
+        (
+            "a clause without its group",
+            b"p gcnf 2 1 1\n1 0\n",
+            6,
+            2,
+            1,
+        ),
+        ("-1 for a clause", b"p gcnf 2 1 1\n-1 0\n", 6, 2, 1),
+        (
+            "no clauses, where all may come",
+            b"p gcnf 0 1000000 0",
+            7,
+            1,
+            19,
+        ),
+        ("no clause", b"p gcnf 65536 1 16384\n", 7, 2, 1),
+        ("a clause too few", b"p gcnf 1 2 1\n{1} 1 0\n \t", 7, 3, 3),
+        ("the end behind {", b"p gcnf 1 1 1\n{", 7, 2, 2),
+        ("the end behind a group", b"p gcnf 1 1 1\n{1", 7, 2, 3),
+        ("the end behind }", b"p gcnf 1 1 1\n{1}\r\n", 7, 3, 1),
+        (
+            "the end in a clause",
+            b"p gcnf 2 4 4\n{1} 1 0\n{2} -1 0\n{3} -1 2 0\n{4} -2",
+            7,
+            5,
+            7,
+        ),
+        (
+            "a comment in the last clause",
+            b"p gcnf 1 1 1\n{1} 1\n  c 0\n",
+            7,
+            4,
+            1,
+        ),
+        (
+            "a comment at the end of a clause too few",
+            b"p gcnf 1 1 1\nc {1} 1 0",
+            7,
+            2,
+            10,
+        ),
+        (
+            "a clause too many",
+            b"p gcnf 2 4 4\n{1} 1 0\n{2} -1 0\n{3} -1 2 0\n{4} -2 0\n{1} 2 0\n",
+            8,
+            6,
+            1,
+        ),
+        (
+            "a clause where there is none",
+            b"p gcnf 0 0 0 {0} 0",
+            8,
+            1,
+            14,
+        ),
+        (
+            "a number too many in the header",
+            b"p gcnf 0 0 0 0\n",
+            8,
+            1,
+            14,
+        ),
+        (
+            "a number behind the last clause",
+            b"p gcnf 1 1 1\n{1} 1 0 -1",
+            8,
+            2,
+            9,
+        ),
+        ("a 0 within a clause", b"p gcnf 1 1 1\n{1} 1 0 0\n", 8, 2, 9),
+        (
+            "a group above the last, and then a word",
+            b"p gcnf 1 1 1\n{2} x 0\n",
+            5,
+            2,
+            2,
+        ),
     ];
-    for (name, text) in rows {
-        match read_gcnf(rt.alloc(), text) {
-            Read::Problem(_) => assert!(rt; false, "{name} is accepted"),
-            Read::NotPlain => {}
-            Read::Memory => assert!(rt; false, "{name} is out of memory"),
-        }
+    for (name, text, number, line, byte) in rows {
+        let read = read_gcnf(rt.alloc(), text);
+        assert!(rt;
+            is_refused(&read, number, None, line, byte),
+            "{name}: {read:?}"
+        );
     }
+}
+
+#[test]
+fn numbers_above_a_limit_are_refused(rt: HostRuntime) {
+    let rows: [(&str, &[u8], Limit, u64, u64); 6] = [
+        ("variables", b"p gcnf 65537 0 0\n", Limit::Vars, 1, 8),
+        ("clauses", b"p gcnf 0 1000001 0\n", Limit::Clauses, 1, 10),
+        ("groups", b"p gcnf 0 0 16385\n", Limit::Groups, 1, 12),
+        (
+            "clauses and groups",
+            b"p gcnf 0 1000001 16385\n",
+            Limit::Clauses,
+            1,
+            10,
+        ),
+        (
+            "variables that wrap round at 64 bits",
+            b"p\ngcnf\n18446744073709551617\n0 0\n",
+            Limit::Vars,
+            3,
+            1,
+        ),
+        (
+            "groups that wrap round at 32 bits",
+            b"p gcnf 0 0\r\n 4294967296 ",
+            Limit::Groups,
+            2,
+            2,
+        ),
+    ];
+    for (name, text, limit, line, byte) in rows {
+        let read = read_gcnf(rt.alloc(), text);
+        assert!(rt;
+            is_refused(&read, 9, Some(limit), line, byte),
+            "{name}: {read:?}"
+        );
+    }
+}
+
+/// A clause whose one literal has 1,000 digits: this one, and then 1.
+fn long_literal(alloc: Global, digit: u8) -> Result<Vec<u8>, AllocError> {
+    let digits = vec![in alloc; digit; 999]?;
+    let mut text = Vec::from_slice(alloc, b"p gcnf 1 1 1\n{1} ")?;
+    text.extend_from_slice(digits.as_slice())?;
+    text.extend_from_slice(b"1 0\n")?;
+    Ok(text)
+}
+
+#[test]
+fn numbers_may_have_many_digits(rt: HostRuntime) -> Result<(), Fail> {
+    let zeros = long_literal(rt.alloc(), b'0')?;
+    match read_gcnf(rt.alloc(), zeros.as_slice()) {
+        Read::Problem(problem) => assert!(rt; is_problem(&problem, 1, 1, &[(1, &[1])])),
+        read => assert!(rt; false, "{read:?}"),
+    }
+    let nines = long_literal(rt.alloc(), b'9')?;
+    let read = read_gcnf(rt.alloc(), nines.as_slice());
+    assert!(rt; is_refused(&read, 4, None, 2, 5), "{read:?}");
+    Ok(())
 }

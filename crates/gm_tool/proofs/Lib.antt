@@ -1,3 +1,8 @@
 pub mod SearchLemmas
-pub mod MinimalLemmas
-pub mod WalkLemmas
+pub mod SatisfiableLemmas
+pub mod SeedLemmas
+pub mod SetChangeLemmas
+pub mod ListingLemmas
+pub mod KeptLemmas
+pub mod OrderLemmas
+pub mod RunLemmas

@@ -1,4 +1,8 @@
 pub mod Search
-pub mod Walk
-pub mod Words
+pub mod Satisfiable
+pub mod Seed
+pub mod Shrink
+pub mod Grow
+pub mod Listing
+pub mod Refusals
 pub mod Run

@@ -7,7 +7,11 @@ use Rattle.gm_base.specs.Report.{report_text}
 use Rattle.gm_ports.specs.Faults.{Rose}
 use Rattle.gm_ports.specs.FilesState.{FilesState}
 use Rattle.gm_ports.specs.Told.{ToldAppends, ToldGrowsWithin}
-use Rattle.gcnf_text.specs.Plain.{IsPlainOf}
+use Rattle.gcnf_text.specs.declared.offence.Offence.{Offence}
+use Rattle.gcnf_text.specs.Grammar.{Reads}
+use Rattle.gcnf_text.specs.Read.{IsRefused}
+use Rattle.gm_words.specs.Reading.{Asked, listing}
+use Rattle.gm_tool.specs.Refusals.{refusal_line}
 use Rattle.gm_tool.specs.declared.list.Ending.{Ending}
 use Rattle.gm_tool.specs.declared.list.Ending.TheVariants.{Complete, BadWords, Refused, ReadFault, WriteFault, Memory}
 
@@ -15,18 +19,26 @@ use Rattle.gm_tool.specs.declared.list.Ending.TheVariants.{Complete, BadWords, R
 abbrev pub status_of : Ending → ℕ
 status_of Complete = 0
 status_of BadWords = 2
-status_of Refused = 5
+status_of (Refused line) = 5
 status_of ReadFault = 6
 status_of WriteFault = 7
 status_of Memory = 8
 
--- the line on standard error that comes with a status, if any
+-- the line on standard error that comes with a status other than 5, if any
 abbrev pub error_line : ℕ → List ℕ
 error_line status =
     if status == 2 then codes "gmus: bad command line\n"
-    else (if status == 5 then codes "gmus: input refused: 0 NotPlain at line 0 byte 0\n"
     else (if status == 6 then codes "gmus: read fault on input\n"
-    else (if status == 7 then codes "gmus: write fault on report\n" else (if status == 8 then codes "gmus: out of memory\n" else []))))
+    else (if status == 7 then codes "gmus: write fault on report\n" else (if status == 8 then codes "gmus: out of memory\n" else [])))
+
+-- the line that comes with an ending
+abbrev pub line_of : Ending → List ℕ
+line_of Complete = error_line 0
+line_of BadWords = error_line 2
+line_of (Refused line) = line.items
+line_of ReadFault = error_line 6
+line_of WriteFault = error_line 7
+line_of Memory = error_line 8
 
 -- the report of all minimal conflicts and all minimal corrections of a problem
 abbrev pub full_report : Problem → List ℕ
@@ -38,35 +50,63 @@ OfFile None P = ⊤
 OfFile (Some None) P = ⊥
 OfFile (Some (Some text)) P = P text
 
+-- the file that is to be listed
+abbrev pub file_asked : Asked → List ℕ
+file_asked (listing l) = l.file
+
 -- a fact of the file that the words name; false where they name none
-abbrev pub OfNamed : Option (List ℕ) → FilesState → (List ℕ → Type 0) → Type 0
+abbrev pub OfNamed : Option Asked → FilesState → (List ℕ → Type 0) → Type 0
 OfNamed None files P = ⊥
-OfNamed (Some name) files P = OfFile (files.held name) P
+OfNamed (Some asked) files P = OfFile (files.held (file_asked asked)) P
 
 -- the same of a file that is told; false where it is not
-abbrev pub TellsNamed : Option (List ℕ) → FilesState → (List ℕ → Type 0) → Type 0
+abbrev pub TellsNamed : Option Asked → FilesState → (List ℕ → Type 0) → Type 0
 TellsNamed None files P = ⊥
-TellsNamed (Some name) files P = MatchOption (files.held name) ⊥ (λ file. MatchOption file ⊥ P)
+TellsNamed (Some asked) files P = MatchOption (files.held (file_asked asked)) ⊥ (λ file. MatchOption file ⊥ P)
 
 -- the file was read to its end
-abbrev pub IsReadToEnd : Option (List ℕ) → FilesState → FilesState → Type 0
-IsReadToEnd name old new = OfNamed name old (λ _. new.unread ≡ Some [])
+abbrev pub IsReadToEnd : Option Asked → FilesState → FilesState → Type 0
+IsReadToEnd asked old new = OfNamed asked old (λ _. new.unread ≡ Some [])
 
--- the file is accepted, as the plain text of some problem
+-- the file is accepted, as a text of some problem
 abbrev pub IsAccepted : List ℕ → Type 0
-IsAccepted text = (p : Problem) × IsPlainOf text p
+IsAccepted text = (p : Problem) × Reads text p
 
 -- the file is accepted, and the sink got the whole report of its problem and nothing else
 abbrev pub IsListed : Option (List ℕ) → Option (List ℕ) → List ℕ → Type 0
-IsListed old new text = (p : Problem) × IsPlainOf text p × ToldAppends old new (full_report p)
+IsListed old new text = (p : Problem) × Reads text p × ToldAppends old new (full_report p)
 
 -- the file is accepted, and the sink got a front part of the report
 abbrev pub IsCutOff : Option (List ℕ) → Option (List ℕ) → List ℕ → Type 0
-IsCutOff old new text = (p : Problem) × IsPlainOf text p × ToldGrowsWithin old new (full_report p)
+IsCutOff old new text = (p : Problem) × Reads text p × ToldGrowsWithin old new (full_report p)
 
 -- the sink got this line and nothing else, or a front part of it where its count of faults rose
 abbrev pub GetsLine : List ℕ → Option (List ℕ) → Option (List ℕ) → ℕ → ℕ → Type 0
 GetsLine line old new faults_old faults_new = ToldAppends old new line ⊎ (Rose faults_old faults_new × ToldGrowsWithin old new line)
+
+-- an ending with a refused file tells the first offence in its line
+abbrev pub IfRefused : Ending → (Offence → Type 0) → Type 0
+IfRefused Complete P = ⊤
+IfRefused BadWords P = ⊤
+IfRefused (Refused line) P = (offence : Offence) × P offence × (line.items ≡ refusal_line offence)
+IfRefused ReadFault P = ⊤
+IfRefused WriteFault P = ⊤
+IfRefused Memory P = ⊤
+
+-- the ending tells this offence, or memory was wanting for its line
+abbrev pub IsRefusing : Offence → Ending → Type 0
+IsRefusing offence Complete = ⊥
+IsRefusing offence BadWords = ⊥
+IsRefusing offence (Refused line) = line.items ≡ refusal_line offence
+IsRefusing offence ReadFault = ⊥
+IsRefusing offence WriteFault = ⊥
+IsRefusing offence Memory = ⊤
+
+-- the file's first offence, for which it is the text of no problem, and the line that tells it
+pub record IsRefusal (asked : Option Asked) (files : FilesState) (gets : List ℕ → Type 0) : Type 0 where
+  pub offence : Offence
+  pub first : OfNamed asked files (λ text. IsRefused text offence)
+  pub line : gets (refusal_line offence)
 
 abbrev pub IsAmong : List ℕ → ℕ → Type 0
 IsAmong statuses status = IsTrue (list_any (λ s. status == s) statuses)

@@ -8,23 +8,25 @@
 //! ```
 //!
 //! Start reading at `run` and at `specs/Run.antt`, which says what each status tells of the words, the file and the
-//! report. The sets are found by trying each set of groups in turn (`listing`), each set is judged by the removal of
-//! single groups (`minimal`), and satisfiability is searched depth-first over the truth values (`search`).
+//! report. Then `listing`: a seed that nothing explores which was found so far (`seed`) is shrunk to a minimal conflict
+//! (`shrink`) or grown to a minimal correction (`grow`), until there is no seed. Seeds and assignments are both found
+//! depth-first over choices (`search`, `satisfiable`).
 //!
 //! Nothing is promised of time, and want of memory may end any run.
 #![tactic(auto)]
 
 mod error_line;
+mod grow;
 mod list;
 mod listing;
-mod minimal;
-mod report;
+mod refusal;
+mod satisfiable;
 mod search;
+mod seed;
+mod shrink;
 #[cfg(test)]
 mod tests;
 mod top;
-mod walk;
-mod words;
 mod write_all;
 
 pub use top::{Finish, run};

@@ -1,48 +1,61 @@
-//! All minimal conflicts and corrections, found by trying each set of groups in turn.
-ghost use Rattle.std.specs.Prelude.{◌≡◌, ◌++◌, ◌∷◌, [], IfOk, OnOk, if◌then◌else◌};
-ghost use Rattle.gm_base.specs.Minimal.{conflicts, corrections};
-ghost use Rattle.gm_tool.specs.Walk.{ListsAll};
+//! All minimal conflicts and corrections.
+//!
+//! A seed that nothing explores which was found so far is shrunk to a conflict or grown to a correction, and that explores
+//! it. When no seed is left, each set of groups is explored, so none of either kind is missing: a minimal conflict that
+//! holds a kept one is that one, and it can't lie outside of a kept correction, whose other groups fit together.
+ghost use Rattle.std.specs.Prelude.{◌≡◌, IfOk, OnOk};
+ghost use Rattle.gm_tool.specs.Seed.{IsSeed};
+ghost use Rattle.gm_tool.specs.Listing.{IsKept, Explores, ListsAll};
 
-use crate::minimal::{is_minimal_conflict, is_minimal_correction};
-use crate::walk::next_set;
+use crate::grow::grow;
+use crate::satisfiable::is_satisfiable;
+use crate::seed::find_seed;
+use crate::shrink::shrink;
 use gm_base::{GroupSet, Problem, Sets};
 use std::alloc::{AllocError, Global};
 
-/// Sets of groups that were found, each list in lexicographic order.
+/// The sets that were found, in the order in which they were.
 #[derive(Drop)]
 pub struct Found {
     pub conflicts: Sets,
     pub corrections: Sets,
 }
 
-/// Adds a copy of the set where it is wanted.
-fn keep(alloc: Global, sets: &mut Sets, set: &GroupSet, wanted: bool) -> Result<(), AllocError>
-    ensures { OnOk result (sets.new ≡ sets.old ++ (if wanted then set.now ∷ [] else [])) }
+/// Shrinks or grows a seed, and keeps what comes of it.
+fn explore(
+    alloc: Global,
+    problem: &Problem,
+    seed: &GroupSet,
+    found: &mut Found,
+) -> Result<(), AllocError>
+    requires kept { IsKept problem.now found.old }
+    requires seed { IsSeed problem.now.groups found.old.conflicts found.old.corrections seed.now }
+    ensures kept { OnOk result (IsKept problem.now found.new) }
+    ensures explores { OnOk result (Explores found.old found.new seed.now) }
 {
-    if wanted {
-        sets.push(set.copy(alloc)?)?;
+    if is_satisfiable(alloc, problem, seed)? {
+        let correction = grow(alloc, problem, seed)?;
+        let _groups = correction.as_slice();
+        found.corrections.push(correction)?;
+        return Ok(());
     }
+    let conflict = shrink(alloc, problem, seed)?;
+    let _groups = conflict.as_slice();
+    found.conflicts.push(conflict)?;
     Ok(())
 }
 
-/// Tries each set of groups in turn.
+/// Finds all minimal conflicts and all minimal corrections, each once.
 pub fn list_all(alloc: Global, problem: &Problem) -> Result<Found, AllocError>
     ensures { IfOk result (ListsAll problem.now) }
 {
     let groups = problem.groups();
-    let mut conflicts = Sets::new(alloc);
-    let mut corrections = Sets::new(alloc);
-    let mut set = GroupSet::new(alloc);
-    loop {
-        let conflict = is_minimal_conflict(alloc, problem, &set)?;
-        keep(alloc, &mut conflicts, &set, conflict)?;
-        let correction = is_minimal_correction(alloc, problem, &set)?;
-        keep(alloc, &mut corrections, &set, correction)?;
-        if !next_set(&mut set, groups)? {
-            return Ok(Found {
-                conflicts,
-                corrections,
-            });
-        }
+    let mut found = Found {
+        conflicts: Sets::new(alloc),
+        corrections: Sets::new(alloc),
+    };
+    while let Some(seed) = find_seed(alloc, groups, &found.conflicts, &found.corrections)? {
+        explore(alloc, problem, &seed, &mut found)?;
     }
+    Ok(found)
 }

@@ -74,6 +74,10 @@ fn each_file_has_its_report(rt: HostRuntime) -> Result<(), Fail> {
             FIRST,
             "p gmus 4\ns COMPLETE\nu 1 2 0\nu 1 3 4 0\nm 1 0\nm 2 3 0\nm 2 4 0\ne 2 3\n",
         ),
+        (
+            "c lenient\np gcnf 2 4 4\r\n{ 1 }1 0\r\n  c between\n{2} -1 0 {3} -1\n2 0\n{4} -2 0\n",
+            "p gmus 4\ns COMPLETE\nu 1 2 0\nu 1 3 4 0\nm 1 0\nm 2 3 0\nm 2 4 0\ne 2 3\n",
+        ),
         ("p gcnf 0 0 0\n", "p gmus 0\ns COMPLETE\nm 0\ne 0 1\n"),
         (
             "p gcnf 1 1 1\n{1} 1 0\n",
@@ -119,14 +123,17 @@ fn each_file_has_its_report(rt: HostRuntime) -> Result<(), Fail> {
 
 #[test]
 fn other_words_are_refused(rt: HostRuntime) -> Result<(), Fail> {
-    let rows: [&[&str]; 7] = [
+    let rows: [&[&str]; 10] = [
         &[],
         &["list"],
         &["frob"],
         &["frob", "f"],
+        &["list", "f", "g"],
         &["list", "f", "--jobs"],
+        &["list", "f", "--jobs", "0"],
+        &["list", "f", "--jobs", "65"],
         &["list", "-f"],
-        &["list", "-"],
+        &["list", "--help"],
     ];
     for words in rows {
         let outcome = run_on(&rt, rt.alloc(), words, plain(FIRST))?;
@@ -142,7 +149,7 @@ fn other_words_are_refused(rt: HostRuntime) -> Result<(), Fail> {
 }
 
 #[test]
-fn faults_and_refusals_have_their_lines(rt: HostRuntime) -> Result<(), Fail> {
+fn faults_have_their_lines(rt: HostRuntime) -> Result<(), Fail> {
     let third_read = Outside {
         per_read: 8,
         failing_reads: &[3],
@@ -157,6 +164,7 @@ fn faults_and_refusals_have_their_lines(rt: HostRuntime) -> Result<(), Fail> {
         ("f", third_read, 6, "", "gmus: read fault on input\n"),
         ("g", plain(FIRST), 6, "", "gmus: read fault on input\n"),
         ("", plain(FIRST), 6, "", "gmus: read fault on input\n"),
+        ("-", plain(FIRST), 6, "", "gmus: read fault on input\n"),
         (
             "f",
             second_write,
@@ -164,19 +172,47 @@ fn faults_and_refusals_have_their_lines(rt: HostRuntime) -> Result<(), Fail> {
             "p gmus 4\ns",
             "gmus: write fault on report\n",
         ),
-        (
-            "f",
-            plain("p gcnf 1 1 1\n{1} 2 0\n"),
-            5,
-            "",
-            "gmus: input refused: 0 NotPlain at line 0 byte 0\n",
-        ),
     ];
     for (name, outside, status, out, err) in rows {
         let outcome = run_on(&rt, rt.alloc(), &["list", name], outside)?;
         assert_eq!(rt; outcome.status, status, "{err}");
         assert_eq!(rt; outcome.out.got(), out.as_bytes(), "{err}");
         assert_eq!(rt; outcome.err.got(), err.as_bytes(), "{err}");
+    }
+    Ok(())
+}
+
+#[test]
+fn refused_files_have_the_first_offence(rt: HostRuntime) -> Result<(), Fail> {
+    let rows = [
+        ("", "1 NoHeader at line 1 byte 1"),
+        ("p cnf 1 1\n", "2 BadHeader at line 1 byte 3"),
+        ("p gcnf 2 1 1\n{1} 1 x 0\n", "3 BadToken at line 2 byte 7"),
+        ("p gcnf 2 1 1\n{1} 3 0\n", "4 VarTooBig at line 2 byte 5"),
+        ("p gcnf 1 1 4\n{9} 1 0\n", "5 GroupTooBig at line 2 byte 2"),
+        ("p gcnf 2 1 1\n1 0\n", "6 NoGroup at line 2 byte 1"),
+        (
+            "p gcnf 2 4 4\n{1} 1 0\n{2} -1 0\n{3} -1 2 0\n{4} -2",
+            "7 Truncated at line 5 byte 7",
+        ),
+        (
+            "p gcnf 2 4 4\n{1} 1 0\n{2} -1 0\n{3} -1 2 0\n{4} -2 0\n{1} 2 0\n",
+            "8 TooManyClauses at line 6 byte 1",
+        ),
+        ("p gcnf 65537 0 0\n", "9 TooLarge vars at line 1 byte 8"),
+        (
+            "p gcnf 0 1000001 0\n",
+            "9 TooLarge clauses at line 1 byte 10",
+        ),
+        ("p gcnf 0 0 16385\n", "9 TooLarge groups at line 1 byte 12"),
+    ];
+    for (text, offence) in rows {
+        let alloc = rt.alloc();
+        let outcome = run_on(&rt, alloc, &["list", "f"], plain(text))?;
+        let line = format!(in alloc; "gmus: input refused: {offence}\n")?;
+        assert_eq!(rt; outcome.status, 5, "{offence}");
+        assert_eq!(rt; outcome.out.got(), [].as_slice(), "{offence}");
+        assert_eq!(rt; outcome.err.got(), line.as_bytes(), "{offence}");
     }
     Ok(())
 }

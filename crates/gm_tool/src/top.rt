@@ -1,16 +1,17 @@
 //! The top call.
-ghost use Rattle.std.specs.Prelude.{◌≡◌, ◌⊎◌, map, None, MatchOption};
+ghost use Rattle.std.specs.Prelude.{◌≡◌, ◌≢◌, ◌⊎◌, map, None, MatchOption};
 ghost use Rattle.std.specs.String.{string_bytes};
 ghost use Rattle.gm_ports.specs.Faults.{Rose};
 ghost use Rattle.gm_ports.specs.FilesState.{ReadingLeaves};
-ghost use Rattle.gm_tool.specs.Words.{words_read};
-ghost use Rattle.gm_tool.specs.Run.{OfNamed, TellsNamed, IsReadToEnd, IsAccepted, IsListed, IsCutOff, GetsLine, IsStatus, IsSilent, IsFaultless, error_line, status_of};
+ghost use Rattle.gm_words.specs.Reading.{words_read};
+ghost use Rattle.gm_words.specs.Requests.{asked_by};
+ghost use Rattle.gm_tool.specs.Run.{OfNamed, TellsNamed, IsReadToEnd, IsAccepted, IsListed, IsCutOff, GetsLine, IsRefusal, IsStatus, IsSilent, IsFaultless, error_line, file_asked, status_of};
 
 use crate::error_line::write_error_line;
 use crate::list::{Ending, list_file};
-use crate::words::file_of;
 use gm_ports::{Files, Sink};
-use std::alloc::Global;
+use gm_words::{Request, read_words};
+use std::alloc::{AllocError, Global};
 use std::sync::Wait;
 use std::thread::Threads;
 
@@ -20,18 +21,27 @@ pub struct Finish {
     pub status: u8,
 }
 
-fn finish_of(ending: Ending) -> Finish
-    ensures { result.status ≡ status_of ending }
+fn finish_of(ending: &Ending) -> Finish
+    ensures { result.status ≡ status_of ending.now }
 {
     let status = match ending {
         Ending::Complete => 0,
         Ending::BadWords => 2,
-        Ending::Refused => 5,
+        Ending::Refused(_) => 5,
         Ending::ReadFault => 6,
         Ending::WriteFault => 7,
         Ending::Memory => 8,
     };
     Finish { status }
+}
+
+/// The file that is to be listed.
+fn file_of<'a>(request: Request<'a>) -> &'a str
+    ensures { result.now ≡ file_asked (asked_by request.entry) }
+{
+    match request {
+        Request::List(listing) => listing.file,
+    }
 }
 
 /// Lists all minimal conflicts and corrections of the file that the words name.
@@ -53,7 +63,8 @@ pub fn run<R: Threads + Wait + Sync, F: Files, O: Sink, E: Sink>(
     ensures listed { result.status ≡ 0 → OfNamed (words_read (map string_bytes words.now)) (F.state files.old) (IsListed (O.got out.old) (O.got out.new)) }
     ensures read_to_end { result.status ≡ 0 → IsReadToEnd (words_read (map string_bytes words.now)) (F.state files.old) (F.state files.new) }
     ensures bad_words { result.status ≡ 2 → words_read (map string_bytes words.now) ≡ None }
-    ensures refused { result.status ≡ 5 → OfNamed (words_read (map string_bytes words.now)) (F.state files.old) (λ text. ¬ IsAccepted text) }
+    ensures refused { result.status ≡ 5 → IsRefusal (words_read (map string_bytes words.now)) (F.state files.old)
+        (λ line. GetsLine line (E.got err.old) (E.got err.new) (E.faults err.old) (E.faults err.new)) }
     ensures read_fault { result.status ≡ 6 → Rose (F.state files.old).read_faults (F.state files.new).read_faults }
     ensures write_fault { result.status ≡ 7 → Rose (O.faults out.old) (O.faults out.new) }
     ensures cut_off { result.status ≡ 7 → OfNamed (words_read (map string_bytes words.now)) (F.state files.old) (IsCutOff (O.got out.old) (O.got out.new)) }
@@ -69,12 +80,13 @@ pub fn run<R: Threads + Wait + Sync, F: Files, O: Sink, E: Sink>(
     ensures silent { IsSilent result.status → O.got out.new ≡ O.got out.old }
     ensures no_read_fault_dropped { IsFaultless result.status → (F.state files.new).read_faults ≡ (F.state files.old).read_faults }
     ensures no_write_fault_dropped { IsFaultless result.status → O.faults out.new ≡ O.faults out.old }
-    ensures error_line { GetsLine (error_line result.status) (E.got err.old) (E.got err.new) (E.faults err.old) (E.faults err.new) }
+    ensures error_line { result.status ≢ 5 → GetsLine (error_line result.status) (E.got err.old) (E.got err.new) (E.faults err.old) (E.faults err.new) }
 {
-    let ending = match file_of(words) {
-        Some(name) => list_file(alloc, name, files, out),
-        None => Ending::BadWords,
+    let ending = match read_words(alloc, words) {
+        Ok(Some(request)) => list_file(alloc, file_of(request), files, out),
+        Ok(None) => Ending::BadWords,
+        Err(AllocError) => Ending::Memory,
     };
-    write_error_line(err, ending);
-    finish_of(ending)
+    write_error_line(err, &ending);
+    finish_of(&ending)
 }

@@ -1,19 +1,21 @@
-use Rattle.std.proofs.Common.{◌≡◌, ◌+◌, ◌-◌, ◌≤◌, ◌++◌, length}
-use Rattle.std.specs.List.{AllByRecursion}
+use Rattle.std.proofs.Common.{◌≡◌, ◌-◌, ◌≤◌, length}
+use Rattle.std.specs.List.{flat_map, AllByRecursion}
 use Rattle.gm_base.specs.Problem.{IsClause}
-use Rattle.gcnf_text.specs.Plain.{literal_count, max_literals}
-use Rattle.gcnf_text.specs.Whole.{clauses_text}
+use Rattle.gcnf_text.specs.Grammar.{clause_kinds, literal_count, max_literals}
+use Rattle.gcnf_text.specs.Table.{Between}
+use Rattle.gcnf_text.specs.Steps.{Leads, sofar}
 use Rattle.gcnf_text.proofs.clause.read_clauses.Given as goal
 
--- the clauses so far are those in front of what is left, and what they have left of the limit is the room
-abbrev pub invariant-lines : goal.invariant-lines
-invariant-lines l =
+-- the clauses so far were read, and they and their literals are counted
+abbrev pub invariant-clauses : goal.invariant-clauses
+invariant-clauses l =
     record {
-      count : length l.clauses ≤ l.header.clauses;
-      in_range : AllByRecursion (IsClause l.header.vars l.header.groups) l.clauses;
-      room : l.room + literal_count l.clauses ≡ max_literals;
-      same : l.fn.text ≡ clauses_text l.clauses ++ l.text;
+      leads : Leads (Between (sofar l.fn.header)) l.fn.tokens (flat_map clause_kinds l.clauses) (Between (sofar l.progress)) l.tokens;
+      counted : sofar l.progress ≡ record (sofar l.fn.header) { ended = length l.clauses; literals = literal_count l.clauses };
+      within : l.progress.ended ≤ l.progress.clauses;
+      in_range : AllByRecursion (IsClause l.fn.header.vars l.fn.header.groups) l.clauses;
+      room : l.progress.literals ≤ max_literals;
     }
 
-abbrev pub decreases-lines : goal.decreases-lines
-decreases-lines l = l.header.clauses - length l.clauses
+abbrev pub decreases-clauses : goal.decreases-clauses
+decreases-clauses l = l.progress.clauses - l.progress.ended

@@ -1,35 +1,40 @@
-use Rattle.std.proofs.Common.{◌++◌, codes, sym, ◌∙◌, ap}
-use Rattle.gcnf_text.specs.declared.header.Header.{Header}
-use Rattle.gcnf_text.specs.Parts.{stopped}
-use Rattle.gcnf_text.proofs.HeaderLemmas.{no_words, no_vars, no_count, no_groups, header_text-append}
+use Rattle.std.proofs.Common.{[], ◌∷◌, pos, ◌∙◌}
+use Rattle.std.proofs.lemmas.Result.{err_from_is_err_and}
+use Rattle.token_text.specs.Kinds.{Number}
+use Rattle.gcnf_text.specs.Table as table
+use Rattle.gcnf_text.proofs.HeaderLemmas.{vars_due, clauses_due, groups_due}
+use Rattle.gcnf_text.proofs.StepLemmas.{leads_on}
 use Rattle.gcnf_text.proofs.header.read_header.Goals as goal
 
-pub returns-then-not-skip : goal.returns-then-not-skip
-returns-then-not-skip c = no_words c.args.text.now c.if-not-skip.ensures.elsewhere
+pub returns-in_err-vars-clause-step : goal.returns-in_err-vars-clause-step
+returns-in_err-vars-clause-step c =
+    let p = err_from_is_err_and c.from_residual-in_err-vars.result c.from_residual-in_err-vars.ensures.1 in
+    rw (p.1, p.2) (c.in_ok-read_words.ensures.offence ∙ c.in_err-vars.ensures.step table.Vars table.Clauses vars_due)
 
-pub returns-in_err-vars : goal.returns-in_err-vars
-returns-in_err-vars c = rw c.from_residual.ensures (no_vars c.args.text.now c.skip.new.self c.if-not-skip.ensures.here c.in_err-vars.ensures)
+pub returns-in_err-clauses-clause-step : goal.returns-in_err-clauses-clause-step
+returns-in_err-clauses-clause-step c =
+    let p = err_from_is_err_and c.from_residual-in_err-clauses.result c.from_residual-in_err-clauses.ensures.1 in
+    rw (p.1, p.2)
+    (c.in_ok-read_words.ensures.offence ∙ (c.in_ok-vars.ensures.step table.Vars table.Clauses vars_due).offence
+    ∙ c.in_err-clauses.ensures.step (table.Clauses c.in_ok-vars.vars) (table.Groups c.in_ok-vars.vars) (clauses_due c.in_ok-vars.vars))
 
-pub returns-in_err-clauses : goal.returns-in_err-clauses
-returns-in_err-clauses c =
-    rw c.from_residual-in_err-clauses.ensures (no_count c.args.text.now c.number.new.self c.in_ok-vars.vars c.in_ok-vars.ensures.0
-    (c.if-not-skip.ensures.here ∙ ap (λ left. codes "p gcnf " ++ left) c.in_ok-vars.ensures.1) c.in_err-clauses.ensures)
+pub returns-in_err-groups-clause-step : goal.returns-in_err-groups-clause-step
+returns-in_err-groups-clause-step c =
+    let vars = c.in_ok-vars.vars in
+    let clauses = c.in_ok-clauses.clauses in
+    let p = err_from_is_err_and c.from_residual-in_err-groups.result c.from_residual-in_err-groups.ensures.1 in
+    rw (p.1, p.2)
+    (c.in_ok-read_words.ensures.offence ∙ (c.in_ok-vars.ensures.step table.Vars table.Clauses vars_due).offence
+    ∙ (c.in_ok-clauses.ensures.step (table.Clauses vars) (table.Groups vars) (clauses_due vars)).offence
+    ∙ c.in_err-groups.ensures.step (table.Groups vars clauses) (λ groups. table.Between (table.behind_header vars clauses groups)) (groups_due vars clauses))
 
-pub returns-in_err-groups : goal.returns-in_err-groups
-returns-in_err-groups c =
-    rw c.from_residual-in_err-groups.ensures (no_groups c.args.text.now c.number-2.new.self c.in_ok-vars.vars c.in_ok-clauses.clauses c.in_ok-vars.ensures.0 c.in_ok-clauses.ensures.0
-    (c.if-not-skip.ensures.here
-    ∙ ap (λ left. codes "p gcnf " ++ left) (c.in_ok-vars.ensures.1 ∙ ap (λ left. stopped 32 c.in_ok-vars.vars ++ left) c.in_ok-clauses.ensures.1))
-    c.in_err-groups.ensures)
-
-pub returns : goal.returns
-returns c =
-    let header : Header = record { vars = c.in_ok-vars.vars; clauses = c.in_ok-clauses.clauses; groups = c.in_ok-groups.groups } in (
-      record { vars = c.in_ok-vars.ensures.0.1; clauses = c.in_ok-clauses.ensures.0.1; groups = c.in_ok-groups.ensures.0.1 },
-      c.if-not-skip.ensures.here
-          ∙ ap (λ left. codes "p gcnf " ++ left)
-          (c.in_ok-vars.ensures.1
-          ∙ ap (λ left. stopped 32 c.in_ok-vars.vars ++ left)
-          (c.in_ok-clauses.ensures.1 ∙ ap (λ left. stopped 32 c.in_ok-clauses.clauses ++ left) c.in_ok-groups.ensures.1))
-          ∙ sym (header_text-append header c.number-3.new.self),
-    )
+pub returns-clause-step : goal.returns-clause-step
+returns-clause-step c =
+    let vars = c.in_ok-vars.vars in
+    let clauses = c.in_ok-clauses.clauses in
+    let groups = c.in_ok-groups.groups in
+    let behind_words = c.in_ok-read_words.ensures in
+    let behind_vars = leads_on table.Start table.Vars (table.Clauses vars) _ (Number (pos vars) ∷ []) _ _ _ behind_words (c.in_ok-vars.ensures.step table.Vars table.Clauses vars_due) in
+    let behind_clauses = leads_on table.Start (table.Clauses vars) (table.Groups vars clauses) _ (Number (pos clauses) ∷ []) _ _ _ behind_vars (c.in_ok-clauses.ensures.step (table.Clauses vars) (table.Groups vars) (clauses_due vars)) in
+    leads_on table.Start (table.Groups vars clauses) (table.Between (table.behind_header vars clauses groups)) _ (Number (pos groups) ∷ []) _ _ _ behind_clauses
+    (c.in_ok-groups.ensures.step (table.Groups vars clauses) (λ k. table.Between (table.behind_header vars clauses k)) (groups_due vars clauses))

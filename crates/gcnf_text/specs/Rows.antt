@@ -1,0 +1,53 @@
+-- Worked texts, computed from the definitions. The wanted answers were worked out by hand.
+use Rattle.std.specs.Prelude.{◌≡◌, ℕ, [], codes, Option, Some, None}
+use Rattle.std.proofs.Common.{refl}
+use Rattle.token_text.specs.Tokens.{tokens_of}
+use Rattle.gm_base.specs.Rows.{four_clauses}
+use Rattle.gcnf_text.specs.declared.offence.Limit.TheVariants as limit
+use Rattle.gcnf_text.specs.declared.offence.Offence.{Offence}
+use Rattle.gcnf_text.specs.declared.reader.TheConstants.{MAX_BYTES}
+use Rattle.gcnf_text.specs.Grammar.{kinds_of, max_bytes, problem_kinds}
+use Rattle.gcnf_text.specs.Table.{first_offence, offence_at}
+
+-- an offence that is above no limit, by its number, line and byte
+abbrev pub at : ℕ → ℕ → ℕ → Option Offence
+at number line byte = Some (offence_at number None line byte)
+
+-- free white space, comments, and several clauses a line
+pub free_text :
+    kinds_of (tokens_of (codes "c lenient\np gcnf 2 4 4\r\n{ 1 }1 0\r\n  c between\n{2} -1 0 {3} -1\n2 0\n{4} -2 0\n"))
+    ≡ problem_kinds four_clauses
+free_text = refl
+
+pub accepted :
+    (first_offence (codes "p gcnf 2 4 4\n{1} 1 0\n{2} -1 0\n{3} -1 2 0\n{4} -2 0\n") ≡ None)
+    × (first_offence (codes "p gcnf 0 0 0") ≡ None)
+accepted = (refl, refl)
+
+pub cut_or_too_long :
+    (first_offence (codes "p gcnf 2 4 4\n{1} 1 0\n{2} -1 0\n{3} -1 2 0\n{4} -2") ≡ at 7 5 7)
+    × (first_offence (codes "p gcnf 2 4 4\n{1} 1 0\n{2} -1 0\n{3} -1 2 0\n{4} -2 0\n{1} 2 0\n") ≡ at 8 6 1)
+cut_or_too_long = (refl, refl)
+
+pub headers :
+    (first_offence [] ≡ at 1 1 1)
+    × (first_offence (codes "p cnf 1 1\n") ≡ at 2 1 3)
+    × (first_offence (codes "p gcnf 65537 0 0\n") ≡ Some (offence_at 9 (Some limit.Vars) 1 8))
+headers = (refl, refl, refl)
+
+pub clauses :
+    (first_offence (codes "p gcnf 1 1 4\n{9} 1 0\n") ≡ at 5 2 2)
+    × (first_offence (codes "p gcnf 2 1 1\n1 0\n") ≡ at 6 2 1)
+    × (first_offence (codes "p gcnf 2 1 1\n{1} 3 0\n") ≡ at 4 2 5)
+    × (first_offence (codes "p gcnf 2 1 1\n{1} 1 x 0\n") ≡ at 3 2 7)
+clauses = (refl, refl, refl, refl)
+
+-- what spells the tokens of a problem that is not well formed: a 0 within a clause, and a group above the last
+pub not_well_formed :
+    (first_offence (codes "p gcnf 1 1 1\n{1} 1 0 0\n") ≡ at 8 2 9)
+    × (first_offence (codes "p gcnf 1 1 1\n{2} 1 0\n") ≡ at 5 2 2)
+not_well_formed = (refl, refl)
+
+-- the constant that callers give as the limit of their reading is the limit of the definition
+pub byte_limit : MAX_BYTES ≡ max_bytes
+byte_limit = refl

@@ -1,0 +1,12 @@
+//! Laws over the definitions alone. Each is the contract of a function that has no code.
+ghost use Rattle.gcnf_text.specs.Laws.{FaultlessIsRead, FirstOffenceStops};
+
+/// A text without an offence is one of a problem.
+pub fn faultless_is_read()
+    ensures { FaultlessIsRead }
+{}
+
+/// The first offence of a text within the limit of bytes stands where no text of a problem goes on.
+pub fn first_offence_stops()
+    ensures { FirstOffenceStops }
+{}

@@ -1,0 +1,11 @@
+//! How far a text was read.
+
+/// The numbers of the header, and how many clauses were ended and literals read so far.
+#[derive(Clone, Copy, Debug)]
+pub(crate) struct Progress {
+    pub(crate) vars: u32,
+    pub(crate) clauses: u32,
+    pub(crate) groups: u32,
+    pub(crate) ended: u32,
+    pub(crate) literals: u32,
+}

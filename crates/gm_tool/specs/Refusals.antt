@@ -1,0 +1,31 @@
+-- The line that tells why a file is refused.
+use Rattle.std.specs.Prelude.{ℕ, List, [], ◌++◌, ◌==◌, codes, decimal, if◌then◌else◌, Option, Some, None}
+use Rattle.gcnf_text.specs.declared.offence.Limit.{Limit}
+use Rattle.gcnf_text.specs.declared.offence.Limit.TheVariants.{Vars, Clauses, Groups, Literals, Bytes}
+use Rattle.gcnf_text.specs.declared.offence.Offence.{Offence}
+
+-- the names of the offences 1 to 9
+abbrev pub offence_name : ℕ → List ℕ
+offence_name number =
+    if number == 1 then codes "NoHeader"
+    else (if number == 2 then codes "BadHeader"
+    else (if number == 3 then codes "BadToken"
+    else (if number == 4 then codes "VarTooBig"
+    else (if number == 5 then codes "GroupTooBig"
+    else (if number == 6 then codes "NoGroup"
+    else (if number == 7 then codes "Truncated" else (if number == 8 then codes "TooManyClauses" else codes "TooLarge")))))))
+
+-- the limit that is gone beyond, behind a blank
+abbrev pub limit_text : Option Limit → List ℕ
+limit_text None = []
+limit_text (Some Vars) = codes " vars"
+limit_text (Some Clauses) = codes " clauses"
+limit_text (Some Groups) = codes " groups"
+limit_text (Some Literals) = codes " literals"
+limit_text (Some Bytes) = codes " bytes"
+
+-- the number, the name, the limit if any, and the place
+unfoldable pub refusal_line : Offence → List ℕ
+refusal_line offence =
+    codes "gmus: input refused: " ++ decimal offence.number ++ codes " " ++ offence_name offence.number ++ limit_text offence.limit
+    ++ codes " at line " ++ decimal offence.line ++ codes " byte " ++ decimal offence.byte ++ codes "\n"
