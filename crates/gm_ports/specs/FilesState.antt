@@ -35,9 +35,13 @@ pub record TellsNothingNew (old new : FilesState) : Type 0 where
   pub output : TellsNoMore old.output new.output
   pub written : TellsNoMore old.written new.written
 
--- a call that writes leaves the count of read faults and each name but those it may change
+-- what is told still is as it was told before
+abbrev pub StaysAsTold : {A : Type 0} → Option A → Option A → Type 0
+StaysAsTold old new = IfSome new (λ now. old ≡ Some now)
+
+-- a call that writes leaves the count of read faults, and each name but those it may change, as far as it is told still
 pub record WritingLeaves (MayChange : List ℕ → Type 0) (old new : FilesState) : Type 0 where
-  pub names : (name : List ℕ) → ¬ MayChange name → new.held name ≡ old.held name
+  pub names : (name : List ℕ) → ¬ MayChange name → StaysAsTold (old.held name) (new.held name)
   pub read_faults : new.read_faults ≡ old.read_faults
 
 -- the opened output's name holds what was written to it, and whoever does not tell that name tells of no name

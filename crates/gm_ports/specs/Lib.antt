@@ -1,6 +1,7 @@
 pub mod Faults
 pub mod FilesState
 pub mod MemFiles
+pub mod SureFiles
 pub mod MemSink
 pub mod Reading
 pub mod Schedule

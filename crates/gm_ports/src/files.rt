@@ -5,7 +5,7 @@
 //! told, and its two counts of faults are always told.
 ghost use Rattle.std.specs.Prelude.{◌≡◌, ℕ, List, ◌≤◌, ◌<◌, IfOk, OnOk, OnErr, IfSome, IsErr, length, take, Some, None, []};
 ghost use Rattle.gm_ports.specs.Faults.{HasCause, WriteHasCause};
-ghost use Rattle.gm_ports.specs.FilesState.{FilesState, ReadingLeaves, WritingLeaves, HoldsWhatIsWritten, TellsNothingNew, told_bytes};
+ghost use Rattle.gm_ports.specs.FilesState.{FilesState, ReadingLeaves, WritingLeaves, HoldsWhatIsWritten, StaysAsTold, TellsNothingNew, told_bytes};
 ghost use Rattle.gm_ports.specs.Told.{TellsAsBefore, ToldConsumes, ToldAppends, IsEmptyWhereTold};
 
 use crate::Failed;
@@ -49,7 +49,7 @@ pub trait Files {
         ensures bound { IfOk result (λ n. n ≤ length piece.now) }
         ensures bytes { IfOk result (λ n. ToldAppends (state self.old).written (state self.new).written (take n piece.now)) }
         ensures failed { OnErr result ((state self.new).written ≡ (state self.old).written) }
-        ensures output { (state self.new).output ≡ (state self.old).output }
+        ensures output { StaysAsTold (state self.old).output (state self.new).output }
         ensures holds { HoldsWhatIsWritten (state self.new) }
         ensures cause { WriteHasCause (state self.old).write_faults (state self.new).write_faults piece.now result }
         ensures untold { TellsNothingNew (state self.old) (state self.new) }

@@ -12,6 +12,8 @@
 //! }
 //! ```
 //!
+//! Of those in memory, `MemFiles` and `MemSink` fail at the calls that they were told to fail at, and `SureFiles` never.
+//!
 //! Begin with `specs/FilesState.antt`, which says what a `Files` tells of itself, and go on with `files.rt`.
 //!
 //! What real files hold is not told, and nothing here says how long a call takes or when written bytes are durable.
@@ -27,6 +29,7 @@ mod mem_sink;
 mod rooms;
 mod schedule;
 mod sink;
+mod sure_files;
 #[cfg(test)]
 mod tests;
 mod texts;
@@ -39,5 +42,6 @@ pub use mem_files::MemFiles;
 pub use mem_sink::MemSink;
 pub use rooms::Rooms;
 pub use sink::Sink;
+pub use sure_files::SureFiles;
 pub use texts::Texts;
 pub use whole::{Reading, read_whole};

@@ -119,6 +119,14 @@ impl MemFiles {
         self.writes.faults()
     }
 
+    /// The most bytes that a write moves.
+    pub(crate) fn per_write(&self) -> usize
+        ensures most { result ≡ self.now.per_write }
+        ensures some { 0 < result }
+    {
+        self.per_write
+    }
+
     /// Opens a file for reading. Whatever it answers, the last input is closed.
     pub fn open_in(&mut self, name: &str) -> Result<(), Failed>
         ensures fails { IsErr result ↔ (Fails self.old.reads ⊎ (held_under self.old.files name.now ≡ None)) }

@@ -1,7 +1,9 @@
 //! What the objects in memory answer, call by call.
 ghost use Rattle.std.specs.Prelude.{◌<◌};
 
-use crate::{Calls, Failed, Files, MemFiles, MemSink, Reading, Rooms, Sink, Texts, read_whole};
+use crate::{
+    Calls, Failed, Files, MemFiles, MemSink, Reading, Rooms, Sink, SureFiles, Texts, read_whole,
+};
 use std::alloc::{AllocError, Global};
 use std::test::Fail;
 
@@ -184,5 +186,113 @@ fn what_was_written_is_read_back(rt: HostRuntime) -> Result<(), Fail> {
     assert_eq!(rt; files.write(b"w").ok(), Some(1));
     assert_eq!(rt; files.read(&mut into).ok(), Some(1));
     assert_eq!(rt; into.as_slice(), b"wl\0\0".as_slice());
+    Ok(())
+}
+
+/// Files that never fail: `f` and `bare` hold `old`, and there is room under `f` and `g`.
+fn sure_files_with(alloc: Global, room: u64, per_call: usize) -> Result<SureFiles, AllocError>
+    requires { 0 < per_call }
+{
+    let mut held = Texts::new(alloc);
+    held.push(alloc, "f", b"old")?;
+    held.push(alloc, "bare", b"old")?;
+    let mut rooms = Rooms::new(alloc);
+    rooms.push(alloc, "g", room)?;
+    rooms.push(alloc, "f", room)?;
+    SureFiles::new(alloc, held, rooms, per_call, per_call)
+}
+
+/// Opens an output, writes three pieces, and ends it; how much of each was taken.
+fn write_thrice(files: &mut SureFiles, name: &str) -> [usize; 3] {
+    files.open_out(name);
+    let taken = [files.write(b"abcdef"), files.write(b"xy"), files.write(b"")];
+    files.finish_out();
+    taken
+}
+
+#[test]
+fn sure_files_keep_what_has_room_and_take_the_rest(rt: HostRuntime) -> Result<(), Fail> {
+    let alloc = rt.alloc();
+    // name, room, the most a write takes; then the answers to three writes, what the name holds, whether all is told
+    for (name, room, per_write, answers, text, all) in [
+        ("g", 100, 10, [6, 2, 0], "abcdefxy", true),
+        ("g", 100, 4, [4, 2, 0], "abcdxy", true),
+        ("g", 7, 10, [6, 1, 0], "abcdefx", true),
+        ("g", 6, 10, [6, 2, 0], "abcdef", false),
+        ("g", 0, 10, [6, 2, 0], "", false),
+        ("g", 0, 4, [4, 2, 0], "", false),
+        ("f", 20, 10, [6, 2, 0], "abcdefxy", true),
+        ("bare", 21, 10, [6, 2, 0], "old", false),
+        ("none", 22, 10, [6, 2, 0], "", false),
+    ] {
+        assert!(rt; per_write > 0usize);
+        let mut files = sure_files_with(alloc, room, per_write)?;
+        assert_eq!(rt;
+            write_thrice(&mut files, name),
+            answers,
+            "room {room}, {per_write} a write"
+        );
+        assert_eq!(rt;
+            files.held(name),
+            text.as_bytes(),
+            "room {room}, {per_write} a write"
+        );
+        assert_eq!(rt; files.tells(), all, "room {room}, {per_write} a write");
+
+        // what the other names hold stays
+        let other = if name == "f" { "bare" } else { "f" };
+        assert_eq!(rt;
+            files.held(other),
+            b"old".as_slice(),
+            "room {room}, {per_write} a write"
+        );
+    }
+    Ok(())
+}
+
+#[test]
+fn name_that_is_not_held_is_an_empty_file(rt: HostRuntime) -> Result<(), Fail> {
+    let alloc = rt.alloc();
+    // name, limit, the most a read gives; then the answer
+    for (name, limit, per_read, answer) in [
+        ("f", 3, 100, "old"),
+        ("f", 3, 1, "old"),
+        ("bare", 9, 2, "old"),
+        ("f", 2, 100, "too long"),
+        ("g", 3, 100, ""),
+        ("none", 3, 100, ""),
+    ] {
+        assert!(rt; per_read > 0usize);
+        let mut files = sure_files_with(alloc, 9, per_read)?;
+        match read_whole(alloc, &mut files, name, limit) {
+            Reading::Whole(bytes) => assert_eq!(rt; bytes.as_slice(), answer.as_bytes(), "{name}"),
+            Reading::TooLong => assert_eq!(rt; "too long", answer, "{name}"),
+            Reading::Failed => unreachable!(), // no count of faults rises
+            Reading::Memory => return Err(Fail::from("out of memory")),
+        }
+    }
+    Ok(())
+}
+
+#[test]
+fn sure_files_take_bytes_where_nothing_is_opened(rt: HostRuntime) -> Result<(), Fail> {
+    let mut files = sure_files_with(rt.alloc(), 9, 4)?;
+    let mut into = [0; 4];
+    assert_eq!(rt; files.read(&mut into), 0);
+    assert_eq!(rt; files.write(b""), 0);
+    files.finish_out();
+    assert!(rt; files.tells());
+    assert_eq!(rt; files.write(b"lost!"), 4);
+    assert!(rt; !files.tells());
+
+    // a name that is not held reads as empty, and as what was written once it is opened again
+    files.open_in("g");
+    assert_eq!(rt; files.read(&mut into), 0);
+    assert_eq!(rt; put(&mut files, "g", b"new").ok(), Some(3));
+    assert_eq!(rt; files.write(b"x"), 1);
+    assert_eq!(rt; files.held("g"), b"new".as_slice());
+    files.open_in("g");
+    assert_eq!(rt; files.read(&mut into), 3);
+    assert_eq!(rt; into.as_slice(), b"new\0".as_slice());
     Ok(())
 }

@@ -21,9 +21,9 @@ returns-clause-written c =
 -- only the name given holds something else
 pub returns-clause-leaves : goal.returns-clause-leaves
 returns-clause-leaves c = record {
-  names = λ n differs. ap Some (either_way c.open_out.result _ _ _ c.open_out.ensures.ok c.open_out.ensures.err
+  names = λ n differs. sym (ap Some (either_way c.open_out.result _ _ _ c.open_out.ensures.ok c.open_out.ensures.err
       (λ x is out. held_under-others c.args.self.now c.open_out.new.self c.args.name.now n out differs)
-      (λ now. ap (λ (s : MemFilesState). held_under s.files n) now));
+      (λ now. ap (λ (s : MemFilesState). held_under s.files n) now)));
   read_faults = either_way c.open_out.result _ _ _ c.open_out.ensures.ok c.open_out.ensures.err
       (λ x is out. ap (λ (s : MemFilesState). s.reads.faults) out.opened)
       (λ now. ap (λ (s : MemFilesState). s.reads.faults) now);
