@@ -14,7 +14,8 @@ use Rattle.std.proofs.lemmas.List.{take_all}
 use Rattle.gm_base.specs.Sets.{has}
 use Rattle.gm_base.specs.Literals.{clause_true}
 use Rattle.gm_base.specs.Problem.{Problem, satisfies, is_present}
-use Rattle.gm_base.proofs.Members.{In, all_at, all_from, any_from}
+use Rattle.gm_base.specs.Members.{In}
+use Rattle.gm_base.proofs.Members.{all_at, all_from, any_from}
 
 -- what stands in the part that the two searches leave is of the group
 pub stretch-of_group : (index : List Placed) (group from count : ℕ)

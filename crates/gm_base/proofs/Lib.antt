@@ -4,3 +4,6 @@ pub mod SatLemmas
 pub mod IndexLemmas
 pub mod Singles
 pub mod TestLemmas
+pub mod DatabaseLemmas
+pub mod WorkLemmas
+pub mod SpanLemmas

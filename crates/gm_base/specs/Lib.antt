@@ -1,3 +1,4 @@
+pub mod Members
 pub mod Sets
 pub mod Literals
 pub mod Problem
@@ -6,6 +7,10 @@ pub mod Report
 pub mod Laws
 pub mod Index
 pub mod Derivation
+pub mod Database
+pub mod Units
+pub mod Work
+pub mod Spans
 pub mod Evidence
 pub mod Explored
 pub mod Rows

@@ -10,6 +10,9 @@
 //! if problem.holds(&set, &assign) { .. }
 //! ```
 //!
+//! For those who search, a [`Derivation`] is the steps by which a clause follows from others, a [`WorkList`] hands out
+//! numbers from the greatest down, and a [`Purse`] says how many clauses may still be learnt.
+//!
 //! Start reading at `specs/Sets.antt`, `specs/Problem.antt` and `specs/Minimal.antt`, on which every promise of the
 //! program stands. `specs/Rows.antt` has worked examples that the definitions compute, and the module `laws` what is
 //! proved of the definitions alone. Nothing here searches: how the sets are found is for the crates above.
@@ -17,19 +20,25 @@
 
 mod assign;
 mod clause;
+mod derivation;
 mod group_set;
 mod index;
 pub mod laws;
 mod lit;
 mod problem;
+mod purse;
 mod sets;
 #[cfg(test)]
 mod tests;
+mod worklist;
 
 pub use assign::Assign;
 pub use clause::{Clause, Clauses};
+pub use derivation::{Derivation, Step};
 pub use group_set::GroupSet;
 pub use index::Placed;
 pub use lit::{Lit, Lits};
 pub use problem::{Problem, clause_fits};
+pub use purse::Purse;
 pub use sets::Sets;
+pub use worklist::WorkList;

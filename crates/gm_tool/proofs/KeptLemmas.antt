@@ -6,7 +6,8 @@ use Rattle.gm_base.specs.Sets.{IsGroupSet, has, IsSubset, IsProperSubset, comple
 use Rattle.gm_base.specs.Problem.{Problem}
 use Rattle.gm_base.specs.Minimal.{is_conflict, is_correction, conflicts, corrections}
 use Rattle.gm_base.specs.Explored.{Found as One, Conflict, Correction, explores, is_explored}
-use Rattle.gm_base.proofs.Members.{In, all_at, all_from, any_at, any_from, In-append_left, In-append_right, In-append_cases, In-map, In-from_map}
+use Rattle.gm_base.specs.Members.{In}
+use Rattle.gm_base.proofs.Members.{all_at, all_from, any_at, any_from, In-append_left, In-append_right, In-append_cases, In-map, In-from_map}
 use Rattle.gm_base.proofs.SetLemmas.{has-complement, IsSubset-from_all}
 use Rattle.gm_base.proofs.SatLemmas.{Sat-subset}
 use Rattle.gm_base.proofs.TestLemmas.{IsConflict-from_test, test-from_IsConflict, IsCorrection-from_test, test-from_IsCorrection}

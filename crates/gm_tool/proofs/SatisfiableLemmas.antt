@@ -9,7 +9,8 @@ use Rattle.gm_base.specs.declared.clause.Clause.{Clause}
 use Rattle.gm_base.specs.Literals.{var_of, literal_true, clause_true, AreLiterals}
 use Rattle.gm_base.specs.Problem.{Problem, IsProblem, IsClause, satisfies, is_present}
 use Rattle.gm_base.specs.Minimal.{is_sat}
-use Rattle.gm_base.proofs.Members.{In, all_at, all_from, any_at, any_from}
+use Rattle.gm_base.specs.Members.{In}
+use Rattle.gm_base.proofs.Members.{all_at, all_from, any_at, any_from}
 use Rattle.gm_base.proofs.SatLemmas.{test-from_Sat, test-from_unsat}
 use Rattle.gm_tool.specs.Search.{StaysHopeless, IsWhole}
 use Rattle.gm_tool.specs.Satisfiable.{literal_false, clause_false, falsifies}
