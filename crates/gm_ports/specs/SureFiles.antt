@@ -3,7 +3,8 @@ use Rattle.std.specs.Prelude.{◌≡◌, ℕ, ◌<◌, Bool, true, false, List, 
 use Rattle.gm_ports.specs.FilesState.{FilesState}
 use Rattle.gm_ports.specs.MemFiles.{MemFileState, MemFilesState, place_of, held_under, unread_of, written_of, output_name, room_left}
 
--- the files, and whether all bytes that were taken are kept. Its counts of calls are of no account
+-- the files, and whether they tell still: they do until a name without room is opened, or bytes are taken that have no
+-- place. Its counts of calls are of no account
 pub record SureFilesState : Type 0 where
   pub mem : MemFilesState
   pub tells : Bool
@@ -17,7 +18,7 @@ abbrev pub told_if : {A : Type 0} → Bool → A → Option A
 told_if true x = Some x
 told_if false x = None
 
--- all is told while each byte that was taken is kept, and nothing from then on. No fault is ever counted
+-- all is told, or nothing. No fault is ever counted
 abbrev pub files_state : SureFilesState → FilesState
 files_state s = record {
   held = λ name. told_if s.tells (Some (bytes_under s.mem.files name));

@@ -2,8 +2,8 @@
 //!
 //! They are a `MemFiles` without failing calls, and go on where that would fail. A name that is not held is read as an
 //! empty file. Bytes that have no place are taken and not kept: where nothing is opened, where no room is left, and under
-//! a name that may not be written. From then on nothing is told any more. Both counts of faults are always 0, so a run
-//! over them meets no fault of the outside.
+//! a name that may not be written. From then on, or from the opening of a name without room, nothing is told any more.
+//! Both counts of faults are always 0, so a run over them meets no fault of the outside.
 ghost use Rattle.std.specs.Prelude.{◌≡◌, ℕ, List, [], ◌<◌, ◌+◌, ◌++◌, None, true, false, IfOk, length, take, min};
 ghost use Rattle.gm_ports.specs.MemFiles.{held_under, room_under, unread_of, written_of, room_left, writing, fresh_files, IsOpenedOut, files_state as mem_state};
 ghost use Rattle.gm_ports.specs.FilesState.{HoldsWhatIsWritten};

@@ -35,12 +35,12 @@ fn explore(
 {
     if is_satisfiable(alloc, problem, seed)? {
         let correction = grow(alloc, problem, seed)?;
-        let _groups = correction.as_slice();
+        let _groups = correction.as_slice(); // A set of groups ascends.
         found.corrections.push(correction)?;
         return Ok(());
     }
     let conflict = shrink(alloc, problem, seed)?;
-    let _groups = conflict.as_slice();
+    let _groups = conflict.as_slice(); // A set of groups ascends.
     found.conflicts.push(conflict)?;
     Ok(())
 }

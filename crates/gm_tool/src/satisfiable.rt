@@ -68,7 +68,7 @@ fn is_falsified(problem: &Problem, set: &GroupSet, values: &[bool]) -> bool
 pub fn is_satisfiable(alloc: Global, problem: &Problem, set: &GroupSet) -> Result<bool, AllocError>
     ensures { IfOk result (λ yes. yes ≡ is_sat problem.now set.now) }
 {
-    let _groups = problem.groups();
+    let _groups = problem.groups(); // The problem is well formed.
     let found = find(alloc, &Present { problem, set }, problem.vars() as usize)?;
     let Some(_values) = found else {
         return Ok(false);

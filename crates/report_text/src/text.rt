@@ -17,7 +17,7 @@ fn push_text(out: &mut Vec<u8>, text: &str) -> Result<(), AllocError>
 }
 
 /// A line: a letter, the groups and 0.
-pub(crate) fn push_set(out: &mut Vec<u8>, letter: &str, set: &GroupSet) -> Result<(), AllocError>
+fn push_set(out: &mut Vec<u8>, letter: &str, set: &GroupSet) -> Result<(), AllocError>
     ensures { OnOk result (out.new.items ≡ out.old.items ++ set_line letter.now set.now) }
 {
     push_text(out, letter)?;
