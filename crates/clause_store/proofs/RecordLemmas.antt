@@ -1,0 +1,44 @@
+-- What an added clause changes in the list of the clauses, and that all of them are over the variables.
+use Rattle.std.proofs.Common.{suc, refl, sym, ap, ap₂, ◌∙◌, arith, subst, inl, inr, drop, ◌≡◌, ℕ, ℤ, ◌-◌, List, [], ◌∷◌, ◌++◌, length, map, All, slice_range}
+use Rattle.std.proofs.lemmas.List.{map_push}
+use Rattle.std.proofs.lemmas.List.Elements.{All-drop, All-take}
+use Rattle.std.specs.List.{AllByRecursion}
+use Rattle.gm_base.proofs.SpanLemmas.{range_before, range_at_end}
+use Rattle.gm_base.specs.Literals.{IsLiteral, AreLiterals}
+use Rattle.gm_base.specs.Database.{StoredClause, AreOver}
+use Rattle.clause_store.specs.Inner.{cut_by, IsWithin}
+use Rattle.clause_store.specs.declared.store.ClauseRecord.{ClauseRecord}
+
+-- a record within the old literals cuts the same from the longer list
+cut_before : (ls ms : List ℤ) (r : ClauseRecord) → IsWithin (length ls) r → cut_by (ls ++ ms) r ≡ cut_by ls r
+cut_before ls ms r w =
+    ap (λ (cut : List ℤ). record { lits = cut; live = r.live }) (range_before ls ms r.start r.end w.ordered w.within)
+
+-- so the clauses that were there stay
+cuts_before : (ls ms : List ℤ) (records : List ClauseRecord) → All (IsWithin (length ls)) records → map (cut_by (ls ++ ms)) records ≡ map (cut_by ls) records
+cuts_before ls ms [] w = refl
+cuts_before ls ms (r ∷ records) w =
+    ap₂ ◌∷◌ (cut_before ls ms r (w 0 r (omega arith))) (cuts_before ls ms records (λ k d h. w (suc k) d (omega arith)))
+
+-- and the record of what was added cuts just that
+pub cuts_after_add : (ls ms : List ℤ) (records : List ClauseRecord) (r : ClauseRecord)
+    → All (IsWithin (length ls)) records → r.start ≡ length ls → r.end ≡ length (ls ++ ms)
+    → map (cut_by (ls ++ ms)) (records ++ r ∷ []) ≡ map (cut_by ls) records ++ record { lits = ms; live = r.live } ∷ []
+cuts_after_add ls ms records r w starts ends =
+    map_push (cut_by (ls ++ ms)) records r
+    ∙ ap₂ (λ (xs : List StoredClause) (cut : List ℤ). xs ++ record { lits = cut; live = r.live } ∷ []) (cuts_before ls ms records w) (rw starts (range_at_end ls ms r.end ends))
+
+pub by_recursion : {X : Type 0} (P : X → Type 0) (xs : List X) → All P xs → AllByRecursion P xs
+by_recursion P [] h = tt
+by_recursion P (x ∷ xs) h = (h 0 x (omega arith), by_recursion P xs (λ k d lt. h (suc k) d (omega arith)))
+
+-- what is cut from literals over the variables is over them
+pub over_cut : (vars : ℕ) (lits : List ℤ) (start end : ℕ) → All (IsLiteral vars) lits → AreLiterals vars (slice_range lits start end)
+over_cut vars lits start end h =
+    by_recursion (IsLiteral vars) (slice_range lits start end)
+    (All-take (IsLiteral vars) (end - start) (drop start lits) (All-drop (IsLiteral vars) start lits h))
+
+pub over_all : (vars : ℕ) (lits : List ℤ) (records : List ClauseRecord) → All (IsLiteral vars) lits → AreOver vars (map (cut_by lits) records)
+over_all vars lits [] h c i = absurd i
+over_all vars lits (r ∷ records) h c (inl same) = subst (λ (d : StoredClause). AreLiterals vars d.lits) (sym same) (over_cut vars lits r.start r.end h)
+over_all vars lits (r ∷ records) h c (inr later) = over_all vars lits records h c later

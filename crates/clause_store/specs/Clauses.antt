@@ -1,0 +1,29 @@
+-- What a clause store is to its callers: its clauses in the order in which they came, and how much it can take with no more
+-- memory.
+use Rattle.std.specs.Prelude.{ℕ, ◌-◌, ◌≤◌, ◌<◌, List, [], false, length, slice_index_or}
+use Rattle.gm_base.specs.Database.{StoredClause}
+
+pub record Clauses : Type 0 where
+  pub vars : ℕ
+  pub clauses : List StoredClause
+  -- how many more clauses fit
+  pub room : ℕ
+  -- how many more literals fit
+  pub literal_room : ℕ
+
+abbrev pub no_clause : StoredClause
+no_clause = record { lits = []; live = false }
+
+-- the clause of an id, of which the first is 1
+abbrev pub clause_at : List StoredClause → ℕ → StoredClause
+clause_at db id = slice_index_or db (id - 1) no_clause
+
+-- the id names a clause
+pub record IsId (db : List StoredClause) (id : ℕ) : Type 0 where
+  pub from_one : 0 < id
+  pub within : id ≤ length db
+
+-- so many clauses, with so many literals together, fit with no more memory
+pub record HasRoomFor (store : Clauses) (count literals : ℕ) : Type 0 where
+  pub clauses_fit : count ≤ store.room
+  pub literals_fit : literals ≤ store.literal_room

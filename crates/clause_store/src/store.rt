@@ -1,0 +1,146 @@
+//! The clause store.
+//!
+//! The literals of all clauses stand one clause after the other in one list, and a small record of each clause says where
+//! its own begin and end. So a visit to a clause touches one record and one stretch of literals, and an id is a place:
+//! it is found without a search. A clause that is not live is kept because hints name it; propagation passes it by.
+//!
+//! Places in the list of literals are kept in 32 bits. A store that would outgrow them answers want of memory.
+ghost use Rattle.std.specs.Prelude.{◌≡◌, ◌+◌, ◌<◌, ◌≤◌, ◌^◌, ◌++◌, ◌∷◌, [], length, IfOk, OnOk, OnErr, IsOk};
+ghost use Rattle.gm_base.specs.Literals.{AreLiterals};
+ghost use Rattle.gm_base.specs.Database.{AreOver};
+ghost use Rattle.clause_store.specs.Clauses.{clause_at, IsId, HasRoomFor};
+
+use gm_base::Lit;
+use std::alloc::{AllocError, Global};
+use std::marker::Model;
+
+// The greatest number of clauses, and of literals.
+const MOST: usize = 4_294_967_295;
+
+/// Where the literals of a clause stand, and whether it is live.
+#[derive(Clone, Copy)]
+struct ClauseRecord {
+    start: u32,
+    end: u32,
+    live: bool,
+}
+
+/// Clauses under ids from 1, each live or not.
+#[derive(Drop)]
+pub struct Store {
+    vars: u32,
+    lits: Vec<Lit>,
+    records: Vec<ClauseRecord>,
+}
+
+impl Model for Store {
+    ghost use Rattle.clause_store.specs.Clauses.{Clauses};
+
+    ghost Value = { Clauses };
+
+    ghost use Rattle.clause_store.specs.Inner.{store_of, IsLaidOut};
+
+    ghost view = { store_of };
+
+    ghost invariant = { IsLaidOut };
+}
+
+impl Store {
+    /// An empty store for clauses over the variables 1 to `vars`.
+    pub fn new(alloc: Global, vars: u32) -> Result<Store, AllocError>
+        requires { vars < 2 ^ 31 }
+        ensures vars { IfOk result (λ store. store.vars ≡ vars) }
+        ensures clauses { IfOk result (λ store. store.clauses ≡ []) }
+    {
+        Ok(Store {
+            vars,
+            lits: Vec::new(alloc),
+            records: Vec::new(alloc),
+        })
+    }
+
+    pub fn vars(&self) -> u32
+        ensures vars { result ≡ self.now.vars }
+        ensures small { result < 2 ^ 31 }
+        ensures over { AreOver self.now.vars self.now.clauses }
+    {
+        self.vars
+    }
+
+    /// How many clauses it has, which is the id of the last one.
+    pub fn len(&self) -> u64
+        ensures { result ≡ length self.now.clauses }
+    {
+        self.records.len() as u64
+    }
+
+    /// Makes room for so many more clauses, with so many literals together.
+    pub fn reserve(&mut self, count: u64, literals: u64) -> Result<(), AllocError>
+        ensures ok { OnOk result (HasRoomFor self.new count literals) }
+        ensures vars { self.new.vars ≡ self.old.vars }
+        ensures clauses { self.new.clauses ≡ self.old.clauses }
+    {
+        if count > (MOST - self.records.len()) as u64 {
+            return Err(AllocError);
+        }
+        if literals > (MOST - self.lits.len()) as u64 {
+            return Err(AllocError);
+        }
+        self.records.reserve(count as usize)?;
+        self.lits.reserve(literals as usize)
+    }
+
+    /// Adds a clause, and gives its id. Where there is room for it, it can't fail.
+    pub fn add(&mut self, lits: &[Lit], live: bool) -> Result<u64, AllocError>
+        requires { AreLiterals self.old.vars lits.now }
+        ensures added { OnOk result (self.new.clauses ≡ self.old.clauses ++ record { lits = lits.now; live = live } ∷ []) }
+        ensures id { IfOk result (λ id. id ≡ length self.new.clauses) }
+        ensures succeeds { HasRoomFor self.old 1 (length lits.now) → IsOk result }
+        ensures err { OnErr result (self.new.clauses ≡ self.old.clauses) }
+        ensures vars { self.new.vars ≡ self.old.vars }
+        ensures room { self.old.room ≤ self.new.room + 1 }
+        ensures literal_room { self.old.literal_room ≤ self.new.literal_room + length lits.now }
+    {
+        if self.records.len() == MOST || lits.len() > MOST - self.lits.len() {
+            return Err(AllocError);
+        }
+        let start = self.lits.len() as u32;
+        self.records.reserve(1)?;
+        self.lits.extend_from_slice(lits)?;
+        let end = self.lits.len() as u32;
+        self.records
+            .push_reserved(ClauseRecord { start, end, live });
+        Ok(self.records.len() as u64)
+    }
+
+    /// Adds a clause for which there is room, and gives its id.
+    pub fn add_reserved(&mut self, lits: &[Lit], live: bool) -> u64
+        requires lits { AreLiterals self.old.vars lits.now }
+        requires room { HasRoomFor self.old 1 (length lits.now) }
+        ensures added { self.new.clauses ≡ self.old.clauses ++ record { lits = lits.now; live = live } ∷ [] }
+        ensures id { result ≡ length self.new.clauses }
+        ensures vars { self.new.vars ≡ self.old.vars }
+        ensures room { self.old.room ≤ self.new.room + 1 }
+        ensures literal_room { self.old.literal_room ≤ self.new.literal_room + length lits.now }
+    {
+        self.add(lits, live).unwrap()
+    }
+
+    /// The literals of a clause, as they were added.
+    pub fn lits(&self, id: u64) -> &[Lit]
+        requires { IsId self.now.clauses id }
+        ensures lits { result.now ≡ (clause_at self.now.clauses id).lits }
+        ensures over { AreLiterals self.now.vars result.now }
+    {
+        let record = &self.records[(id - 1) as usize];
+        &self.lits[record.start as usize..record.end as usize]
+    }
+
+    /// Whether a clause is live.
+    pub fn is_live(&self, id: u64) -> bool
+        requires { IsId self.now.clauses id }
+        ensures { result ≡ (clause_at self.now.clauses id).live }
+    {
+        self.records[(id - 1) as usize].live
+    }
+}

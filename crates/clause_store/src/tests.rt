@@ -1,0 +1,50 @@
+//! Clauses come back as they were added.
+use crate::Store;
+use gm_base::Lit;
+use std::alloc::AllocError;
+
+#[test]
+fn ids_are_places_from_one(rt: HostRuntime) -> Result<(), AllocError> {
+    let alloc = rt.alloc();
+    let mut store = Store::new(alloc, 3)?;
+    assert!(rt; store.len() == 0);
+    let first = store.add(&[Lit::new(1), Lit::new(-3)], true)?;
+    let empty = store.add(&[], true)?;
+    let core = store.add(&[Lit::new(2), Lit::new(2), Lit::new(-2)], false)?;
+    assert!(rt; first == 1);
+    assert!(rt; empty == 2);
+    assert!(rt; core == 3);
+    assert!(rt; store.len() == 3);
+    assert!(rt; store.lits(first).len() == 2);
+    assert!(rt; store.lits(first)[1] == Lit::new(-3));
+    assert!(rt; store.lits(empty).is_empty());
+    assert!(rt; store.lits(core).len() == 3);
+    assert!(rt; store.lits(core)[2] == Lit::new(-2));
+    assert!(rt; store.is_live(empty));
+    assert!(rt; !store.is_live(core));
+    Ok(())
+}
+
+#[test]
+fn room_is_for_so_many_adds(rt: HostRuntime) -> Result<(), AllocError> {
+    let alloc = rt.alloc();
+    let mut store = Store::new(alloc, 2)?;
+    store.reserve(2, 3)?;
+    let first = store.add_reserved(&[Lit::new(1), Lit::new(2)], true);
+    let second = store.add_reserved(&[Lit::new(-1)], true);
+    assert!(rt; first == 1);
+    assert!(rt; second == 2);
+    assert!(rt; store.lits(second)[0] == Lit::new(-1));
+    Ok(())
+}
+
+#[test]
+fn what_can_not_be_counted_is_refused(rt: HostRuntime) -> Result<(), AllocError> {
+    let alloc = rt.alloc();
+    let mut store = Store::new(alloc, 2)?;
+    assert!(rt; store.reserve(4_294_967_296, 0).is_err());
+    assert!(rt; store.reserve(0, 4_294_967_296).is_err());
+    let id = store.add(&[Lit::new(2)], true)?;
+    assert!(rt; id == 1);
+    Ok(())
+}
