@@ -1,0 +1,5 @@
+pub mod TrailLemmas
+pub mod PlaceLemmas
+pub mod SlotLemmas
+pub mod ValueLemmas
+pub mod OrderLemmas

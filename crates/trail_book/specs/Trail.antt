@@ -1,0 +1,50 @@
+-- The trail: the literals that are true, the newest first, each with what made it true (MiniSat: Eén and Sörensson 2003).
+use Rattle.std.specs.Prelude.{◌≡◌, ℕ, ◌+◌, ◌-◌, ◌<◌, List, [], ◌∷◌, length, map, drop, ℤ, Option, Some, None, ◌==◌, nat_le, if◌then◌else◌}
+use Rattle.gm_base.specs.Literals.{var_of, IsLiteral}
+use Rattle.gm_base.specs.Units.{IsUnset}
+use Rattle.trail_book.specs.declared.entry.Entry.{Entry}
+
+-- what a trail is to its callers
+pub record Trail : Type 0 where
+  pub vars : ℕ
+  -- the newest first
+  pub entries : List Entry
+
+-- the literals that are true
+abbrev pub trues : List Entry → List ℤ
+trues es = map (λ (e : Entry). e.lit) es
+
+-- a decision opens a level, a literal with a reason belongs to the level that is open
+abbrev pub level_after : Option ℕ → ℕ → ℕ
+level_after None level = level + 1
+level_after (Some reason) level = level
+
+-- the level of the newest entry: how many decisions there are
+abbrev pub top : List Entry → ℕ
+top [] = 0
+top (e ∷ es) = level_after e.reason (top es)
+
+-- the entries of the levels up to this one
+abbrev pub keep : ℕ → List Entry → List Entry
+keep level [] = []
+keep level (e ∷ es) = if nat_le (top (e ∷ es)) level then e ∷ es else keep level es
+
+-- the oldest entries, so many
+abbrev pub oldest : ℕ → List Entry → List Entry
+oldest count es = drop (length es - count) es
+
+-- no variable twice, and only variables up to this one
+abbrev pub IsTrail : ℕ → List Entry → Type 0
+IsTrail vars [] = Unit {0}
+IsTrail vars (e ∷ es) = IsUnset (trues es) e.lit × IsLiteral vars e.lit × IsTrail vars es
+
+-- the value of the variable stands at this place, the oldest at 0
+pub record IsPlace (es : List Entry) (var place : ℕ) : Type 0 where
+  pub entry : Entry
+  pub at : oldest (place + 1) es ≡ entry ∷ oldest place es
+  pub of_var : var_of entry.lit ≡ var
+  pub within : place < length es
+
+-- an entry, with a unit step where it is of this variable
+abbrev pub with_unit : ℕ → ℕ → Entry → Entry
+with_unit var id e = if var_of e.lit == var then record { lit = e.lit; reason = e.reason; unit = Some id } else e

@@ -1,0 +1,276 @@
+//! The trail.
+//!
+//! Its literals stand in a table of slots, the oldest first. Two tables by variable lead to them: the value of the
+//! variable, and the place of its slot. So no reader searches. The place is left as it is when a value is taken back,
+//! since it counts only while there is a value. A slot has its level, so the level of the last slot is the current one,
+//! and backtracking takes slots from the end while theirs is too high. Room for one slot a variable is taken at the
+//! start, and no variable stands twice, so nothing that comes later can want memory.
+ghost use Rattle.std.specs.Prelude.{◌≡◌, ℕ, ◌+◌, ◌-◌, ◌<◌, ◌≤◌, ◌^◌, ◌∷◌, [], length, map, drop, ℤ, pos, IfOk, Some, None, IfSome, IfNone, neg_ℤ};
+ghost use Rattle.gm_base.specs.Literals.{var_of, IsLiteral};
+ghost use Rattle.gm_base.specs.Members.{In};
+ghost use Rattle.gm_base.specs.Units.{IsUnset, HasValue, IsValue};
+ghost use Rattle.trail_book.specs.declared.entry.Entry.{Entry};
+ghost use Rattle.trail_book.specs.Slots.{entry_of};
+ghost use Rattle.trail_book.specs.Trail.{trues, top, keep, oldest, IsTrail, IsPlace, with_unit};
+
+use crate::entry::Entry;
+use crate::order::{first_unset, index_at, position_of};
+use crate::slot::{Slot, id};
+use crate::value::Value;
+use gm_base::Lit;
+use std::alloc::{AllocError, Global};
+use std::marker::Model;
+
+/// The literals that are true, in the order in which they became so.
+#[derive(Drop)]
+pub struct Trail {
+    vars: u32,
+    // The oldest first.
+    slots: Vec<Slot>,
+    // By variable, that of variable 1 first: its value, and the place of its slot where it has a value.
+    values: Vec<Value>,
+    places: Vec<u32>,
+    // Where the order of decisions begins, and a position in it before which all variables have a value.
+    start: u32,
+    next: u32,
+}
+
+impl Model for Trail {
+    ghost use Rattle.trail_book.specs.Trail.{Trail};
+
+    ghost Value = { Trail };
+
+    ghost use Rattle.trail_book.specs.Tables.{trail_of, AreTables};
+
+    ghost view = { trail_of };
+
+    ghost invariant = { AreTables };
+}
+
+impl Trail {
+    /// No literal is true. All memory that the trail will ever need is taken here.
+    pub fn new(alloc: Global, vars: u32) -> Result<Trail, AllocError>
+        requires { vars < 2 ^ 31 }
+        ensures { IfOk result (λ trail. trail ≡ record { vars = vars; entries = [] }) }
+    {
+        Ok(Trail {
+            vars,
+            slots: Vec::with_capacity(alloc, vars as usize)?,
+            values: vec![in alloc; Value::Unset; vars as usize]?,
+            places: vec![in alloc; 0u32; vars as usize]?,
+            start: 0,
+            next: 0,
+        })
+    }
+
+    pub fn vars(&self) -> u32
+        ensures vars { result ≡ self.now.vars }
+        ensures small { result < 2 ^ 31 }
+        ensures trail { IsTrail self.now.vars self.now.entries }
+    {
+        self.vars
+    }
+
+    /// How many literals are true.
+    pub fn len(&self) -> u32
+        ensures { result ≡ length self.now.entries }
+    {
+        self.slots.len() as u32
+    }
+
+    /// The literal at a place, the oldest at 0.
+    pub fn at(&self, place: u32) -> Lit
+        requires { place < length self.now.entries }
+        ensures { trues (oldest (place + 1) self.now.entries) ≡ result ∷ trues (oldest place self.now.entries) }
+    {
+        self.slots[place as usize].lit
+    }
+
+    /// The entry at a place, the oldest at 0.
+    pub fn entry(&self, place: u32) -> Entry
+        requires { place < length self.now.entries }
+        ensures { oldest (place + 1) self.now.entries ≡ result ∷ oldest place self.now.entries }
+    {
+        self.slots[place as usize].entry()
+    }
+
+    /// The decision level of the literal at a place.
+    pub fn level_at(&self, place: u32) -> u32
+        requires { place < length self.now.entries }
+        ensures { result ≡ top (oldest (place + 1) self.now.entries) }
+    {
+        self.slots[place as usize].level
+    }
+
+    /// The current level: how many decisions there are.
+    pub fn top(&self) -> u32
+        ensures { result ≡ top self.now.entries }
+    {
+        let count = self.slots.len();
+        if count == 0 {
+            0
+        } else {
+            self.slots[count - 1].level
+        }
+    }
+
+    pub fn value(&self, lit: Lit) -> Option<bool>
+        requires { IsLiteral self.now.vars lit }
+        ensures { IsValue (trues self.now.entries) lit result }
+    {
+        let value = self.values[(lit.var() - 1) as usize];
+        if value == Value::Unset {
+            None
+        } else {
+            Some((value == Value::True) == lit.is_positive())
+        }
+    }
+
+    /// The place of a variable that has a value.
+    pub fn place(&self, var: u32) -> u32
+        requires { HasValue (trues self.now.entries) (pos var) }
+        ensures { IsPlace self.now.entries var result }
+    {
+        self.places[(var - 1) as usize]
+    }
+
+    /// The decision level of a variable that has a value.
+    pub fn level(&self, var: u32) -> u32
+        requires { HasValue (trues self.now.entries) (pos var) }
+        ensures { (place : ℕ) → IsPlace self.now.entries var place → result ≡ top (oldest (place + 1) self.now.entries) }
+    {
+        self.slots[self.place(var) as usize].level
+    }
+
+    /// The id of the clause that forced a variable that has a value. There is none exactly where it was decided.
+    pub fn reason(&self, var: u32) -> Option<u64>
+        requires { HasValue (trues self.now.entries) (pos var) }
+        ensures { (e : Entry) → In e self.now.entries → var_of e.lit ≡ var → result ≡ e.reason }
+    {
+        id(self.slots[self.place(var) as usize].reason)
+    }
+
+    /// The id of the unit step of a variable that has a value, where it has one.
+    pub fn unit(&self, var: u32) -> Option<u64>
+        requires { HasValue (trues self.now.entries) (pos var) }
+        ensures { (e : Entry) → In e self.now.entries → var_of e.lit ≡ var → result ≡ e.unit }
+    {
+        id(self.slots[self.place(var) as usize].unit)
+    }
+
+    /// Makes a literal true by a clause. It stands at the current level.
+    pub fn assign(&mut self, lit: Lit, reason: u64)
+        requires unset { IsUnset (trues self.old.entries) lit }
+        requires lit { IsLiteral self.old.vars lit }
+        requires id { 0 < reason }
+        ensures entries { self.new.entries ≡ record { lit = lit; reason = Some reason; unit = None } ∷ self.old.entries }
+        ensures vars { self.new.vars ≡ self.old.vars }
+        ensures trail { IsTrail self.new.vars self.new.entries }
+    {
+        let level = self.top();
+        self.push(Slot {
+            lit,
+            level,
+            reason,
+            unit: 0,
+        });
+    }
+
+    /// Makes a literal true at a new level.
+    pub fn decide(&mut self, lit: Lit)
+        requires unset { IsUnset (trues self.old.entries) lit }
+        requires lit { IsLiteral self.old.vars lit }
+        ensures entries { self.new.entries ≡ record { lit = lit; reason = None; unit = None } ∷ self.old.entries }
+        ensures vars { self.new.vars ≡ self.old.vars }
+        ensures trail { IsTrail self.new.vars self.new.entries }
+    {
+        let _vars = self.vars(); // A trail has no more levels than variables.
+        let level = self.top() + 1;
+        self.push(Slot {
+            lit,
+            level,
+            reason: 0,
+            unit: 0,
+        });
+    }
+
+    /// Keeps the id of the step that holds the value of this variable alone.
+    pub fn set_unit(&mut self, var: u32, id: u64)
+        requires value { HasValue (trues self.old.entries) (pos var) }
+        requires id { 0 < id }
+        ensures entries { self.new.entries ≡ map (with_unit var id) self.old.entries }
+        ensures vars { self.new.vars ≡ self.old.vars }
+    {
+        let place = self.place(var) as usize;
+        self.slots[place].unit = id;
+    }
+
+    /// Takes back the values of all levels above this one.
+    pub fn back_to(&mut self, level: u32)
+        ensures entries { self.new.entries ≡ keep level self.old.entries }
+        ensures vars { self.new.vars ≡ self.old.vars }
+        ensures trail { IsTrail self.new.vars self.new.entries }
+    {
+        let _vars = self.vars(); // This is a trail, also where nothing is above the level.
+        while self.top() > level {
+            self.undo();
+        }
+    }
+
+    /// Begins the order of decisions at variable `turn` modulo the number of variables, plus one. It changes nothing
+    /// that contracts speak of.
+    pub fn start_at(&mut self, turn: u64)
+        ensures { self.new ≡ self.old }
+    {
+        self.start = if self.vars == 0 {
+            0
+        } else {
+            (turn % self.vars as u64) as u32
+        };
+        self.next = 0;
+    }
+
+    /// A literal that has no value, for the next decision. Which one is left open: here it is the positive literal of
+    /// the first variable, in the order of decisions, that has none.
+    pub fn pick(&mut self) -> Option<Lit>
+        ensures some { IfSome result (λ lit. IsUnset (trues self.old.entries) lit × IsLiteral self.old.vars lit) }
+        ensures none { IfNone result ((lit : ℤ) → IsLiteral self.old.vars lit → HasValue (trues self.old.entries) lit) }
+        ensures same { self.new ≡ self.old }
+    {
+        self.next = first_unset(&self.values, self.start, self.next);
+        if self.next < self.vars {
+            let index = index_at(self.start, self.next, self.vars);
+            Some(Lit::new((index + 1) as i32))
+        } else {
+            None
+        }
+    }
+
+    // Puts a slot on the trail.
+    fn push(&mut self, slot: Slot)
+        requires unset { IsUnset (trues self.old.entries) slot.lit }
+        requires lit { IsLiteral self.old.vars slot.lit }
+        requires level { slot.level ≡ top (entry_of slot ∷ self.old.entries) }
+        ensures entries { self.new.entries ≡ entry_of slot ∷ self.old.entries }
+        ensures vars { self.new.vars ≡ self.old.vars }
+        ensures trail { IsTrail self.new.vars self.new.entries }
+    {
+        let index = (slot.lit.var() - 1) as usize;
+        self.values[index] = Value::by(slot.lit);
+        self.places[index] = self.slots.len() as u32;
+        self.slots.push_reserved(slot);
+    }
+
+    // Takes back the newest value.
+    fn undo(&mut self)
+        requires { 0 < length self.old.entries }
+        ensures entries { self.new.entries ≡ drop 1 self.old.entries }
+        ensures vars { self.new.vars ≡ self.old.vars }
+        ensures trail { IsTrail self.new.vars self.new.entries }
+    {
+        let slot = self.slots.take_last();
+        let index = slot.lit.var() - 1;
+        self.values[index as usize] = Value::Unset;
+        self.next = self.next.min(position_of(self.start, index, self.vars));
+    }
+}
