@@ -1,0 +1,36 @@
+-- How trails grow by propagation.
+use Rattle.std.proofs.Common.{◌≡◌, ℕ, ◌≤◌, List, [], ◌∷◌, length, refl, sym, ap, subst, inl, inr, arith}
+use Rattle.std.specs.Prelude.{ℤ}
+use Rattle.gm_base.specs.Members.{In}
+use Rattle.gm_base.specs.Literals.{IsLiteral, AreLiterals}
+use Rattle.gm_base.specs.Database.{StoredClause}
+use Rattle.trail_book.specs.declared.entry.Entry.{Entry}
+use Rattle.propagate.specs.Propagation.{Grows}
+
+pub grows-refl : (db : List StoredClause) (es : List Entry) → Grows db es es
+grows-refl db [] = refl
+grows-refl db (e ∷ es) = inl refl
+
+pub grows-from : (db : List StoredClause) (old new : List Entry) → new ≡ old → Grows db old new
+grows-from db old new same = subst (Grows db old) (sym same) (grows-refl db old)
+
+pub grows-trans : (db : List StoredClause) (old mid new : List Entry) → Grows db old mid → Grows db mid new → Grows db old new
+grows-trans db old mid [] g h = subst (Grows db old) h g
+grows-trans db old mid (e ∷ es) g (inl same) = subst (Grows db old) same g
+grows-trans db old mid (e ∷ es) g (inr (forced, unit, h)) = inr (forced, unit, grows-trans db old mid es g h)
+
+pub grows-length : (db : List StoredClause) (old new : List Entry) → Grows db old new → length old ≤ length new
+grows-length db old [] same = let none = ap length same in omega (arith, none)
+grows-length db old (e ∷ es) (inl same) = let len = ap length same in omega (arith, len)
+grows-length db old (e ∷ es) (inr (forced, unit, h)) = let rest = grows-length db old es h in omega (arith, rest)
+
+-- a trail that is no longer than it was is as it was
+pub grows-same : (db : List StoredClause) (old new : List Entry) → Grows db old new → length new ≤ length old → new ≡ old
+grows-same db old [] same len = sym same
+grows-same db old (e ∷ es) (inl same) len = sym same
+grows-same db old (e ∷ es) (inr (forced, unit, h)) len = let rest = grows-length db old es h in absurd (omega (arith, rest, len))
+
+pub literal_in : (vars : ℕ) (lits : List ℤ) (l : ℤ) → AreLiterals vars lits → In l lits → IsLiteral vars l
+literal_in vars [] l h i = absurd i
+literal_in vars (m ∷ ms) l h (inl same) = subst (IsLiteral vars) (sym same) h.0
+literal_in vars (m ∷ ms) l h (inr later) = literal_in vars ms l h.1 later
