@@ -1,0 +1,6 @@
+pub mod LogLemmas
+pub mod LayoutLemmas
+pub mod PlaceLemmas
+pub mod ConeLemmas
+pub mod FollowLemmas
+pub mod TrimLemmas

@@ -1,0 +1,64 @@
+use Rattle.std.proofs.Common.{◌+◌, ◌∷◌, [], ◌++◌, List, ap, sym, refl, ◌∙◌, arith}
+use Rattle.std.specs.Prelude.{ℤ}
+use Rattle.std.proofs.lemmas.List.{length-append}
+use Rattle.lrat_steps.specs.Parts.{step_with}
+use Rattle.lrat_steps.specs.declared.log.StepRecord.{StepRecord}
+use Rattle.lrat_steps.specs.declared.log.Log.TheInside.{Inside}
+use Rattle.lrat_steps.specs.Log.{LogStep}
+use Rattle.lrat_steps.proofs.LayoutLemmas.{IsPushed, log_pushed, laid_out_pushed}
+use Rattle.lrat_steps.proofs.log.Log.push.Goals as goal
+
+-- the record that was added
+abbrev pushed_record : goal.After-from → StepRecord
+pushed_record c =
+    record {
+      kind = c.parts_of-parts.result.kind;
+      lits_from = c.len-lits_from.result;
+      lits_to = c.in_ok-lits_to.lits_to;
+      hints_from = c.len-hints_from.result;
+      hints_to = c.in_ok-hints_to.hints_to;
+      inputs = c.self.inside.inputs + c.counts_of-more_inputs.result.0;
+    }
+
+abbrev new_inside : goal.After-from → Inside
+new_inside c =
+    record {
+      steps = c.push_reserved.new.self;
+      lits = c.extend_from_slice.new.self;
+      hints = c.push_hints.new.hints;
+      inputs = c.self.inside.inputs + c.counts_of-more_inputs.result.0;
+      learned = c.self.inside.learned + c.counts_of-more_inputs.result.1;
+    }
+
+pushed : (c : goal.After-from) → IsPushed c.self.inside (new_inside c) c.parts_of-parts.result.kind c.parts_of-parts.result.lits.now c.parts_of-parts.result.hints.now (pushed_record c)
+pushed c =
+    record {
+      steps = c.push_reserved.ensures.items ∙ ap (λ (steps : List StepRecord). steps ++ pushed_record c ∷ []) c.reserve.ensures.items;
+      lits = c.in_ok-extend_from_slice.ensures.items ∙ ap (λ (lits : List ℤ). lits ++ c.parts_of-parts.result.lits.now) c.reserve-2.ensures.items;
+      hints = c.in_ok-push_hints.ensures.ok;
+      last =
+          record {
+            lits_from = omega arith;
+            lits_to = omega (arith, length-append c.self.inside.lits.items c.parts_of-parts.result.lits.now);
+            hints_from = omega arith;
+            hints_to = omega (arith, length-append c.self.inside.hints.items c.parts_of-parts.result.hints.now);
+            no_hints = c.parts_of-parts.ensures.no_hints;
+          };
+      is_kind = refl;
+      counted = refl;
+      inputs = ap (λ n. c.self.inside.inputs + n) c.counts_of-more_inputs.ensures.inputs;
+      learned = ap (λ n. c.self.inside.learned + n) c.counts_of-more_inputs.ensures.learned;
+      few = omega arith;
+      one = omega arith;
+    }
+
+-- the last record is of what was added, and the others are of what they were
+pub invariant_of-self-2 : goal.invariant_of-self-2
+invariant_of-self-2 c =
+    laid_out_pushed c.self.inside (new_inside c) c.parts_of-parts.result.kind c.parts_of-parts.result.lits.now c.parts_of-parts.result.hints.now (pushed_record c) c.self.invariant (pushed c)
+
+pub returns-clause-ok : goal.returns-clause-ok
+returns-clause-ok c =
+    log_pushed c.self.inside (new_inside c) c.parts_of-parts.result.kind c.parts_of-parts.result.lits.now c.parts_of-parts.result.hints.now (pushed_record c) c.self.invariant (pushed c)
+    ∙ ap (λ (log : List LogStep). log ++ step_with c.parts_of-parts.result.kind c.parts_of-parts.result.lits.now c.parts_of-parts.result.hints.now ∷ []) c.self.view_is
+    ∙ ap (λ (s : LogStep). c.args.self.now ++ s ∷ []) (sym c.parts_of-parts.ensures.step)

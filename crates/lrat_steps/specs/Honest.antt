@@ -1,0 +1,43 @@
+-- Honest logs: each derived clause follows by its hints, and each learnt clause is new.
+use Rattle.std.specs.Prelude.{◌≡◌, ℕ, true, List, [], ◌∷◌, ◌++◌, ℤ, neg_ℤ}
+use Rattle.gm_base.specs.Literals.{var_of}
+use Rattle.gm_base.specs.Members.{In}
+use Rattle.gm_base.specs.Derivation.{follows}
+use Rattle.gm_base.specs.Database.{StoredClause, known_of, IsLive}
+use Rattle.lrat_steps.specs.Log.{LogStep, Input, Learned, Core, stored, inputs_of}
+
+-- each literal of the first clause is in the second
+abbrev pub Subsumes : List ℤ → List ℤ → Type 0
+Subsumes small large = (l : ℤ) → In l small → In l large
+
+-- the variable stands in one of the clauses
+abbrev pub HasVar : List (List ℤ) → ℕ → Type 0
+HasVar clauses var = (c : List ℤ) × (l : ℤ) × In c clauses × In l c × (var_of l ≡ var)
+
+-- no literal together with its negation, and only variables of the inputs
+pub record IsProper (inputs : List (List ℤ)) (lits : List ℤ) : Type 0 where
+  pub consistent : (l : ℤ) → In l lits → ¬ In (neg_ℤ l) lits
+  pub vars : (l : ℤ) → In l lits → HasVar inputs (var_of l)
+
+-- a proper clause that follows from the earlier ones by its hints
+pub record IsDerived (inputs : List (List ℤ)) (earlier : List StoredClause) (lits : List ℤ) (hints : List ℕ) : Type 0 where
+  pub follows : follows (known_of earlier) lits hints ≡ true
+  pub proper : IsProper inputs lits
+
+-- no live clause subsumes these literals
+abbrev pub IsNew : List StoredClause → List ℤ → Type 0
+IsNew earlier lits = (c : List ℤ) → IsLive earlier c → ¬ Subsumes c lits
+
+-- what a step has to be, after the earlier ones
+abbrev pub IsHonestStep : List (List ℤ) → List StoredClause → LogStep → Type 0
+IsHonestStep inputs earlier (Input lits) = Unit {0}
+IsHonestStep inputs earlier (Learned lits hints) = IsDerived inputs earlier lits hints × IsNew earlier lits
+IsHonestStep inputs earlier (Core lits hints) = IsDerived inputs earlier lits hints
+
+abbrev pub HonestFrom : List (List ℤ) → List StoredClause → List LogStep → Type 0
+HonestFrom inputs earlier [] = Unit {0}
+HonestFrom inputs earlier (s ∷ log) = IsHonestStep inputs earlier s × HonestFrom inputs (earlier ++ stored s ∷ []) log
+
+-- the log is honest over the clauses that were given
+abbrev pub IsHonest : List LogStep → Type 0
+IsHonest log = HonestFrom (inputs_of log) [] log

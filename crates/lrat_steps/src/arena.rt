@@ -1,0 +1,39 @@
+//! Adding to lists whose lengths and numbers fit 32 bits. What does not fit is answered as want of memory.
+ghost use Rattle.std.specs.Prelude.{◌≡◌, ◌+◌, ◌++◌, ◌<◌, ◌^◌, ◌↔◌, All, IsTrue, IfOk, OnOk, OnErr};
+
+use std::alloc::AllocError;
+
+/// Where a list of this length ends once so many more were added.
+pub fn end_of(len: usize, more: usize) -> Result<u32, AllocError>
+    ensures { IfOk result (λ end. end ≡ len + more) }
+{
+    let Some(end) = len.checked_add(more) else {
+        return Err(AllocError);
+    };
+    let Ok(end) = u32::try_from(end) else {
+        return Err(AllocError);
+    };
+    Ok(end)
+}
+
+/// Adds hints at the end, all or none.
+pub fn push_hints(hints: &mut Vec<u32>, more: &[u64]) -> Result<(), AllocError>
+    ensures ok { OnOk result (hints.new.items ≡ hints.old.items ++ more.now) }
+    ensures err { OnErr result (hints.new.items ≡ hints.old.items) }
+{
+    if !are_small(more) {
+        return Err(AllocError);
+    }
+    hints.reserve(more.len())?;
+    for hint in more {
+        hints.push_reserved(*hint as u32);
+    }
+    Ok(())
+}
+
+// Whether each number fits 32 bits.
+fn are_small(numbers: &[u64]) -> bool
+    ensures { IsTrue result ↔ All (λ n. n < 2 ^ 32) numbers.now }
+{
+    numbers.iter().all(|n| *n < 1 << 32)
+}

@@ -1,0 +1,32 @@
+//! Logs of LRAT steps, and derivations that hold only what their goal needs.
+//!
+//! A solver tells a [`Log`] each clause that it is given and each clause that it derives, the latter with hints: the
+//! ids of the clauses from which it follows by unit propagation (LRAT: Cruz-Filipe and others 2017). The id of a step
+//! is its place in the log, from 1. What the log says of a clause is then turned into a derivation of that clause from
+//! the clauses that were given:
+//!
+//! ```text
+//! let mut log = Log::new(alloc);
+//! log.push(LogStep::Input(&[x]))?;
+//! log.push(LogStep::Input(&[x.negated()]))?;
+//! let id = log.push(LogStep::Core(&[], &[1, 2]))?;
+//! let derivation = log.trim(alloc, id)?;
+//! ```
+//!
+//! Start reading at `specs/Log.antt` and `specs/Honest.antt`, which say what a log is and when it is honest, and go on
+//! with `specs/Trimmed.antt`, which says what a derivation of a clause is. `specs/Undecided.antt` is about searches
+//! that stopped early, and `specs/Rows.antt` has a worked log. The walk back from a goal is in `cone.rt`.
+//!
+//! A log believes what it is told: whether it is honest is for its callers to know, and `trim` asks for it.
+#![tactic(auto)]
+
+mod arena;
+mod cone;
+mod log;
+mod renumber;
+mod step;
+#[cfg(test)]
+mod tests;
+
+pub use log::Log;
+pub use step::{LogStep, StepKind};

@@ -1,0 +1,189 @@
+//! The log.
+//!
+//! A log is the list of a solver's steps in the order in which it took them: clauses that it was given, and clauses
+//! that it derived, each with the hints by which it follows. It lives as long as the run and is the largest thing in
+//! memory, so the literals of all steps stand one after another, and so do their hints, and a step itself is a small
+//! record of where its own begin and end. Each record counts the inputs up to its step: so the number of an input
+//! among the inputs, which a derivation goes by, is read off in one step, wherever the input stands in the log.
+ghost use Rattle.std.specs.Prelude.{◌≡◌, ◌<◌, ◌≤◌, ◌++◌, ◌∷◌, [], length, IfOk, OnOk, OnErr, Some, List, ℤ};
+ghost use Rattle.gm_base.specs.Derivation.{clause_of};
+ghost use Rattle.gm_base.specs.Database.{known_of};
+ghost use Rattle.lrat_steps.specs.Log.{step_of, step_at, lits_of, hints_of, kind_of, learned_count, inputs_of, db_of};
+ghost use Rattle.lrat_steps.specs.Cone.{inputs_up_to};
+ghost use Rattle.lrat_steps.specs.Honest.{IsHonest};
+ghost use Rattle.lrat_steps.specs.Trimmed.{IsTrimmed};
+
+use crate::arena::{end_of, push_hints};
+use crate::cone::cone_of;
+use crate::renumber::derivation_of;
+use crate::step::{LogStep, StepKind, counts_of, parts_of};
+use gm_base::{Derivation, Lit};
+use std::alloc::{AllocError, Global};
+use std::marker::Model;
+
+// What a step is, where its literals and hints begin and end among those of all steps, and how many inputs there are up
+// to it.
+#[derive(Clone, Copy)]
+struct StepRecord {
+    kind: StepKind,
+    lits_from: u32,
+    lits_to: u32,
+    hints_from: u32,
+    hints_to: u32,
+    inputs: u32,
+}
+
+/// The steps of a solver, in order. The id of a step is its place, from 1.
+#[derive(Drop)]
+pub struct Log {
+    steps: Vec<StepRecord>,
+    lits: Vec<Lit>,
+    hints: Vec<u32>,
+    inputs: u32,
+    learned: u64,
+}
+
+impl Model for Log {
+    ghost use Rattle.std.specs.Prelude.{List};
+    ghost use Rattle.lrat_steps.specs.Log.{LogStep};
+
+    ghost Value = { List LogStep };
+
+    ghost use Rattle.lrat_steps.specs.Layout.{log_of, IsLaidOut};
+
+    ghost view = { log_of };
+
+    ghost invariant = { IsLaidOut };
+}
+
+impl Log {
+    /// No steps. It takes no memory.
+    pub fn new(alloc: Global) -> Log
+        ensures { result ≡ [] }
+    {
+        Log {
+            steps: Vec::new(alloc),
+            lits: Vec::new(alloc),
+            hints: Vec::new(alloc),
+            inputs: 0,
+            learned: 0,
+        }
+    }
+
+    /// Adds a step, and gives its id.
+    pub fn push(&mut self, step: LogStep<'_>) -> Result<u64, AllocError>
+        ensures ok { OnOk result (self.new ≡ self.old ++ step_of step.entry ∷ []) }
+        ensures id { IfOk result (λ id. id ≡ length self.new) }
+        ensures err { OnErr result (self.new ≡ self.old) }
+    {
+        let parts = parts_of(step);
+        let id = end_of(self.steps.len(), 1)?;
+        let lits_to = end_of(self.lits.len(), parts.lits.len())?;
+        let hints_to = end_of(self.hints.len(), parts.hints.len())?;
+        // Room first, so that all is as it was where there is none.
+        self.steps.reserve(1)?;
+        self.lits.reserve(parts.lits.len())?;
+        let lits_from = self.lits.len() as u32;
+        let hints_from = self.hints.len() as u32;
+        push_hints(&mut self.hints, parts.hints)?;
+        self.lits.extend_from_slice(parts.lits)?;
+        let (more_inputs, more_learned) = counts_of(parts.kind);
+        let inputs = self.inputs + more_inputs;
+        let learned = self.learned + more_learned;
+        self.steps.push_reserved(StepRecord {
+            kind: parts.kind,
+            lits_from,
+            lits_to,
+            hints_from,
+            hints_to,
+            inputs,
+        });
+        self.inputs = inputs;
+        self.learned = learned;
+        Ok(u64::from(id))
+    }
+
+    /// How many steps it has, which is the id of the last one.
+    pub fn len(&self) -> u64
+        ensures { result ≡ length self.now }
+    {
+        self.steps.len() as u64
+    }
+
+    /// How many clauses were learnt.
+    pub fn learned(&self) -> u64
+        ensures { result ≡ learned_count self.now }
+    {
+        self.learned
+    }
+
+    /// How many clauses were given.
+    pub fn inputs(&self) -> u64
+        ensures { result ≡ length (inputs_of self.now) }
+    {
+        u64::from(self.inputs)
+    }
+
+    /// What the step of an id is.
+    pub fn kind(&self, id: u64) -> StepKind
+        requires from_one { 0 < id }
+        requires within { id ≤ length self.now }
+        ensures { result ≡ kind_of (step_at self.now id) }
+    {
+        self.steps[(id - 1) as usize].kind
+    }
+
+    /// The clause of the step of an id.
+    pub fn lits(&self, id: u64) -> &[Lit]
+        requires from_one { 0 < id }
+        requires within { id ≤ length self.now }
+        ensures { result.now ≡ lits_of (step_at self.now id) }
+    {
+        let step = self.steps[(id - 1) as usize];
+        &self.lits[step.lits_from as usize..step.lits_to as usize]
+    }
+
+    /// The ids of the clauses from which the step of an id follows, in the order of propagation. An input has none.
+    pub fn hints(&self, id: u64) -> &[u32]
+        requires from_one { 0 < id }
+        requires within { id ≤ length self.now }
+        ensures { result.now ≡ hints_of (step_at self.now id) }
+    {
+        let step = self.steps[(id - 1) as usize];
+        &self.hints[step.hints_from as usize..step.hints_to as usize]
+    }
+
+    /// The derivation of the clause of a step, with the steps that it needs and no other. The clauses that were given
+    /// keep their order and are numbered from 1, the steps on from there.
+    pub fn trim(&self, alloc: Global, goal: u64) -> Result<Derivation, AllocError>
+        requires honest { IsHonest self.now }
+        requires from_one { 0 < goal }
+        requires within { goal ≤ length self.now }
+        ensures { IfOk result (λ d. (lits : List ℤ) → clause_of (known_of (db_of self.now)) goal ≡ Some lits → IsTrimmed self.now lits d) }
+    {
+        let cone = cone_of(self, alloc, goal)?;
+        derivation_of(self, alloc, cone.as_slice(), goal)
+    }
+
+    // How many steps there are, how many of them are inputs, and how many inputs there are up to a step: few enough for
+    // numbers of half the size.
+    pub(crate) fn count(&self) -> u32
+        ensures { result ≡ length self.now }
+    {
+        self.steps.len() as u32
+    }
+
+    pub(crate) fn input_count(&self) -> u32
+        ensures { result ≡ length (inputs_of self.now) }
+    {
+        self.inputs
+    }
+
+    pub(crate) fn input_number(&self, id: u64) -> u32
+        requires from_one { 0 < id }
+        requires within { id ≤ length self.now }
+        ensures { result ≡ inputs_up_to self.now id }
+    {
+        self.steps[(id - 1) as usize].inputs
+    }
+}

@@ -1,0 +1,81 @@
+//! Derivations from the steps of a log.
+//!
+//! A derivation numbers its clauses anew: the inputs from 1, in the order of the log, and the steps on from there. So
+//! an input gets its number among the inputs, and a derived step its place among those that the goal needs.
+ghost use Rattle.std.specs.Prelude.{◌≡◌, ℕ, ◌<◌, ◌≤◌, length, map, All, IfOk, OnOk};
+ghost use Rattle.gm_base.specs.Derivation.{max_id};
+ghost use Rattle.lrat_steps.specs.Cone.{IsBackward, IsCone, AreDerivedIds, IsReached, Ascends, place_in, number_in, hints_at, trimmed};
+ghost use Rattle.gm_base.specs.Members.{In};
+
+use crate::cone::is_input;
+use crate::log::Log;
+use gm_base::Derivation;
+use std::alloc::{AllocError, Global};
+
+/// The derivation of a goal's clause by the steps of its cone.
+pub fn derivation_of(
+    log: &Log,
+    alloc: Global,
+    cone: &[u64],
+    goal: u64,
+) -> Result<Derivation, AllocError>
+    requires backward { IsBackward log.now }
+    requires from_one { 0 < goal }
+    requires within { goal ≤ length log.now }
+    requires cone { IsCone log.now goal cone.now }
+    ensures { IfOk result (λ d. d ≡ trimmed log.now goal cone.now) }
+{
+    let mut derivation = Derivation::new(alloc, number_of(log, cone, goal));
+    let mut numbers = Vec::new(alloc);
+    for id in cone {
+        renumber(log, cone, *id, &mut numbers)?;
+        derivation.push(number_of(log, cone, *id), log.lits(*id), numbers.as_slice())?;
+    }
+    Ok(derivation)
+}
+
+// The hints of a step by their new numbers, in place of what was there.
+fn renumber(log: &Log, cone: &[u64], id: u64, numbers: &mut Vec<u64>) -> Result<(), AllocError>
+    requires backward { IsBackward log.now }
+    requires from_one { 0 < id }
+    requires within { id ≤ length log.now }
+    requires cone { AreDerivedIds log.now cone.now }
+    requires reached { (h : ℕ) → In h (hints_at log.now id) → IsReached log.now cone.now h }
+    ensures numbers { OnOk result (numbers.new.items ≡ map (number_in log.now cone.now) (hints_at log.now id)) }
+    ensures small { OnOk result (All (λ n. n ≤ max_id) numbers.new.items) }
+{
+    numbers.clear();
+    for hint in log.hints(id) {
+        numbers.push(number_of(log, cone, u64::from(*hint)))?;
+    }
+    Ok(())
+}
+
+// The new number of a step. An input has its number among the inputs.
+fn number_of(log: &Log, cone: &[u64], id: u64) -> u64
+    requires from_one { 0 < id }
+    requires within { id ≤ length log.now }
+    requires cone { AreDerivedIds log.now cone.now }
+    requires reached { IsReached log.now cone.now id }
+    ensures number { result ≡ number_in log.now cone.now id }
+    ensures small { result ≤ max_id }
+{
+    if is_input(log, id) {
+        return u64::from(log.input_number(id));
+    }
+    // Its place is below its id, so the sum is small.
+    let _count = log.count();
+    u64::from(log.input_count()) + 1 + place_of(cone, id)
+}
+
+// The place of a number among ascending ones.
+fn place_of(numbers: &[u64], n: u64) -> u64
+    requires ascends { Ascends numbers.now }
+    requires has { In n numbers.now }
+    ensures { result ≡ place_in numbers.now n }
+{
+    let Ok(at) = numbers.binary_search(&n) else {
+        unreachable!();
+    };
+    at as u64
+}
