@@ -1,0 +1,238 @@
+-- Steps to the first unique implication point, and what is kept after it.
+use Rattle.std.proofs.Common.{◌≡◌, ◌⊎◌, ℕ, ◌+◌, ◌-◌, ◌<◌, ◌≤◌, List, [], ◌∷◌, ◌++◌, length, Option, Some, None, sym, ◌∙◌, ap, subst, inl, inr, arith, append_assoc, append-nil}
+use Rattle.std.specs.Prelude.{ℤ, neg_ℤ, reverse}
+use Rattle.std.proofs.Math.IntN.{neg_ℤ-neg_ℤ}
+use Rattle.std.proofs.lemmas.Bool.{cases_lt}
+use Rattle.gm_base.specs.Members.{In}
+use Rattle.gm_base.specs.Database.{StoredClause}
+use Rattle.gm_base.specs.Units.{AllFalse}
+use Rattle.gm_base.specs.Work.{TakesGreatest}
+use Rattle.gm_base.proofs.Members.{In-append_left, In-append_right, In-append_cases}
+use Rattle.trail_book.specs.declared.entry.Entry.{Entry}
+use Rattle.trail_book.specs.Trail.{trues, level_after, top, keep, oldest, IsTrail}
+use Rattle.trail_book.proofs.TrailLemmas.{lit-keep_in, lit-keep_more, trail_consistent}
+use Rattle.learn_step.specs.Reasons.{AreReasoned, before_last, IsConflict}
+use Rattle.learn_step.specs.Learnt.{HasSecond, IsLearnt}
+use Rattle.learn_step.specs.Places.{literal_at, false_at, level_of, hint_of, HasPlaces, IsHighest}
+use Rattle.learn_step.specs.Analysis.{IsBroughtIn, IsAnalysis, IsAboveUip, IsAtUip, AreKept}
+use Rattle.learn_step.proofs.PlaceLemmas.{oldest_all, top_oldest, top_oldest_all, literal_of, literal_true, literal_open, false_kept, false_open, hand_lit}
+use Rattle.learn_step.proofs.AnalysisLemmas.{same_some, taken_below, taken_cases, brought_false, analysis_false, analysis_kept, analysis_resolved, analysis_follows, hint_none}
+
+level_le_top : (es : List Entry) (p : ℕ) → level_of es p ≤ top es
+level_le_top es p = top_oldest_all (p + 1) es
+
+level_rises : (es : List Entry) (q p : ℕ) → q ≤ p → level_of es q ≤ level_of es p
+level_rises es q p le = top_oldest (q + 1) (p + 1) es (omega (arith, le))
+
+-- a decision is a level above all places before it
+decision_level : (es : List Entry) (p : ℕ) (e : Entry) → oldest (p + 1) es ≡ e ∷ oldest p es → e.reason ≡ None → level_of es p ≡ top (oldest p es) + 1
+decision_level es p e at none = ap top at ∙ ap (λ (r : Option ℕ). level_after r (top (oldest p es))) none
+
+-- To the first unique implication point.
+
+-- the falsified clause has a literal of the top level
+pub above_begun : (vars : ℕ) (db : List StoredClause) (es : List Entry) (id : ℕ) (old new hints more : List ℕ) (lits : List ℤ) → IsTrail vars es → 0 < top es → IsConflict db es id
+    → old ≡ [] → lits ≡ [] → hints ≡ [] → IsBroughtIn db es id (length es) old new hints more → IsAboveUip db es new lits more
+above_begun vars db es id old new hints more lits trail level f no_old no_lits no_hints b = record {
+  analysis = analysis_false vars db es id f.clause old new hints more lits trail f.named f.is_false no_old no_lits no_hints b;
+  none_kept = no_lits;
+  some_top =
+      (let (q, there, is) = found in (q, there, at_top q (under q there) is));
+}
+  where
+    same : f.clause ≡ b.clause
+    same = same_some f.clause b.clause (sym f.named ∙ b.named)
+
+    found : (q : ℕ) × In q new × (f.some_open.one ≡ false_at es q)
+    found =
+        brought_false vars es b.clause (length es) old new f.some_open.one trail b.places (subst (In f.some_open.one) same f.some_open.has)
+        (subst (λ (xs : List Entry). In (neg_ℤ f.some_open.one) (trues xs)) (sym (oldest_all es)) (f.is_false f.some_open.one f.some_open.has))
+
+    under : (q : ℕ) → In q new → q < length es
+    under q there = elim (b.places.only q there) [ inl before ↦ absurd (subst (In q) no_old before) | inr g ↦ g.lower ]
+
+    at_top : (q : ℕ) → q < length es → f.some_open.one ≡ false_at es q → level_of es q ≡ top es
+    at_top q lt is = elim (cases_lt (level_of es q) (top es)) [
+      | inl less ↦
+          absurd
+          (f.some_open.still_open
+          (subst (λ (k : ℤ). In (neg_ℤ k) (trues (before_last es))) (sym is) (false_kept es q (top es - 1) lt (omega (arith, less)))))
+      | inr more1 ↦ (let le = level_le_top es q in omega (arith, le, more1))
+    ]
+
+-- the place that was taken is no decision, if another is of the top level
+pub above_forced : (es : List Entry) (p : ℕ) (e : Entry) (old mid : List ℕ) (level : ℕ) → 0 < top es → oldest (p + 1) es ≡ e ∷ oldest p es → TakesGreatest old mid (Some p)
+    → IsHighest es mid level → top es ≤ level → ¬ (hint_of e ≡ None)
+above_forced es p e old mid level positive at t h le none =
+    let (q, there, is) = h.reached (omega (arith, positive, le)) in
+    let lower = taken_below old mid p t q there in
+    let own = decision_level es p e at (hint_none e none) in
+    let rises = top_oldest (q + 1) p es (omega (arith, lower)) in
+    let high = level_le_top es p in
+    absurd (omega (arith, is, own, rises, high, le))
+
+pub above_resolved : (vars : ℕ) (db : List StoredClause) (es : List Entry) (p : ℕ) (e : Entry) (id : ℕ) (old mid new : List ℕ) (lits : List ℤ) (hints more : List ℕ) (level : ℕ) → IsTrail vars es
+    → AreReasoned db es → 0 < top es → oldest (p + 1) es ≡ e ∷ oldest p es → hint_of e ≡ Some id → TakesGreatest old mid (Some p) → IsHighest es mid level → top es ≤ level
+    → IsBroughtIn db es id p mid new hints more → IsAboveUip db es old lits hints → IsAboveUip db es new lits more
+above_resolved vars db es p e id old mid new lits hints more level trail reasoned positive at hint t h le b a = record {
+  analysis = analysis_resolved vars db es (length es) p e id old mid new lits hints more trail reasoned (a.analysis.below p t.0.has) at hint t b a.analysis;
+  none_kept = a.none_kept;
+  some_top =
+      (let (q, there, is) = h.reached (omega (arith, positive, le)) in
+      let high = level_le_top es q in
+      (q, b.places.kept q there, omega (arith, is, high, le)));
+}
+
+-- one literal of the top level is left
+pub at_uip : (vars : ℕ) (db : List StoredClause) (es : List Entry) (p : ℕ) (e : Entry) (old new : List ℕ) (lits : List ℤ) (hints : List ℕ) (level : ℕ) → IsTrail vars es
+    → oldest (p + 1) es ≡ e ∷ oldest p es → TakesGreatest old new (Some p) → IsHighest es new level → level < top es → IsAboveUip db es old lits hints
+    → IsAtUip db es new (lits ++ neg_ℤ e.lit ∷ []) hints level
+at_uip vars db es p e old new lits hints level trail at t h less a = record {
+  analysis = analysis_kept db es (length es) p e old new lits hints at t a.analysis;
+  first = neg_ℤ e.lit;
+  is = ap (λ (ls : List ℤ). ls ++ neg_ℤ e.lit ∷ []) a.none_kept;
+  is_false = subst (λ (k : ℤ). In k (trues es)) (sym (neg_ℤ-neg_ℤ e.lit)) on;
+  unset = record {
+    not_true = λ i. trail_consistent vars es trail e.lit on (lit-keep_in (top es - 1) es (neg_ℤ e.lit) i);
+    not_false = λ i. still_open (subst (λ (k : ℤ). In k (trues (before_last es))) (neg_ℤ-neg_ℤ e.lit) i);
+  };
+  below = less;
+  above = h.above;
+  reached = h.reached;
+}
+  where
+    lt : p < length es
+    lt = a.analysis.below p t.0.has
+
+    lit : literal_at es p ≡ e.lit
+    lit = literal_of es p e at
+
+    on : In e.lit (trues es)
+    on = subst (λ (k : ℤ). In k (trues es)) lit (literal_true es p lt)
+
+    highest : level_of es p ≡ top es
+    highest =
+        let (q, there, is) = a.some_top in
+        let rises = level_rises es q p (t.0.above q there) in
+        let high = level_le_top es p in
+        omega (arith, is, rises, high)
+
+    still_open : ¬ In e.lit (trues (before_last es))
+    still_open i = literal_open vars es p (top es - 1) trail lt (omega (arith, highest, less)) (subst (λ (k : ℤ). In k (trues (before_last es))) (sym lit) i)
+
+-- After it.
+pub kept_begun : (es : List Entry) (places : List ℕ) (lits : List ℤ) → AreKept es places lits places lits
+kept_begun es places lits = record {
+  added = [];
+  is = sym (append-nil lits);
+  places_from = λ p i. inl i;
+  added_from = λ l i. absurd i;
+  all = λ p i up. inl i;
+}
+
+pub kept_kept : (es : List Entry) (p : ℕ) (e : Entry) (first old new : List ℕ) (before lits : List ℤ) → oldest (p + 1) es ≡ e ∷ oldest p es → 0 < level_of es p → TakesGreatest old new (Some p)
+    → AreKept es first before old lits → AreKept es first before new (lits ++ neg_ℤ e.lit ∷ [])
+kept_kept es p e first old new before lits at up t k = record {
+  added = k.added ++ neg_ℤ e.lit ∷ [];
+  is = ap (λ (ls : List ℤ). ls ++ neg_ℤ e.lit ∷ []) k.is ∙ append_assoc before k.added (neg_ℤ e.lit ∷ []);
+  places_from = λ q i. k.places_from q ((t.1 q).0 i).0;
+  added_from = λ l i. elim (In-append_cases l k.added (neg_ℤ e.lit ∷ []) i) [
+    | inl old1 ↦ k.added_from l old1
+    | inr (inl s) ↦ elim (k.places_from p t.0.has) [
+      | inl there ↦ (p, there, s ∙ sym is)
+      | inr root ↦ absurd (omega (arith, root, up))
+    ]
+    | inr (inr never) ↦ absurd never
+  ];
+  all = λ q i high. elim (k.all q i high) [
+    | inl there ↦ elim (taken_cases old new p q t there) [
+      | inl here ↦ inr (In-append_right (false_at es q) k.added (neg_ℤ e.lit ∷ []) (inl (ap (false_at es) here ∙ is)))
+      | inr left ↦ inl left
+    ]
+    | inr done ↦ inr (In-append_left (false_at es q) k.added (neg_ℤ e.lit ∷ []) done)
+  ];
+}
+  where
+    is : false_at es p ≡ neg_ℤ e.lit
+    is = ap neg_ℤ (literal_of es p e at)
+
+pub kept_resolved : (es : List Entry) (p : ℕ) (clause : List ℤ) (first old mid new : List ℕ) (before lits : List ℤ) → level_of es p ≡ 0 → TakesGreatest old mid (Some p)
+    → HasPlaces es clause p mid new → AreKept es first before old lits → AreKept es first before new lits
+kept_resolved es p clause first old mid new before lits root t h k = record {
+  added = k.added;
+  is = k.is;
+  places_from = λ q i. elim (h.only q i) [
+    | inl there ↦ k.places_from q ((t.1 q).0 there).0
+    | inr f ↦ inr (let lower = f.lower in let rises = level_rises es q p (omega (arith, lower)) in omega (arith, root, rises))
+  ];
+  added_from = k.added_from;
+  all = λ q i high. elim (k.all q i high) [
+    | inl there ↦ elim (taken_cases old mid p q t there) [
+      | inl here ↦ absurd (let same : level_of es q ≡ level_of es p = ap (level_of es) here in omega (arith, root, high, same))
+      | inr left ↦ inl (h.kept q left)
+    ]
+    | inr done ↦ inr done
+  ];
+}
+
+-- at level 0 nothing was decided
+pub root_forced : (es : List Entry) (p : ℕ) (e : Entry) → oldest (p + 1) es ≡ e ∷ oldest p es → level_of es p ≡ 0 → ¬ (hint_of e ≡ None)
+root_forced es p e at root none = let own = decision_level es p e at (hint_none e none) in absurd (omega (arith, own, root))
+
+-- The end.
+pub learnt_of : (vars : ℕ) (db : List StoredClause) (es : List Entry) (places : List ℕ) (before lits : List ℤ) (hints more : List ℕ) (back : ℕ) → IsTrail vars es → IsAtUip db es places before hints back
+    → IsAnalysis db es (length es) [] lits more → AreKept es places before [] lits → IsLearnt db es lits (reverse more) back
+learnt_of vars db es places before lits hints more back trail u a k = record {
+  first = u.first;
+  rest = k.added;
+  is = whole;
+  follows = analysis_follows vars db es (length es) lits more trail none_true a;
+  is_false = all_false;
+  used = λ l i. a.used l (hand_lit es [] lits l i);
+  unset = u.unset;
+  others = λ l i. elim (cases l i) [
+    | inl s ↦ inl s
+    | inr d ↦ inr (let less = u.below in lit-keep_more back (top es - 1) es (neg_ℤ l) (omega (arith, less)) (up_to_back l d))
+  ];
+  back = record {
+    below = u.below;
+    others = λ l i. elim (cases l i) [ inl s ↦ inl s | inr d ↦ inr (up_to_back l d) ];
+    second = second;
+  };
+}
+  where
+    whole : lits ≡ u.first ∷ k.added
+    whole = k.is ∙ ap (λ (ls : List ℤ). ls ++ k.added) u.is
+
+    cases : (l : ℤ) → In l lits → (l ≡ u.first) ⊎ In l k.added
+    cases l i = subst (In l) whole i
+
+    at_place : (l : ℤ) → In l k.added → (p : ℕ) × (p < length es) × (level_of es p ≤ back) × (l ≡ false_at es p)
+    at_place l i = let (p, there, is) = k.added_from l i in (p, u.analysis.below p there, u.above p there, is)
+
+    up_to_back : (l : ℤ) → In l k.added → In (neg_ℤ l) (trues (keep back es))
+    up_to_back l i = let (p, lt, le, is) = at_place l i in subst (λ (m : ℤ). In (neg_ℤ m) (trues (keep back es))) (sym is) (false_kept es p back lt le)
+
+    all_false : AllFalse (trues es) lits
+    all_false l i = elim (cases l i) [
+      | inl s ↦ subst (λ (m : ℤ). In (neg_ℤ m) (trues es)) (sym s) u.is_false
+      | inr d ↦ lit-keep_in back es (neg_ℤ l) (up_to_back l d)
+    ]
+
+    none_true : (m : ℤ) → In m lits → ¬ In m (trues (oldest (length es) es))
+    none_true m i t = trail_consistent vars es trail m (subst (λ (xs : List Entry). In m (trues xs)) (oldest_all es) t) (all_false m i)
+
+    second : 0 < back → HasSecond es lits u.first back
+    second up =
+        let (p, there, is) = u.reached up in
+        let lt = u.analysis.below p there in
+        let kept : In (false_at es p) k.added = elim (k.all p there (omega (arith, is, up))) [ inl never ↦ absurd never | inr done ↦ done ] in
+        let less = u.below in
+        record {
+          one = false_at es p;
+          has = subst (In (false_at es p)) (sym whole) (inr kept);
+          other = λ s.
+              u.unset.not_false
+              (subst (λ (m : ℤ). In (neg_ℤ m) (trues (before_last es))) s (lit-keep_more back (top es - 1) es (neg_ℤ (false_at es p)) (omega (arith, less)) (up_to_back (false_at es p) kept)));
+          still_open = false_open vars es p (back - 1) trail lt (omega (arith, is, up));
+        }

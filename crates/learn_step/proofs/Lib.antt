@@ -1,0 +1,6 @@
+pub mod Backward
+pub mod PlaceLemmas
+pub mod AnalysisLemmas
+pub mod CoreLemmas
+pub mod LearntLemmas
+pub mod RowLemmas

@@ -1,0 +1,76 @@
+-- What holds of a clause on its way down the trail, by resolution with reasons (GRASP: Marques-Silva and Sakallah 1999).
+use Rattle.std.specs.Prelude.{◌≡◌, ◌⊎◌, ℕ, ◌<◌, ◌≤◌, List, [], ◌∷◌, ◌++◌, reverse, length, ℤ, neg_ℤ, Some}
+use Rattle.gm_base.specs.Members.{In}
+use Rattle.gm_base.specs.Derivation.{clause_of}
+use Rattle.gm_base.specs.Database.{StoredClause, known_of}
+use Rattle.gm_base.specs.Units.{IsUnset}
+use Rattle.trail_book.specs.declared.entry.Entry.{Entry}
+use Rattle.trail_book.specs.Trail.{trues, top, oldest}
+use Rattle.learn_step.specs.Reasons.{before_last, IsDecision}
+use Rattle.learn_step.specs.Learnt.{IsUsed}
+use Rattle.learn_step.specs.Leading.{Leads}
+use Rattle.learn_step.specs.Places.{false_at, level_of, AreBelow, at_hand, HasPlaces}
+
+-- the clause of this id was brought in: its literals that are false below a place, and its id as a hint
+pub record IsBroughtIn (db : List StoredClause) (es : List Entry) (id below : ℕ) (old new hints more : List ℕ) : Type 0 where
+  pub clause : List ℤ
+  pub named : clause_of (known_of db) id ≡ Some clause
+  pub places : HasPlaces es clause below old new
+  pub hint : more ≡ hints ++ id ∷ []
+
+-- the clause follows by its hints, the last one first, along values that are older than the count; what is still to be
+-- looked at is older, too
+pub record IsAnalysis (db : List StoredClause) (es : List Entry) (count : ℕ) (places : List ℕ) (lits : List ℤ) (hints : List ℕ) : Type 0 where
+  pub leads : Leads (known_of db) (trues (oldest count es)) (at_hand es places lits) (reverse hints)
+  pub used : (l : ℤ) → In l (at_hand es places lits) → IsUsed db l
+  pub below : AreBelow places count
+
+-- a place of the top level
+abbrev pub HasTop : List Entry → List ℕ → Type 0
+HasTop es places = (p : ℕ) × In p places × (level_of es p ≡ top es)
+
+-- on the way to the first unique implication point: no literal was kept yet, and one is of the top level
+pub record IsAboveUip (db : List StoredClause) (es : List Entry) (places : List ℕ) (lits : List ℤ) (hints : List ℕ) : Type 0 where
+  pub analysis : IsAnalysis db es (length es) places lits hints
+  pub none_kept : lits ≡ []
+  pub some_top : HasTop es places
+
+-- at the first unique implication point: its literal alone was kept, and this is the highest level of the others
+pub record IsAtUip (db : List StoredClause) (es : List Entry) (places : List ℕ) (lits : List ℤ) (hints : List ℕ) (back : ℕ) : Type 0 where
+  pub analysis : IsAnalysis db es (length es) places lits hints
+  pub first : ℤ
+  pub is : lits ≡ first ∷ []
+  pub is_false : In (neg_ℤ first) (trues es)
+  pub unset : IsUnset (trues (before_last es)) first
+  pub below : back < top es
+  pub above : (p : ℕ) → In p places → level_of es p ≤ back
+  pub reached : 0 < back → (p : ℕ) × In p places × (level_of es p ≡ back)
+
+-- the place is one of these, or of level 0
+abbrev pub IsFrom : List Entry → List ℕ → ℕ → Type 0
+IsFrom es places p = In p places ⊎ (level_of es p ≡ 0)
+
+-- the literal is false by the value at one of these places
+abbrev pub IsFalseAt : List Entry → List ℕ → ℤ → Type 0
+IsFalseAt es places lit = (p : ℕ) × In p places × (lit ≡ false_at es p)
+
+-- what was looked at after the first unique implication point: the literals above level 0 are kept, the others resolved
+pub record AreKept (es : List Entry) (first : List ℕ) (before : List ℤ) (places : List ℕ) (lits : List ℤ) : Type 0 where
+  pub added : List ℤ
+  pub is : lits ≡ before ++ added
+  pub places_from : (p : ℕ) → In p places → IsFrom es first p
+  pub added_from : (l : ℤ) → In l added → IsFalseAt es first l
+  pub all : (p : ℕ) → In p first → 0 < level_of es p → In p places ⊎ In (false_at es p) added
+
+-- on the way down to the decisions: beside what a core begins with, which became true after all that the analysis uses,
+-- negated decisions are kept
+pub record IsCoreAnalysis (db : List StoredClause) (es : List Entry) (start : List ℤ) (places : List ℕ) (lits : List ℤ) (hints : List ℕ) : Type 0 where
+  pub count : ℕ
+  pub within : count ≤ length es
+  pub analysis : IsAnalysis db es count places lits hints
+  pub negated : List ℤ
+  pub is : lits ≡ start ++ negated
+  pub decided : (l : ℤ) → In l negated → IsDecision es (neg_ℤ l)
+  pub start_unset : (l : ℤ) → In l start → ¬ In l (trues (oldest count es))
+  pub start_true : (l : ℤ) → In l start → In l (trues es)
+  pub start_forced : (l : ℤ) → In l start → ¬ IsDecision es l

@@ -1,0 +1,6 @@
+pub mod Reasons
+pub mod Learnt
+pub mod Places
+pub mod Leading
+pub mod Analysis
+pub mod Rows

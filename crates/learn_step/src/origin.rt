@@ -1,0 +1,11 @@
+//! What a core begins with.
+use gm_base::Lit;
+
+/// What was found false under assumptions.
+#[derive(Clone, Copy, Debug)]
+pub enum Origin {
+    /// The clause of this id.
+    Conflict(u64),
+    /// This assumption.
+    Assumption(Lit),
+}
