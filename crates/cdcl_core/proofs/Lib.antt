@@ -1,0 +1,7 @@
+pub mod SearchLemmas
+pub mod StateLemmas
+pub mod UnitLemmas
+pub mod AssignLemmas
+pub mod RootLemmas
+pub mod RoundLemmas
+pub mod TestLemmas

@@ -1,0 +1,11 @@
+use Rattle.std.proofs.Common.{◌≡◌, ℤ, length, true}
+use Rattle.gm_base.specs.Members.{In}
+use Rattle.gm_base.specs.Literals.{literal_true}
+use Rattle.trail_book.specs.Trail.{trues, oldest}
+use Rattle.cdcl_core.proofs.decisions.assignment.Given as goal
+
+abbrev pub invariant-loop-place : goal.invariant-loop-place
+invariant-loop-place l = record {
+  len : length l.assign ≡ l.trail.vars;
+  values : (lit : ℤ) → In lit (trues (oldest l.place l.trail.entries)) → literal_true l.assign lit ≡ true;
+}

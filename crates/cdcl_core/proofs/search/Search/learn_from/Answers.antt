@@ -1,0 +1,99 @@
+use Rattle.std.proofs.Common.{◌≡◌, ◌∷◌, [], ◌++◌, ◌-◌, arith, subst, sym, ap, ◌∙◌, List, length, ℕ, Some, None, inl, inr}
+use Rattle.std.specs.Prelude.{ℤ, true}
+use Rattle.gm_base.specs.Members.{In}
+use Rattle.gm_base.specs.Literals.{IsLiteral, AreLiterals}
+use Rattle.gm_base.specs.Units.{IsUnset}
+use Rattle.trail_book.specs.declared.entry.Entry.{Entry}
+use Rattle.trail_book.specs.Trail.{trues, keep}
+use Rattle.lrat_steps.specs.Log.{LogStep, Learned}
+use Rattle.cdcl_core.specs.Answers.{IsPaid}
+use Rattle.cdcl_core.proofs.SearchLemmas.{sound_reasoned}
+use Rattle.cdcl_core.proofs.StateLemmas.{conflict_of, learned_state, learned_recorded, learned_first, reached_below, paid_learned, state_is, first_is, literals_from, used_literal}
+use Rattle.cdcl_core.proofs.search.Search.learn_from.Goals as goal
+
+pub learn-requires-clause-reasoned : goal.learn-requires-clause-reasoned
+learn-requires-clause-reasoned c =
+    let s = c.args.self.now in sound_reasoned s.store.clauses c.args.assumed.now s.assumed_levels s.trail.entries c.requires.search.state.sound
+
+-- nothing was left to propagate before the last decision, so the falsified clause has a literal of the top level
+pub learn-requires-clause-conflict : goal.learn-requires-clause-conflict
+learn-requires-clause-conflict c =
+    let s = c.args.self.now in
+    conflict_of s.trail.vars s.store.clauses s.log s.trail.entries c.args.assumed.now s.assumed_levels c.args.id c.requires.search.state c.requires.falsified c.requires.choice
+
+pub add_step-requires : goal.add_step-requires
+add_step-requires c =
+    let s = c.args.self.now in
+    let lits = c.in_ok-learnt.learnt.lits.items in
+    let used = c.in_ok-learnt.ensures.used in
+    let over : (l : ℤ) → In l lits → IsLiteral s.trail.vars l = λ l i. used_literal s.trail.vars s.store.clauses l c.requires.search.state.recorded.over (used l i) in
+    subst (λ (n : ℕ). AreLiterals n c.deref.result.now) (sym c.requires.search.vars) (subst (AreLiterals s.trail.vars) (sym c.deref.ensures.value) (literals_from s.trail.vars lits over))
+
+pub assign-requires-clause-unset : goal.assign-requires-clause-unset
+assign-requires-clause-unset c =
+    let s = c.args.self.now in
+    let learnt = c.in_ok-learnt.learnt in
+    let r = c.in_ok-learnt.ensures in
+    let first = first_is learnt.lits.items r.rest c.index.result.now r.first r.is c.index.ensures in
+    let lit =
+    learned_first s.trail.vars s.store.clauses s.log s.trail.entries c.args.assumed.now s.assumed_levels learnt.back_level learnt.lits.items learnt.hints.items c.requires.search.state r in
+    subst (λ (xs : List Entry). IsUnset (trues xs) c.index.result.now) (sym c.back_to.ensures.entries) (subst (IsUnset (trues (keep learnt.back_level s.trail.entries))) (sym first) lit.0)
+
+pub assign-requires-clause-lit : goal.assign-requires-clause-lit
+assign-requires-clause-lit c =
+    let s = c.args.self.now in
+    let learnt = c.in_ok-learnt.learnt in
+    let r = c.in_ok-learnt.ensures in
+    let first = first_is learnt.lits.items r.rest c.index.result.now r.first r.is c.index.ensures in
+    let lit =
+    learned_first s.trail.vars s.store.clauses s.log s.trail.entries c.args.assumed.now s.assumed_levels learnt.back_level learnt.lits.items learnt.hints.items c.requires.search.state r in
+    subst (λ (n : ℕ). IsLiteral n c.index.result.now) (sym c.back_to.ensures.vars) (subst (IsLiteral s.trail.vars) (sym first) lit.1)
+
+pub returns-clause-search : goal.returns-clause-search
+returns-clause-search c =
+    let s = c.args.self.now in
+    let db = s.store.clauses in
+    let es = s.trail.entries in
+    let assumed = c.args.assumed.now in
+    let count = s.assumed_levels in
+    let lits = c.in_ok-learnt.learnt.lits.items in
+    let hints = c.in_ok-learnt.learnt.hints.items in
+    let back = c.in_ok-learnt.learnt.back_level in
+    let r = c.in_ok-learnt.ensures in
+    let id = c.in_ok-reason.reason in
+    let hints_are : c.deref-2.result.now ≡ hints = cc in
+    let logged : c.add_step.new.log ≡ s.log ++ Learned lits hints ∷ [] =
+    c.in_ok-reason.ensures.logged ∙ ap (λ (ls : List ℤ). s.log ++ Learned ls c.deref-2.result.now ∷ []) c.deref.ensures.value
+    ∙ ap (λ (hs : List ℕ). s.log ++ Learned lits hs ∷ []) hints_are in
+    let stored : c.add_step.new.store.clauses ≡ db ++ record { lits = lits; live = true } ∷ [] =
+    c.in_ok-reason.ensures.stored ∙ ap (λ (ls : List ℤ). db ++ record { lits = ls; live = true } ∷ []) c.deref.ensures.value in
+    let first = first_is lits r.rest c.index.result.now r.first r.is c.index.ensures in
+    let id_is : id ≡ length (db ++ record { lits = lits; live = true } ∷ []) = c.in_ok-reason.ensures.id ∙ ap length stored in
+    let entries : c.assign.new.self.entries ≡ record { lit = r.first; reason = Some id; unit = None } ∷ keep back es =
+    c.assign.ensures.entries ∙ ap (λ (l : ℤ). record { lit = l; reason = Some id; unit = None } ∷ c.back_to.new.self.entries) first
+    ∙ ap (λ (xs : List Entry). record { lit = r.first; reason = Some id; unit = None } ∷ xs) c.back_to.ensures.entries in
+    let vars : c.assign.new.self.vars ≡ s.trail.vars = c.assign.ensures.vars ∙ c.back_to.ensures.vars in
+    let reached =
+    reached_below db assumed count back c.reached_at-self.result es c.requires.search.state.sound r.back.below (elim c.reached_at-self.ensures [ inl none ↦ inl none | inr kept ↦ inr kept.0 ]) in
+    record {
+      vars = c.add_step.ensures.vars ∙ c.requires.search.vars ∙ sym vars;
+      state =
+          state_is s.trail.vars c.assign.new.self.vars c.min-self.result (db ++ record { lits = lits; live = true } ∷ []) c.add_step.new.store.clauses (s.log ++ Learned lits hints ∷ []) c.add_step.new.log
+          (record { lit = r.first; reason = Some id; unit = None } ∷ keep back es) c.assign.new.self.entries assumed vars stored logged entries
+          (learned_state s.trail.vars db s.log es assumed count id back c.min-self.result lits hints c.requires.search.state r c.requires.choice id_is c.min-self.ensures);
+      reached = λ l i. subst (λ (xs : List Entry). In l (trues xs)) (sym entries) (inr (reached l i));
+    }
+
+pub returns-clause-paid : goal.returns-clause-paid
+returns-clause-paid c =
+    let s = c.args.self.now in
+    let left = c.args.purse.now.left in
+    let lits = c.in_ok-learnt.learnt.lits.items in
+    let hints = c.in_ok-learnt.learnt.hints.items in
+    let hints_are : c.deref-2.result.now ≡ hints = cc in
+    let logged : c.add_step.new.log ≡ s.log ++ Learned lits hints ∷ [] =
+    c.in_ok-reason.ensures.logged ∙ ap (λ (ls : List ℤ). s.log ++ Learned ls c.deref-2.result.now ∷ []) c.deref.ensures.value
+    ∙ ap (λ (hs : List ℕ). s.log ++ Learned lits hs ∷ []) hints_are in
+    let recorded =
+    learned_recorded s.trail.vars s.store.clauses s.log s.trail.entries c.args.assumed.now s.assumed_levels c.in_ok-learnt.learnt.back_level lits hints c.requires.search.state c.in_ok-learnt.ensures c.requires.choice in
+    subst (λ (k : List LogStep). IsPaid s.log k left (left - 1)) (sym logged) (paid_learned s.log lits hints left (left - 1) recorded.honest (omega (arith, c.requires.purse)))

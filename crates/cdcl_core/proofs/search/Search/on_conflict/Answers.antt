@@ -1,0 +1,15 @@
+use Rattle.std.proofs.Common.{arith}
+use Rattle.cdcl_core.proofs.StateLemmas.{dry_of}
+use Rattle.cdcl_core.proofs.search.Search.on_conflict.Goals as goal
+
+-- the trail is the list of literals with a choice that makes the clause false
+pub returns-then-purse-eq0-clause-round : goal.returns-then-purse-eq0-clause-round
+returns-then-purse-eq0-clause-round c =
+    let s = c.args.self.now in
+    record {
+      search = c.requires.search;
+      says = (
+        c.if-purse-eq0.true,
+        dry_of s.trail.vars s.store.clauses s.log s.trail.entries c.args.assumed.now s.assumed_levels c.args.id c.requires.search.state c.requires.falsified (omega (arith, c.top.ensures, c.if-top-self.false)),
+      );
+    }

@@ -1,0 +1,21 @@
+use Rattle.cdcl_core.proofs.StateLemmas.{paid_join}
+use Rattle.cdcl_core.proofs.RoundLemmas.{round_at, round_grown_ok}
+use Rattle.cdcl_core.proofs.search.Search.round.Goals as goal
+
+pub returns-in-Conflict-clause-paid : goal.returns-in-Conflict-clause-paid
+returns-in-Conflict-clause-paid c =
+    let left = c.args.purse.now.left in
+    paid_join c.args.self.now.log c.spread.new.self.log c.on_conflict.new.self.log left left c.on_conflict.new.purse.left (c.spread.ensures.paid left) c.on_conflict.ensures.paid
+
+pub returns-in-Fixpoint-clause-round : goal.returns-in-Fixpoint-clause-round
+returns-in-Fixpoint-clause-round c =
+    let left = c.args.purse.now.left in
+    let mid = c.spread.new.self in
+    let new = c.on_fixpoint.new.self in
+    let assumed = c.args.assumed.now in
+    round_grown_ok c.args.self.now mid new assumed left left c.on_fixpoint.result c.in_ok-id.ensures.grows (round_at mid new assumed left c.on_fixpoint.result c.on_fixpoint.ensures.round)
+
+pub returns-in-Fixpoint-clause-paid : goal.returns-in-Fixpoint-clause-paid
+returns-in-Fixpoint-clause-paid c =
+    let left = c.args.purse.now.left in
+    paid_join c.args.self.now.log c.spread.new.self.log c.on_fixpoint.new.self.log left left left (c.spread.ensures.paid left) (c.on_fixpoint.ensures.paid left)

@@ -1,0 +1,7 @@
+use Rattle.gm_base.specs.Literals.{AreLiterals}
+use Rattle.cdcl_core.specs.Answers.{IsConsistent}
+use Rattle.cdcl_core.proofs.TestLemmas.{AreUpTo}
+use Rattle.cdcl_core.proofs.tests.assume.Given as goal
+
+abbrev pub invariant-loop-i : goal.invariant-loop-i
+invariant-loop-i l = record { literals : AreLiterals l.count l.lits.items; up_to : AreUpTo l.i l.lits.items; consistent : IsConsistent l.lits.items }

@@ -1,0 +1,41 @@
+-- What the answers of a solver mean (incremental SAT under assumed literals: Eén and Sörensson 2003).
+use Rattle.std.specs.Prelude.{◌≡◌, ℕ, ◌+◌, ◌-◌, ◌<◌, Bool, true, List, ◌++◌, ℤ, neg_ℤ, length, Some, slice_get}
+use Rattle.gm_base.specs.Members.{In}
+use Rattle.gm_base.specs.Literals.{literal_true, clause_true}
+use Rattle.lrat_steps.specs.Log.{LogStep, Core, db_of, inputs_of, learned_count}
+use Rattle.lrat_steps.specs.Honest.{IsHonest}
+use Rattle.lrat_steps.specs.Undecided.{Undecided}
+use Rattle.cdcl_core.specs.declared.solved.Solved.{Solved}
+use Rattle.cdcl_core.specs.declared.solved.Solved.TheVariants as solved
+
+-- no literal together with its negation
+abbrev pub IsConsistent : List ℤ → Type 0
+IsConsistent lits = (l : ℤ) → In l lits → ¬ In (neg_ℤ l) lits
+
+-- one truth value for each variable, which makes each clause and each assumed literal true
+pub record IsModel (vars : ℕ) (clauses : List (List ℤ)) (assumed : List ℤ) (assign : List Bool) : Type 0 where
+  pub total : length assign ≡ vars
+  pub clauses_true : (c : List ℤ) → In c clauses → clause_true assign c ≡ true
+  pub assumed_true : (l : ℤ) → In l assumed → literal_true assign l ≡ true
+
+-- the step of this id is a core of negated assumed literals only
+pub record IsRefuted (log : List LogStep) (assumed : List ℤ) (id : ℕ) : Type 0 where
+  pub lits : List ℤ
+  pub hints : List ℕ
+  pub from_one : 0 < id
+  pub step : slice_get log (id - 1) ≡ Some (Core lits hints)
+  pub negated : (l : ℤ) → In l lits → In (neg_ℤ l) assumed
+
+-- what the answer says, with so many units left
+abbrev pub Tells : ℕ → List LogStep → List ℤ → ℕ → Solved → Type 0
+Tells vars log assumed left (solved.Sat assign) = IsModel vars (inputs_of log) assumed assign
+Tells vars log assumed left (solved.Unsat id) = IsRefuted log assumed id
+Tells vars log assumed left solved.Dry = (left ≡ 0) × Undecided (db_of log) assumed
+
+-- the log has grown by derived steps and is honest, and the purse has paid a unit for each clause that was learnt
+pub record IsPaid (old new : List LogStep) (before left : ℕ) : Type 0 where
+  pub more : List LogStep
+  pub grown : new ≡ old ++ more
+  pub inputs : inputs_of new ≡ inputs_of old
+  pub honest : IsHonest new
+  pub paid : left + learned_count new ≡ before + learned_count old

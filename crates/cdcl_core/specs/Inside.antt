@@ -1,0 +1,14 @@
+-- What a solver keeps between calls.
+use Rattle.std.specs.Prelude.{◌≡◌, false}
+use Rattle.lrat_steps.specs.Honest.{IsHonest}
+use Rattle.cdcl_core.specs.Solver.{Solver}
+use Rattle.cdcl_core.specs.Search.{IsAtRoot}
+use Rattle.cdcl_core.specs.declared.solver.Solver.TheInside.{Inside}
+
+abbrev pub view_of : Inside → Solver
+view_of a = record { vars = a.search.trail.vars; log = a.search.log; broken = a.broken }
+
+-- the log is honest, and the trail is at level 0, but where memory was wanting
+pub record IsSolver (a : Inside) : Type 0 where
+  pub honest : IsHonest a.search.log
+  pub at_root : a.broken ≡ false → IsAtRoot a.search

@@ -1,0 +1,5 @@
+pub mod Solver
+pub mod Answers
+pub mod State
+pub mod Search
+pub mod Inside

@@ -1,0 +1,103 @@
+//! Conflicts.
+//!
+//! A falsified clause ends the search where no choice stands, with a core, and where no unit is left. Otherwise a
+//! clause is learnt from it, its unit is paid, and the trail goes back to the level where the learnt clause is unit, so
+//! that its first literal follows there. The step is logged before the unit is paid, and nothing after that can fail.
+ghost use Rattle.std.specs.Prelude.{◌≡◌, ◌⊎◌, ℕ, ◌+◌, ◌<◌, ◌≤◌, ℤ, neg_ℤ, IfOk, OnOk};
+ghost use Rattle.gm_base.specs.Members.{In};
+ghost use Rattle.gm_base.specs.Units.{IsFalsified};
+ghost use Rattle.trail_book.specs.Trail.{trues, top};
+ghost use Rattle.learn_step.specs.Reasons.{IsFalse};
+ghost use Rattle.learn_step.specs.Learnt.{start_of};
+ghost use Rattle.cdcl_core.specs.Answers.{IsPaid, IsRefuted};
+ghost use Rattle.cdcl_core.specs.Search.{IsSearch, IsRound};
+
+use crate::search::Search;
+use crate::solved::Solved;
+use crate::steps::{add_step, log_core};
+use gm_base::{Lit, Purse};
+use learn_step::{Origin, learn};
+use lrat_steps::LogStep;
+use std::alloc::{AllocError, Global};
+
+// How many assumed literals are known to be true after going back to a level. Below a choice they all are.
+fn reached_at(level: u32, assumed_levels: u32, reached: usize) -> usize
+    ensures { (result ≡ 0) ⊎ ((assumed_levels ≤ level) × (result ≡ reached)) }
+{
+    if level < assumed_levels { 0 } else { reached }
+}
+
+impl Search {
+    /// Ends where only assumed literals are decided or no unit is left, and learns from the conflict otherwise.
+    pub fn on_conflict(
+        &mut self,
+        alloc: Global,
+        assumed: &[Lit],
+        purse: &mut Purse,
+        id: u64,
+    ) -> Result<Option<Solved>, AllocError>
+        requires search { IsSearch self.old assumed.now }
+        requires falsified { IsFalsified self.old.store.clauses (trues self.old.trail.entries) id }
+        ensures round { IfOk result (λ answer. IsRound self.old self.new assumed.now purse.old.left purse.new.left answer) }
+        ensures paid { IsPaid self.old.log self.new.log purse.old.left purse.new.left }
+        ensures vars { self.new.trail.vars ≡ self.old.trail.vars }
+    {
+        if self.trail.top() <= self.assumed_levels {
+            let core = self.refute(alloc, assumed, Origin::Conflict(id))?;
+            return Ok(Some(Solved::Unsat(core)));
+        }
+        if purse.left == 0 {
+            return Ok(Some(Solved::Dry));
+        }
+        self.learn_from(alloc, assumed, purse, id)?;
+        Ok(None)
+    }
+
+    // Learns a clause, and goes back to the level where it forces its first literal.
+    fn learn_from(
+        &mut self,
+        alloc: Global,
+        assumed: &[Lit],
+        purse: &mut Purse,
+        id: u64,
+    ) -> Result<(), AllocError>
+        requires search { IsSearch self.old assumed.now }
+        requires falsified { IsFalsified self.old.store.clauses (trues self.old.trail.entries) id }
+        requires choice { self.old.assumed_levels < top self.old.trail.entries }
+        requires purse { 0 < purse.old.left }
+        ensures search { OnOk result (IsSearch self.new assumed.now) }
+        ensures unit { OnOk result (purse.new.left + 1 ≡ purse.old.left) }
+        ensures paid { IsPaid self.old.log self.new.log purse.old.left purse.new.left }
+        ensures vars { self.new.trail.vars ≡ self.old.trail.vars }
+    {
+        let learnt = learn(alloc, &self.store, &self.trail, id)?;
+        let step = LogStep::Learned(&learnt.lits, &learnt.hints);
+        let reason = add_step(&mut self.log, &mut self.store, step)?;
+        purse.left -= 1;
+        self.assumed_true = reached_at(learnt.back_level, self.assumed_levels, self.assumed_true);
+        self.assumed_levels = self.assumed_levels.min(learnt.back_level);
+        self.trail.back_to(learnt.back_level);
+        self.trail.assign(learnt.lits[0], reason);
+        Ok(())
+    }
+
+    /// Logs the core of what is false, where only assumed literals are decided.
+    pub fn refute(
+        &mut self,
+        alloc: Global,
+        assumed: &[Lit],
+        origin: Origin,
+    ) -> Result<u64, AllocError>
+        requires search { IsSearch self.old assumed.now }
+        requires levels { top self.old.trail.entries ≤ self.old.assumed_levels }
+        requires is_false { IsFalse self.old.store.clauses self.old.trail.entries origin }
+        requires start { (lit : ℤ) → In lit (start_of origin) → In (neg_ℤ lit) assumed.now }
+        ensures refuted { IfOk result (λ id. IsRefuted self.new.log assumed.now id) }
+        ensures search { OnOk result (IsSearch self.new assumed.now) }
+        ensures paid { (left : ℕ) → IsPaid self.old.log self.new.log left left }
+        ensures vars { self.new.trail.vars ≡ self.old.trail.vars }
+    {
+        let id = log_core(alloc, &mut self.log, &mut self.store, &self.trail, origin)?;
+        Ok(id)
+    }
+}

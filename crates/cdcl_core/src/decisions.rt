@@ -1,0 +1,111 @@
+//! Decisions.
+//!
+//! Where nothing is left to propagate, the assumed literals are decided in their order, and then variables without
+//! value, in the order that the turn began. Which assumed literals are true is not asked again for each decision: the
+//! search remembers how far they all are, and forgets it only where it goes back below them.
+ghost use Rattle.std.specs.Prelude.{◌≡◌, ℕ, ℤ, length, take, true, IfOk, IfSome};
+ghost use Rattle.gm_base.specs.Members.{In};
+ghost use Rattle.gm_base.specs.Literals.{AreLiterals, IsLiteral, literal_true};
+ghost use Rattle.gm_base.specs.Units.{AllTrue, IsFixpoint, HasValue};
+ghost use Rattle.trail_book.specs.Trail.{trues};
+ghost use Rattle.cdcl_core.specs.Answers.{IsConsistent, IsPaid};
+ghost use Rattle.cdcl_core.specs.Search.{IsSearch, IsRound, IsNext};
+
+use crate::search::Search;
+use crate::solved::Solved;
+use gm_base::{Assign, Lit};
+use learn_step::Origin;
+use std::alloc::{AllocError, Global};
+use trail_book::Trail;
+
+/// What is to be done where nothing is left to propagate.
+#[derive(Clone, Copy)]
+pub enum Next {
+    /// To decide this assumed literal.
+    Assume(Lit),
+    /// To give up, since this assumed literal is false.
+    Failed(Lit),
+    /// To decide this literal, since all assumed ones are true.
+    Choose(Lit),
+    /// To answer, since each variable has a value.
+    Full,
+}
+
+// Moves over the assumed literals that are true, from place `reached` on.
+fn next_decision(trail: &mut Trail, assumed: &[Lit], reached: &mut usize) -> Next
+    requires literals { AreLiterals trail.old.vars assumed.now }
+    requires reached { AllTrue (trues trail.old.entries) (take reached.old assumed.now) }
+    ensures next { IsNext trail.old.vars assumed.now (trues trail.old.entries) result }
+    ensures reached { AllTrue (trues trail.old.entries) (take reached.new assumed.now) }
+    ensures same { trail.new ≡ trail.old }
+{
+    while *reached < assumed.len() {
+        let lit = assumed[*reached];
+        match trail.value(lit) {
+            None => {
+                return Next::Assume(lit);
+            }
+            Some(false) => {
+                return Next::Failed(lit);
+            }
+            Some(true) => {
+                *reached += 1;
+            }
+        }
+    }
+    match trail.pick() {
+        Some(lit) => Next::Choose(lit),
+        None => Next::Full,
+    }
+}
+
+// The values of the trail, and false where there is none.
+fn assignment(alloc: Global, trail: &Trail) -> Result<Assign, AllocError>
+    ensures len { IfOk result (λ assign. length assign ≡ trail.now.vars) }
+    ensures values { IfOk result (λ assign. (lit : ℤ) → In lit (trues trail.now.entries) → literal_true assign lit ≡ true) }
+{
+    let mut assign = Assign::all_false(alloc, trail.vars())?;
+    for place in 0..trail.len() {
+        let lit = trail.at(place);
+        assign.set(lit.var(), lit.is_positive());
+    }
+    Ok(assign)
+}
+
+impl Search {
+    /// Decides the next assumed literal, or else a variable without value; ends where there is none, or where an
+    /// assumed literal is false.
+    pub fn on_fixpoint(
+        &mut self,
+        alloc: Global,
+        assumed: &[Lit],
+    ) -> Result<Option<Solved>, AllocError>
+        requires search { IsSearch self.old assumed.now }
+        requires fixpoint { IsFixpoint self.old.store.clauses (trues self.old.trail.entries) }
+        requires literals { AreLiterals self.old.trail.vars assumed.now }
+        requires consistent { IsConsistent assumed.now }
+        ensures round { IfOk result (λ answer. (left : ℕ) → IsRound self.old self.new assumed.now left left answer) }
+        ensures paid { (left : ℕ) → IsPaid self.old.log self.new.log left left }
+        ensures vars { self.new.trail.vars ≡ self.old.trail.vars }
+    {
+        match next_decision(&mut self.trail, assumed, &mut self.assumed_true) {
+            Next::Assume(lit) => {
+                self.trail.decide(lit);
+                self.assumed_levels = self.trail.top();
+                Ok(None)
+            }
+            Next::Failed(lit) => {
+                let core = self.refute(alloc, assumed, Origin::Assumption(lit))?;
+                Ok(Some(Solved::Unsat(core)))
+            }
+            Next::Choose(lit) => {
+                self.trail.decide(lit);
+                Ok(None)
+            }
+            Next::Full => {
+                let assign = assignment(alloc, &self.trail)?;
+                Ok(Some(Solved::Sat(assign)))
+            }
+        }
+    }
+}

@@ -1,0 +1,34 @@
+//! A conflict-driven clause-learning solver that logs what it derives, and pays for each clause that it learns.
+//!
+//! ```text
+//! let mut solver = Solver::new(alloc, 3)?;
+//! solver.add(alloc, &[x.negated(), y])?;
+//! match solver.solve(alloc, &[x], 0, &mut purse)? {
+//!     Solved::Sat(assign) => ..,  // each clause is true, and so is x
+//!     Solved::Unsat(id) => ..,    // step `id` of solver.log() is a clause of negated assumed literals
+//!     Solved::Dry => ..,          // no unit is left, and the clauses are undecided
+//! }
+//! ```
+//!
+//! Clauses stay, and so do the learnt ones and the literals of level 0: a later search goes on from there. One call
+//! costs what it searches and, where it ends with a model, a value for each variable.
+//!
+//! Start with [`Solver`], whose contracts are in the words of `specs/Answers.antt`. The loop is in `search.rt`, where
+//! the head says what holds in each round and why that suffices (`specs/State.antt`). `conflicts.rt` and `decisions.rt`
+//! are the two ways on from there, `units.rt` logs what holds at level 0, and `steps.rt` keeps log and clauses in step.
+//!
+//! Not said here: how many units a search needs, which model or core it finds, and that memory suffices.
+#![tactic(auto)]
+
+mod conflicts;
+mod decisions;
+mod search;
+mod solved;
+mod solver;
+mod steps;
+#[cfg(test)]
+mod tests;
+mod units;
+
+pub use solved::Solved;
+pub use solver::Solver;

@@ -1,0 +1,131 @@
+//! The search.
+//!
+//! Conflict-driven clause learning (Marques-Silva and Sakallah 1999), in rounds: propagate, and then either learn a
+//! clause from the conflict and go back, or decide. Assumed literals are decided first, each at a level of its own (Eén
+//! and Sörensson 2003), and the levels above them are choices. In each round the following holds.
+//!
+//! - The clauses of the store are those of the log's steps, and the log is honest.
+//! - A literal of the trail was decided, or the clause of its reason and a live clause force it.
+//! - **Before each decision nothing was left to propagate:** no live clause was falsified or unit.
+//! - A decision up to level `assumed_levels` is an assumed literal. Before any other decision all assumed ones were
+//!   true.
+//!
+//! Why each learnt clause is new, so that no unit of the purse is spent on one that is known: it has one literal of the
+//! top level, so all its others were false before the last decision. A live clause within it would have been falsified
+//! or unit there. And why the third fact stays true: after going back, two literals of the learnt clause have no value
+//! below the level that is left, the one that it forces and one of that level.
+//!
+//! Why a core follows: while no level is a choice, what is falsified is so by propagation from assumed literals alone.
+//! Where a choice stands and no unit is left, the trail itself shows that the clauses are undecided.
+//!
+//! It ends, since each round pays a unit or gives one more variable a value.
+ghost use Rattle.std.specs.Prelude.{◌≡◌, ℕ, ◌≤◌, length, IfOk, OnOk};
+ghost use Rattle.gm_base.specs.Literals.{AreLiterals};
+ghost use Rattle.trail_book.specs.Trail.{trues};
+ghost use Rattle.propagate.specs.Propagation as propagation;
+ghost use Rattle.cdcl_core.specs.Answers.{IsConsistent, IsPaid, Tells};
+ghost use Rattle.cdcl_core.specs.Search.{IsSearch, IsAtRoot, IsRound, Ends};
+
+use crate::solved::Solved;
+use clause_store::Store;
+use gm_base::{Lit, Purse};
+use lrat_steps::Log;
+use propagate::{Propagated, propagate};
+use std::alloc::{AllocError, Global};
+use trail_book::Trail;
+
+/// What a search works on.
+#[derive(Drop)]
+pub struct Search {
+    pub log: Log,
+    pub store: Store,
+    pub trail: Trail,
+    /// How many literals of level 0, the oldest ones, stand in a clause alone: their reason or a unit step.
+    pub rooted: u32,
+    /// The levels up to this one are assumed literals, those above it are choices.
+    pub assumed_levels: u32,
+    /// The assumed literals before this one are true.
+    pub assumed_true: usize,
+}
+
+impl Search {
+    /// Searches under the assumed literals, and goes back to level 0.
+    pub fn run(
+        &mut self,
+        alloc: Global,
+        assumed: &[Lit],
+        turn: u64,
+        purse: &mut Purse,
+    ) -> Result<Solved, AllocError>
+        requires at_root { IsAtRoot self.old }
+        requires literals { AreLiterals self.old.trail.vars assumed.now }
+        requires consistent { IsConsistent assumed.now }
+        ensures answer { IfOk result (λ answer. Tells self.new.trail.vars self.new.log assumed.now purse.new.left answer) }
+        ensures at_root { OnOk result (IsAtRoot self.new) }
+        ensures paid { IsPaid self.old.log self.new.log purse.old.left purse.new.left }
+        ensures vars { self.new.trail.vars ≡ self.old.trail.vars }
+    {
+        self.trail.start_at(turn);
+        self.assumed_levels = 0;
+        self.assumed_true = 0;
+        let answer = self.search(alloc, assumed, purse)?;
+        self.trail.back_to(0);
+        Ok(answer)
+    }
+
+    fn search(
+        &mut self,
+        alloc: Global,
+        assumed: &[Lit],
+        purse: &mut Purse,
+    ) -> Result<Solved, AllocError>
+        requires search { IsSearch self.old assumed.now }
+        requires literals { AreLiterals self.old.trail.vars assumed.now }
+        requires consistent { IsConsistent assumed.now }
+        ensures ends { IfOk result (λ answer. Ends self.new assumed.now purse.new.left answer) }
+        ensures paid { IsPaid self.old.log self.new.log purse.old.left purse.new.left }
+        ensures vars { self.new.trail.vars ≡ self.old.trail.vars }
+    {
+        loop {
+            if let Some(answer) = self.round(alloc, assumed, purse)? {
+                return Ok(answer);
+            }
+        }
+    }
+
+    // Propagates, and then learns from the conflict or decides. Gives the answer where there is one.
+    fn round(
+        &mut self,
+        alloc: Global,
+        assumed: &[Lit],
+        purse: &mut Purse,
+    ) -> Result<Option<Solved>, AllocError>
+        requires search { IsSearch self.old assumed.now }
+        requires literals { AreLiterals self.old.trail.vars assumed.now }
+        requires consistent { IsConsistent assumed.now }
+        ensures round { IfOk result (λ answer. IsRound self.old self.new assumed.now purse.old.left purse.new.left answer) }
+        ensures paid { IsPaid self.old.log self.new.log purse.old.left purse.new.left }
+        ensures vars { self.new.trail.vars ≡ self.old.trail.vars }
+    {
+        match self.spread(alloc, assumed)? {
+            Propagated::Conflict(id) => self.on_conflict(alloc, assumed, purse, id),
+            Propagated::Fixpoint => self.on_fixpoint(alloc, assumed),
+        }
+    }
+
+    // Propagates, and at level 0 logs unit steps.
+    fn spread(&mut self, alloc: Global, assumed: &[Lit]) -> Result<Propagated, AllocError>
+        requires { IsSearch self.old assumed.now }
+        ensures tells { IfOk result (λ told. propagation.Tells self.new.store.clauses (trues self.new.trail.entries) told) }
+        ensures search { OnOk result (IsSearch self.new assumed.now) }
+        ensures grows { OnOk result (length self.old.trail.entries ≤ length self.new.trail.entries) }
+        ensures paid { (left : ℕ) → IsPaid self.old.log self.new.log left left }
+        ensures vars { self.new.trail.vars ≡ self.old.trail.vars }
+    {
+        let told = propagate(&self.store, &mut self.trail);
+        if self.trail.top() == 0 {
+            self.log_units(alloc)?;
+        }
+        Ok(told)
+    }
+}

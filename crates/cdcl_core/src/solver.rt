@@ -1,0 +1,130 @@
+//! The solver.
+//!
+//! Between calls the trail is at level 0. Where a search wanted memory, the log is honest still, but the rest may be
+//! amid a step: the solver is broken then, and takes no further clause or search.
+ghost use Rattle.std.specs.Prelude.{◌≡◌, ◌<◌, ◌^◌, ◌++◌, ◌∷◌, [], true, false, IfOk, OnOk, OnErr, IsErr};
+ghost use Rattle.gm_base.specs.Literals.{AreLiterals};
+ghost use Rattle.lrat_steps.specs.Log.{Input};
+ghost use Rattle.lrat_steps.specs.Honest.{IsHonest};
+ghost use Rattle.cdcl_core.specs.Answers.{IsConsistent, IsPaid, Tells};
+
+use crate::search::Search;
+use crate::solved::Solved;
+use crate::steps::add_step;
+use clause_store::Store;
+use gm_base::{Lit, Purse};
+use lrat_steps::{Log, LogStep};
+use std::alloc::{AllocError, Global};
+use std::marker::Model;
+use trail_book::Trail;
+
+/// Clauses, and the log of what was derived from them.
+#[derive(Drop)]
+pub struct Solver {
+    search: Search,
+    broken: bool,
+}
+
+impl Model for Solver {
+    ghost use Rattle.cdcl_core.specs.Solver.{Solver};
+
+    ghost Value = { Solver };
+
+    ghost use Rattle.cdcl_core.specs.Inside.{view_of, IsSolver};
+
+    ghost view = { view_of };
+
+    ghost invariant = { IsSolver };
+}
+
+impl Solver {
+    /// A solver without clauses, for literals over the variables 1 to `vars`.
+    pub fn new(alloc: Global, vars: u32) -> Result<Solver, AllocError>
+        requires { vars < 2 ^ 31 }
+        ensures { IfOk result (λ solver. solver ≡ record { vars = vars; log = []; broken = false }) }
+    {
+        let search = Search {
+            log: Log::new(alloc),
+            store: Store::new(alloc, vars)?,
+            trail: Trail::new(alloc, vars)?,
+            rooted: 0,
+            assumed_levels: 0,
+            assumed_true: 0,
+        };
+        Ok(Solver {
+            search,
+            broken: false,
+        })
+    }
+
+    /// The last variable of its literals.
+    pub fn vars(&self) -> u32
+        ensures vars { result ≡ self.now.vars }
+        ensures small { result < 2 ^ 31 }
+    {
+        self.search.trail.vars()
+    }
+
+    /// Adds a clause. After want of memory in a search it adds none.
+    pub fn add(&mut self, alloc: Global, lits: &[Lit]) -> Result<(), AllocError>
+        requires { AreLiterals self.old.vars lits.now }
+        ensures ok { OnOk result (self.new ≡ record self.old { log = self.old.log ++ Input lits.now ∷ [] }) }
+        ensures err { OnErr result (self.new ≡ self.old) }
+    {
+        if self.broken {
+            return Err(AllocError);
+        }
+        add_step(
+            &mut self.search.log,
+            &mut self.search.store,
+            LogStep::Input(lits),
+        )?;
+        Ok(())
+    }
+
+    /// Searches for an assignment that makes all clauses and the assumed literals true.
+    ///
+    /// A conflict under decisions that are not assumed costs one unit of the purse, and a clause is learnt from it;
+    /// `Dry` where there is no unit left. `turn` turns the order in which variables are decided. After want of memory
+    /// every later search answers want of memory.
+    pub fn solve(
+        &mut self,
+        alloc: Global,
+        assumed: &[Lit],
+        turn: u64,
+        purse: &mut Purse,
+    ) -> Result<Solved, AllocError>
+        requires literals { AreLiterals self.old.vars assumed.now }
+        requires consistent { IsConsistent assumed.now }
+        ensures answer { IfOk result (λ answer. Tells self.new.vars self.new.log assumed.now purse.new.left answer) }
+        ensures paid { IsPaid self.old.log self.new.log purse.old.left purse.new.left }
+        ensures vars { self.new.vars ≡ self.old.vars }
+        ensures stays_broken { self.old.broken ≡ true → IsErr result }
+        ensures breaks { OnErr result (self.new.broken ≡ true) }
+        ensures works { OnOk result (self.new.broken ≡ false) }
+    {
+        if self.broken {
+            return Err(AllocError);
+        }
+        self.broken = true;
+        let answer = self.search.run(alloc, assumed, turn, purse)?;
+        self.broken = false;
+        Ok(answer)
+    }
+
+    /// The log so far.
+    pub fn log(&self) -> &Log
+        ensures log { result.now ≡ self.now.log }
+        ensures honest { IsHonest self.now.log }
+    {
+        &self.search.log
+    }
+
+    /// The log, whose steps all stay.
+    pub fn into_log(self) -> Log
+        ensures log { result ≡ self.log }
+        ensures honest { IsHonest result }
+    {
+        self.search.log
+    }
+}
