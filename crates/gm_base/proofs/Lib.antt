@@ -7,3 +7,6 @@ pub mod TestLemmas
 pub mod DatabaseLemmas
 pub mod WorkLemmas
 pub mod SpanLemmas
+pub mod FollowsLemmas
+pub mod Soundness
+pub mod EvidenceLemmas

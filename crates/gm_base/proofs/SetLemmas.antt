@@ -52,7 +52,7 @@ IsGroupSet-without set gs items g i same ok is past =
     subst IsGroupSet (sym full) (AscendsAbove-filter (λ h. not (eqb h g)) 0 set ok)
 
 -- the groups above g
-AscendsAbove-above : (low g : ℕ) (gs : List ℕ) → AscendsAbove low gs → AscendsAbove g (filter (λ h. ltb g h) gs)
+pub AscendsAbove-above : (low g : ℕ) (gs : List ℕ) → AscendsAbove low gs → AscendsAbove g (filter (λ h. ltb g h) gs)
 AscendsAbove-above low g [] h = tt
 AscendsAbove-above low g (x ∷ xs) h =
     cond_both (ltb g x) (x ∷ filter (λ h. ltb g h) xs) (filter (λ h. ltb g h) xs) (AscendsAbove g)

@@ -1,8 +1,10 @@
 -- Laws of minimal conflicts and corrections.
-use Rattle.std.specs.Prelude.{◌≡◌, ◌↔◌, ℕ, true, List, ◌++◌}
+use Rattle.std.specs.Prelude.{◌≡◌, ◌↔◌, ℕ, Bool, true, List, ◌++◌}
 use Rattle.gm_base.specs.declared.clause.Clause.{Clause}
 use Rattle.gm_base.specs.Sets.{has, IsSubset, IsGroupSet, without, complement}
-use Rattle.gm_base.specs.Problem.{Problem, Sat}
+use Rattle.gm_base.specs.Problem.{Problem, IsProblem, Sat}
+use Rattle.gm_base.specs.Derivation.{Derivation}
+use Rattle.gm_base.specs.Evidence.{AcceptsConflict, AcceptsCorrection}
 use Rattle.gm_base.specs.Minimal.{IsConflict, IsCorrection, is_conflict, is_correction, is_sat}
 
 -- more groups keep unsatisfiability
@@ -36,3 +38,19 @@ TestsDecide =
     → ((is_sat p set ≡ true) ↔ Sat p set)
     × ((is_conflict p set ≡ true) ↔ IsConflict p set)
     × ((is_correction p set ≡ true) ↔ IsCorrection p set)
+
+-- accepted evidence shows a minimal conflict, whoever made it
+abbrev pub ConflictByEvidence : Type 0
+ConflictByEvidence =
+    (p : Problem) (set : List ℕ) (proof : Derivation) (witnesses : List (List Bool))
+    → IsProblem p
+    → AcceptsConflict p set proof witnesses
+    → IsConflict p set
+
+-- accepted evidence shows a minimal correction
+abbrev pub CorrectionByEvidence : Type 0
+CorrectionByEvidence =
+    (p : Problem) (set : List ℕ) (witness : List Bool) (proofs : List Derivation)
+    → IsProblem p
+    → AcceptsCorrection p set witness proofs
+    → IsCorrection p set

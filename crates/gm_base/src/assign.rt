@@ -1,7 +1,7 @@
 //! Assignments.
 //!
 //! An assignment gives each variable a truth value. Contracts see the list of the values, that of variable 1 first.
-ghost use Rattle.std.specs.Prelude.{◌≡◌, ◌<◌, ◌≤◌, ◌-◌, false, IfOk, length, replicate, slice_set};
+ghost use Rattle.std.specs.Prelude.{◌≡◌, ◌<◌, ◌≤◌, ◌-◌, false, IfOk, length, replicate, slice_set, take};
 ghost use Rattle.gm_base.specs.Literals.{AreLiterals, clause_true, literal_true, var_of};
 
 use crate::lit::Lit;
@@ -31,11 +31,27 @@ impl Assign {
         Ok(Assign { values })
     }
 
+    pub fn copy(&self, alloc: Global) -> Result<Assign, AllocError>
+        ensures { IfOk result (λ copy. copy ≡ self.now) }
+    {
+        let values = Vec::from_slice(alloc, self.values.as_slice())?;
+        Ok(Assign { values })
+    }
+
     /// How many variables it has.
     pub fn len(&self) -> usize
         ensures { result ≡ length self.now }
     {
         self.values.len()
+    }
+
+    /// The values of the first variables alone, of so many.
+    pub fn prefix(self, vars: u32) -> Assign
+        ensures { result ≡ take vars self }
+    {
+        let mut values = self.values;
+        values.truncate(vars as usize);
+        Assign { values }
     }
 
     /// Gives a variable, counted from 1, its value.

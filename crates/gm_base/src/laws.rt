@@ -1,5 +1,5 @@
 //! Laws over the definitions alone. Each is the contract of a function that has no code.
-ghost use Rattle.gm_base.specs.Laws.{GroupsKeepUnsat, ClausesKeepUnsat, ConflictBySingles, CorrectionBySingles, TestsDecide};
+ghost use Rattle.gm_base.specs.Laws.{GroupsKeepUnsat, ClausesKeepUnsat, ConflictBySingles, CorrectionBySingles, TestsDecide, ConflictByEvidence, CorrectionByEvidence};
 
 /// More groups keep unsatisfiability.
 pub fn groups_keep_unsat()
@@ -20,4 +20,10 @@ pub fn single_removals()
 /// The tests by which the lists of all conflicts and corrections are filtered decide the facts.
 pub fn tests_decide()
     ensures { TestsDecide }
+{}
+
+/// Accepted evidence shows a minimal conflict or a minimal correction, whoever made it.
+pub fn accepted_is_minimal()
+    ensures conflict { ConflictByEvidence }
+    ensures correction { CorrectionByEvidence }
 {}

@@ -99,6 +99,21 @@ fn problem_holds_for_the_groups_that_an_assignment_satisfies(rt: HostRuntime) ->
 }
 
 #[test]
+fn prefix_has_the_values_of_the_first_variables(rt: HostRuntime) -> Result<(), Fail> {
+    let alloc = rt.alloc();
+    for (vars, wanted) in [(0, 0), (2, 2), (3, 3), (5, 3)] {
+        let mut assign = Assign::all_false(alloc, 3)?;
+        assign.set(2, true);
+        let prefix = assign.prefix(vars);
+        assert_eq!(rt; prefix.len(), wanted, "{vars}");
+        if prefix.len() == 2 {
+            assert!(rt; !prefix.makes_true(Lit::new(1)) && prefix.makes_true(Lit::new(2)));
+        }
+    }
+    Ok(())
+}
+
+#[test]
 fn work_comes_from_the_greatest_number_down_and_each_once(rt: HostRuntime) -> Result<(), Fail> {
     let alloc = rt.alloc();
     let rows: [(&[u64], &[u64]); 4] = [
