@@ -4,3 +4,4 @@ pub mod PlaceLemmas
 pub mod ConeLemmas
 pub mod FollowLemmas
 pub mod TrimLemmas
+pub mod SoundLemmas

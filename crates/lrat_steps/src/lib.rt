@@ -23,10 +23,12 @@
 mod arena;
 mod cone;
 mod log;
+mod logs;
 mod renumber;
 mod step;
 #[cfg(test)]
 mod tests;
 
 pub use log::Log;
+pub use logs::Logs;
 pub use step::{LogStep, StepKind};
