@@ -1,0 +1,9 @@
+pub mod Refusal
+pub mod State
+pub mod Rows
+pub mod Numbers
+pub mod Marks
+pub mod Opened
+pub mod Ids
+pub mod Inner
+pub mod Ready
