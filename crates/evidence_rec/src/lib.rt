@@ -1,0 +1,36 @@
+//! Records of minimal sets, checks of records, and the oracle that records are made by.
+//!
+//! A [`Record`] is a set of groups with the evidence that it is a minimal conflict or a minimal correction: refutations,
+//! each a derivation from the clauses with their selectors, and assignments as witnesses. Whoever made it, [`check_record`]
+//! says whether the evidence shows what the record says, or which of its lines is refused first, and why:
+//!
+//! ```text
+//! match check_record(alloc, &problem, &record)? {
+//!     Verdict::Ok => ..,                    // the set is minimal, by the contract
+//!     Verdict::Refused { part, why } => .., // the record's line `part` is wrong
+//! }
+//! ```
+//!
+//! A [`RecordChecker`] is made once for many records about one problem. An [`Oracle`] answers whether groups can be
+//! satisfied together, and derives its refutations.
+//!
+//! Start reading at `specs/Records.antt` and `specs/Refusals.antt`, which say what a record means and what it is refused
+//! for, and at `specs/Rows.antt`, which has a row for each reason. How the sets are found, and how records are written as
+//! text, is not for this crate.
+#![tactic(auto)]
+
+mod checking;
+mod lines;
+mod lists;
+mod oracle;
+mod record;
+mod refutation;
+mod selectors;
+#[cfg(test)]
+mod tests;
+mod witnessing;
+
+pub use checking::{RecordChecker, Verdict, check_record};
+pub use lists::{Proofs, Witnesses};
+pub use oracle::{Asked, Oracle};
+pub use record::Record;

@@ -1,0 +1,52 @@
+//! Witnesses.
+ghost use Rattle.std.specs.Prelude.{◌≡◌, All, IfOk, length, List, Bool};
+ghost use Rattle.gm_base.specs.Sets.{IsGroupSet};
+ghost use Rattle.evidence_rec.specs.Refusals.{at_line, witness_refusal, witnesses_refusal};
+ghost use Rattle.evidence_rec.specs.Verdicts.{refusal_by};
+
+use crate::checking::Verdict;
+use crate::lines::line_behind;
+use crate::lists::Witnesses;
+use gm_base::{Assign, GroupSet, Problem};
+use lrat_check::Why;
+use std::alloc::{AllocError, Global};
+
+/// Whether an assignment, at this line, satisfies the background and the set.
+pub fn witness_verdict(problem: &Problem, set: &GroupSet, witness: &Assign, part: u64) -> Verdict
+    requires { length witness.now ≡ problem.now.vars }
+    ensures { refusal_by result ≡ at_line part (witness_refusal problem.now set.now witness.now) }
+{
+    if problem.holds(set, witness) {
+        Verdict::Ok
+    } else {
+        Verdict::Refused {
+            part,
+            why: Why::WitnessFails,
+        }
+    }
+}
+
+/// Whether the witnesses of a conflict, whose first line is `line`, satisfy what they have to, one for each group in order.
+pub fn witnesses_verdict(
+    alloc: Global,
+    problem: &Problem,
+    set: &GroupSet,
+    witnesses: &Witnesses,
+    line: u64,
+) -> Result<Verdict, AllocError>
+    requires shaped { length witnesses.now ≡ length set.now }
+    requires values { All (λ (w : List Bool). length w ≡ problem.now.vars) witnesses.now }
+    ensures answer { IfOk result (λ v. refusal_by v ≡ witnesses_refusal problem.now set.now line set.now witnesses.now) }
+    ensures is_set { IsGroupSet set.now }
+{
+    let groups = set.as_slice();
+    for at in 0..groups.len() {
+        let others = set.without(alloc, groups[at])?;
+        let part = line_behind(line, at)?;
+        let verdict = witness_verdict(problem, &others, witnesses.at(at), part);
+        if !verdict.is_ok() {
+            return Ok(verdict);
+        }
+    }
+    Ok(Verdict::Ok)
+}
