@@ -1,0 +1,45 @@
+use Rattle.std.proofs.Common.{◌≡◌, ◌+◌, take, get_or, subst, sym, ◌∙◌, arith}
+use Rattle.std.proofs.lemmas.List.{take_all, take_more}
+use Rattle.evidence_rec.specs.Asking.{IsHonestOver}
+use Rattle.evidence_rec.proofs.AskingLemmas.{IsSpent-then}
+use Rattle.mus_shrink.specs.Candidate.{IsCandidate, TellsTried}
+use Rattle.mus_shrink.proofs.CandidateLemmas.{AcceptsConflict-from_candidate, IsShaped-from_candidate}
+use Rattle.mus_shrink.proofs.deletion.shrink.Goals as goal
+
+-- the group is tried too
+pub loop-g-preserved : goal.loop-g-preserved
+loop-g-preserved g c =
+    let new = g.O.Oracle.state c.try_group.new.oracle in
+    let items = c.as_slice-g-items.result.now in
+    let h = get_or items c.loop-g.g-index 0 in
+    let same : new.problem ≡ c.args.problem.now = c.in_ok-asked.ensures.spent.problem ∙ c.loop-g.invariant.spent.problem ∙ sym c.requires.problem in
+    let old : c.args.problem.now ≡ (g.O.Oracle.state c.loop-g.oracle).problem = c.requires.problem ∙ sym c.loop-g.invariant.spent.problem in
+    let tells = subst (TellsTried new c.loop-g.candidate h c.try_group.new.candidate c.try_group.new.purse.left) c.in_default.is c.in_ok-asked.ensures.tried in
+    let next = tells c.args.set.now (take c.loop-g.g-index items)
+    (subst (λ p. IsCandidate p c.args.set.now (take c.loop-g.g-index items) c.loop-g.candidate) (sym same) c.loop-g.invariant.candidate) in
+    record {
+      candidate =
+          subst (λ p. IsCandidate p c.args.set.now (take (c.loop-g.g-index + 1) items) c.try_group.new.candidate) same
+          (subst (λ gs. IsCandidate new.problem c.args.set.now gs c.try_group.new.candidate) (sym (take_more items c.loop-g.g-index 0 (omega arith))) next);
+      asks = omega (arith, c.in_ok-asked.ensures.asks, c.loop-g.invariant.asks);
+      honest = λ first.
+          subst (λ p. IsHonestOver p new.log) (sym old)
+          (c.in_ok-asked.ensures.honest (subst (λ p. IsHonestOver p (g.O.Oracle.state c.loop-g.oracle).log) old (c.loop-g.invariant.honest first)));
+      spent =
+          IsSpent-then (g.O.Oracle.state c.args.oracle.now) (g.O.Oracle.state c.loop-g.oracle) new c.args.purse.now.left c.loop-g.purse.left c.try_group.new.purse.left c.loop-g.invariant.spent
+          c.in_ok-asked.ensures.spent;
+    }
+
+-- each group of the set was tried
+pub returns-clause-shrunk : goal.returns-clause-shrunk
+returns-clause-shrunk g c =
+    let last = g.O.Oracle.state c.loop-g.oracle in
+    let all : take c.loop-g.g-index c.as_slice-g-items.result.now ≡ c.args.set.now = take_all c.loop-g.g-index c.as_slice-g-items.result.now (omega arith) ∙ c.as_slice-g-items.ensures.groups in
+    let same : c.args.problem.now ≡ last.problem = c.requires.problem ∙ sym c.loop-g.invariant.spent.problem in
+    let tried : IsCandidate last.problem c.args.set.now c.args.set.now c.loop-g.candidate =
+    subst (λ p. IsCandidate p c.args.set.now c.args.set.now c.loop-g.candidate) same
+    (subst (λ gs. IsCandidate c.args.problem.now c.args.set.now gs c.loop-g.candidate) all c.loop-g.invariant.candidate) in (
+      tried.within,
+      IsShaped-from_candidate last.problem c.args.set.now c.loop-g.candidate c.as_slice-g-items.ensures.ascends tried,
+      AcceptsConflict-from_candidate last.problem c.args.set.now c.loop-g.candidate c.as_slice-g-items.ensures.ascends tried,
+    )
