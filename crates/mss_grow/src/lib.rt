@@ -1,0 +1,23 @@
+//! From a satisfiable set of groups to a minimal correction.
+//!
+//! A set that an assignment satisfies together with the background is grown to a maximal one. The groups outside that are
+//! a minimal correction, which comes with its evidence: an assignment that satisfies all others, and for each group of
+//! the correction a refutation of the others together with it.
+//!
+//! ```text
+//! match grow(alloc, &mut oracle, &problem, &seed, &assign, turn, &mut purse)? {
+//!     Grown::Done(record) => .., // a `Record::Correction`
+//!     Grown::Dry(asked) => ..,   // the purse is empty
+//! }
+//! ```
+//!
+//! Start reading at `specs/Grown.antt`. Which of several maximal sets is found is not told, nor that it is a largest one.
+#![tactic(auto)]
+
+mod addition;
+mod group;
+mod grown;
+mod growth;
+
+pub use addition::grow;
+pub use grown::Grown;
