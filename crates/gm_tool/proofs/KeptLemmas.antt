@@ -1,21 +1,28 @@
 -- What a listing keeps, and why nothing is missing once all sets are explored.
-use Rattle.std.proofs.Common.{◌≡◌, ◌⊎◌, ℕ, zero, suc, ◌<◌, ◌≤◌, Bool, true, false, not, cond, List, [], ◌∷◌, ◌++◌, map, length, refl, sym, ◌∙◌, ap, subst, inl, inr, arith, eqb}
+use Rattle.std.proofs.Common.{◌≡◌, ◌⊎◌, ℕ, zero, suc, ◌<◌, ◌≤◌, Bool, true, false, not, ◌&&◌, cond, List, [], ◌∷◌, ◌++◌, map, length, refl, sym, ◌∙◌, ap, subst, inl, inr, arith, eqb, append-nil}
 use Rattle.std.specs.List.{list_all, filter, AllByRecursion}
 use Rattle.std.proofs.lemmas.Bool.{and_parts, and_from, false≢true, cases_Bool, false_from_ne_true, true_from_ne_false, eqb-true, eq-eqb, cond-true, cond-false, not-true}
-use Rattle.gm_base.specs.Sets.{IsGroupSet, has, IsSubset, IsProperSubset, complement, all_groups, subsets}
-use Rattle.gm_base.specs.Problem.{Problem}
-use Rattle.gm_base.specs.Minimal.{is_conflict, is_correction, conflicts, corrections}
+use Rattle.gm_base.specs.Sets.{IsGroupSet, has, IsSubset, IsProperSubset, without, complement, all_groups, subsets}
+use Rattle.gm_base.specs.Problem.{Problem, IsProblem}
+use Rattle.gm_base.specs.Minimal.{IsCorrection, is_conflict, is_correction, conflicts, corrections}
 use Rattle.gm_base.specs.Explored.{Found as One, Conflict, Correction, explores, is_explored}
 use Rattle.gm_base.specs.Members.{In}
 use Rattle.gm_base.proofs.Members.{all_at, all_from, any_at, any_from, In-append_left, In-append_right, In-append_cases, In-map, In-from_map}
-use Rattle.gm_base.proofs.SetLemmas.{has-complement, IsSubset-from_all}
+use Rattle.gm_base.proofs.SetLemmas.{has-complement, has-without, IsSubset-from_all}
 use Rattle.gm_base.proofs.SatLemmas.{Sat-subset}
 use Rattle.gm_base.proofs.TestLemmas.{IsConflict-from_test, test-from_IsConflict, IsCorrection-from_test, test-from_IsCorrection}
 use Rattle.gm_tool.specs.declared.listing.Found.{Found}
 use Rattle.gm_tool.specs.Seed.{AreWithin, found_of, IsSeed, AllExplored}
-use Rattle.gm_tool.specs.Shrink.{IsConflictWithin}
-use Rattle.gm_tool.specs.Grow.{IsCorrectionOutside}
-use Rattle.gm_tool.specs.Listing.{times, IsDistinct, SameSets, IsConflictOf, IsCorrectionOf, IsKept, is_explored_by, Explores}
+use Rattle.evidence_rec.specs.declared.record.Record.{Record}
+use Rattle.evidence_rec.specs.declared.record.Record.TheVariants as record_of
+use Rattle.evidence_rec.specs.Records.{Accepts}
+use Rattle.evidence_rec.specs.Asking.{OracleState}
+use Rattle.mus_shrink.specs.Shrunk.{IsConflictWithin}
+use Rattle.mss_grow.specs.Grown.{IsCorrectionOutside}
+use Rattle.gm_tool.specs.declared.listing.End.{End}
+use Rattle.gm_tool.specs.declared.listing.End.TheVariants as end
+use Rattle.evidence_rec.proofs.VerdictLemmas.{minimal-from_accepts}
+use Rattle.gm_tool.specs.Listing.{times, IsDistinct, SameSets, IsConflictOf, IsCorrectionOf, IsKept, is_explored_by, Explores, ListsAll, IsRecordFor, AddsRecord, IsDry, TellsEnd, conflicts_in, corrections_in}
 use Rattle.gm_tool.proofs.ListingLemmas.{times-In, In-times, IsDistinct-push, distinct-filter_subsets, In-filter, filter-In, In-subsets, subsets-In, same_set}
 
 -- facts of each element of a list
@@ -98,54 +105,144 @@ explored-longer_corrections conflicts corrections more y t is e =
       | inr of_correction ↦ let (s, i, apart) = of_correction in explored_down conflicts more s t (subst (In s) (sym is) (In-append_left s corrections (y ∷ []) i)) apart
     ]
 
--- a conflict that was shrunk from a seed is new
-pub IsKept-conflict : (p : Problem) (old new : Found) (seed set : List ℕ) → IsKept p old → IsSeed p.groups old.conflicts old.corrections seed → IsConflictWithin p seed set → IsGroupSet set
-    → new.conflicts ≡ old.conflicts ++ set ∷ [] → new.corrections ≡ old.corrections → IsKept p new
-IsKept-conflict p old new seed set h s c ok is same =
+-- a correction is of groups of the problem: one more would not be needed
+IsCorrection-within : (p : Problem) (set : List ℕ) → IsCorrection p set → IsSubset set (all_groups p.groups)
+IsCorrection-within p set c g inside =
+    true_from_ne_false (has (all_groups p.groups) g)
+    (λ outside.
+    c.minimal (without set g) (
+      λ h i. (and_parts (not (eqb h g)) (has set h) (sym (has-without set g h) ∙ i)).1,
+      (g, inside, has-without set g g ∙ ap (λ b. not b && has set g) (eq-eqb g g refl)),
+    )
+    (Sat-subset p (complement p.groups (without set g)) (complement p.groups set)
+    (λ h i.
+    let (out, range) = and_parts (not (has (without set g) h)) (has (all_groups p.groups) h) (sym (has-complement p.groups (without set g) h) ∙ i) in
+    let other : eqb h g ≡ false = false_from_ne_true (eqb h g) (λ e. false≢true (sym outside ∙ ap (has (all_groups p.groups)) (sym (eqb-true h g e)) ∙ range)) in
+    let absent : has set h ≡ false = sym (ap (λ b. not b && has set h) other) ∙ sym (has-without set g h) ∙ not-true (has (without set g) h) out in
+    has-complement p.groups set h ∙ and_from (not (has set h)) (has (all_groups p.groups) h) (ap not absent) range)
+    c.sat))
+
+-- where a record of a correction explores a set, no group of the set is in the correction
+apart-from_all : (set seed : List ℕ) → list_all (λ g. not (has seed g)) set ≡ true → (g : ℕ) → has seed g ≡ true → has set g ≡ false
+apart-from_all set seed none g inside_seed =
+    false_from_ne_true (has set g)
+    (λ inside.
+    let (h, j, same) = any_from (λ h. eqb h g) set inside in
+    false≢true (sym (not-true (has seed h) (all_at (λ g. not (has seed g)) set h none j)) ∙ ap (has seed) (eqb-true h g same) ∙ inside_seed))
+
+-- the sets of records, with one more
+conflicts_in-push : (made : List Record) (r : Record) → conflicts_in (made ++ r ∷ []) ≡ conflicts_in made ++ conflicts_in (r ∷ [])
+conflicts_in-push [] r = refl
+conflicts_in-push (record_of.Conflict set proof witnesses ∷ made) r = ap (λ sets. set ∷ sets) (conflicts_in-push made r)
+conflicts_in-push (record_of.Correction set witness proofs ∷ made) r = conflicts_in-push made r
+
+corrections_in-push : (made : List Record) (r : Record) → corrections_in (made ++ r ∷ []) ≡ corrections_in made ++ corrections_in (r ∷ [])
+corrections_in-push [] r = refl
+corrections_in-push (record_of.Conflict set proof witnesses ∷ made) r = corrections_in-push made r
+corrections_in-push (record_of.Correction set witness proofs ∷ made) r = ap (λ sets. set ∷ sets) (corrections_in-push made r)
+
+accepted-push : (p : Problem) (made more : List Record) (r : Record) → AllByRecursion (Accepts p) made → Accepts p r → more ≡ made ++ r ∷ [] → AllByRecursion (Accepts p) more
+accepted-push p made more r all one is = subst (AllByRecursion (Accepts p)) (sym is) (go made all)
+  where
+    go : (made : List Record) → AllByRecursion (Accepts p) made → AllByRecursion (Accepts p) (made ++ r ∷ [])
+    go [] a = (one, tt)
+    go (m ∷ made) a = (a.0, go made a.1)
+
+-- the set of a record that explores a seed is new
+pub IsKept-added : (p : Problem) (old new : Found) (seed : List ℕ) (made : Record) → IsProblem p → IsKept p old → IsSeed p.groups old.conflicts old.corrections seed
+    → IsRecordFor p seed made → AddsRecord old made new → IsKept p new
+IsKept-added p old new seed (record_of.Conflict set proof witnesses) ok h s r added =
+    let within = IsSubset-from_all set seed r.explores in
     record {
+      conflicts_recorded =
+          ap conflicts_in added.2 ∙ conflicts_in-push old.records (record_of.Conflict set proof witnesses) ∙ ap (λ sets. sets ++ set ∷ []) h.conflicts_recorded ∙ sym added.0;
+      corrections_recorded =
+          ap corrections_in added.2 ∙ corrections_in-push old.records (record_of.Conflict set proof witnesses) ∙ append-nil (corrections_in old.records) ∙ h.corrections_recorded ∙ sym added.1;
+      accepted = accepted-push p old.records new.records (record_of.Conflict set proof witnesses) h.accepted r.accepted added.2;
       conflicts =
           each-push (IsConflictOf p) old.conflicts new.conflicts set h.conflicts
-          (record { is_set = ok; within = λ g inside. s.within g (c.within g inside); is_conflict = c.is_conflict }) is;
-      corrections = subst (AllByRecursion (IsCorrectionOf p)) (sym same) h.corrections;
+          (record {
+            is_set = r.accepted.is_set;
+            within = λ g inside. s.within g (within g inside);
+            is_conflict = minimal-from_accepts p (record_of.Conflict set proof witnesses) ok r.accepted;
+          }) added.0;
+      corrections = subst (AllByRecursion (IsCorrectionOf p)) (sym added.1) h.corrections;
       distinct_conflicts =
           IsDistinct-push old.conflicts new.conflicts set h.distinct_conflicts
-          (λ kept. false≢true (sym s.unexplored ∙ explored_up old.conflicts old.corrections set seed kept c.within)) is;
-      distinct_corrections = subst IsDistinct (sym same) h.distinct_corrections;
+          (λ kept. false≢true (sym s.unexplored ∙ explored_up old.conflicts old.corrections set seed kept within)) added.0;
+      distinct_corrections = subst IsDistinct (sym added.1) h.distinct_corrections;
     }
-
-pub Explores-conflict : (p : Problem) (old new : Found) (seed set : List ℕ) → IsConflictWithin p seed set → new.conflicts ≡ old.conflicts ++ set ∷ [] → new.corrections ≡ old.corrections → Explores old new seed
-Explores-conflict p old new seed set c is same =
+IsKept-added p old new seed (record_of.Correction set witness proofs) ok h s r added =
+    let is_correction = minimal-from_accepts p (record_of.Correction set witness proofs) ok r.accepted in
     record {
-      seed =
-          explored_up new.conflicts new.corrections set seed (subst (In set) (sym is) (In-append_right set old.conflicts (set ∷ []) (inl refl))) c.within;
-      others = λ t e. subst (λ ms. is_explored (found_of new.conflicts ms) t ≡ true) (sym same) (explored-longer old.conflicts new.conflicts old.corrections set t is e);
-    }
-
--- and so is a correction that was grown from one
-pub IsKept-correction : (p : Problem) (old new : Found) (seed set : List ℕ) → IsKept p old → IsSeed p.groups old.conflicts old.corrections seed → IsCorrectionOutside p seed set → IsGroupSet set
-    → new.corrections ≡ old.corrections ++ set ∷ [] → new.conflicts ≡ old.conflicts → IsKept p new
-IsKept-correction p old new seed set h s c ok is same =
-    record {
-      conflicts = subst (AllByRecursion (IsConflictOf p)) (sym same) h.conflicts;
+      conflicts_recorded =
+          ap conflicts_in added.2 ∙ conflicts_in-push old.records (record_of.Correction set witness proofs) ∙ append-nil (conflicts_in old.records) ∙ h.conflicts_recorded ∙ sym added.0;
+      corrections_recorded =
+          ap corrections_in added.2 ∙ corrections_in-push old.records (record_of.Correction set witness proofs) ∙ ap (λ sets. sets ++ set ∷ []) h.corrections_recorded ∙ sym added.1;
+      accepted = accepted-push p old.records new.records (record_of.Correction set witness proofs) h.accepted r.accepted added.2;
+      conflicts = subst (AllByRecursion (IsConflictOf p)) (sym added.0) h.conflicts;
       corrections =
-          each-push (IsCorrectionOf p) old.corrections new.corrections set h.corrections (record { is_set = ok; within = c.within; is_correction = c.is_correction }) is;
-      distinct_conflicts = subst IsDistinct (sym same) h.distinct_conflicts;
+          each-push (IsCorrectionOf p) old.corrections new.corrections set h.corrections
+          (record { is_set = r.accepted.is_set; within = IsCorrection-within p set is_correction; is_correction = is_correction }) added.1;
+      distinct_conflicts = subst IsDistinct (sym added.0) h.distinct_conflicts;
       distinct_corrections =
           IsDistinct-push old.corrections new.corrections set h.distinct_corrections
-          (λ kept. false≢true (sym s.unexplored ∙ explored_down old.conflicts old.corrections set seed kept c.outside)) is;
+          (λ kept. false≢true (sym s.unexplored ∙ explored_down old.conflicts old.corrections set seed kept (apart-from_all set seed r.explores))) added.1;
     }
 
-pub Explores-correction : (p : Problem) (old new : Found) (seed set : List ℕ) → IsCorrectionOutside p seed set → new.corrections ≡ old.corrections ++ set ∷ [] → new.conflicts ≡ old.conflicts → Explores old new seed
-Explores-correction p old new seed set c is same =
+pub Explores-added : (p : Problem) (old new : Found) (seed : List ℕ) (made : Record) → IsRecordFor p seed made → AddsRecord old made new → Explores old new seed
+Explores-added p old new seed (record_of.Conflict set proof witnesses) r added =
     record {
       seed =
-          explored_down new.conflicts new.corrections set seed (subst (In set) (sym is) (In-append_right set old.corrections (set ∷ []) (inl refl))) c.outside;
-      others = λ t e. subst (λ us. is_explored (found_of us new.corrections) t ≡ true) (sym same) (explored-longer_corrections old.conflicts old.corrections new.corrections set t is e);
+          explored_up new.conflicts new.corrections set seed (subst (In set) (sym added.0) (In-append_right set old.conflicts (set ∷ []) (inl refl)))
+          (IsSubset-from_all set seed r.explores);
+      others = λ t e. subst (λ ms. is_explored (found_of new.conflicts ms) t ≡ true) (sym added.1) (explored-longer old.conflicts new.conflicts old.corrections set t added.0 e);
+    }
+Explores-added p old new seed (record_of.Correction set witness proofs) r added =
+    record {
+      seed =
+          explored_down new.conflicts new.corrections set seed (subst (In set) (sym added.1) (In-append_right set old.corrections (set ∷ []) (inl refl)))
+          (apart-from_all set seed r.explores);
+      others = λ t e. subst (λ us. is_explored (found_of us new.corrections) t ≡ true) (sym added.0) (explored-longer_corrections old.conflicts old.corrections new.corrections set t added.1 e);
     }
 
-pub IsKept-start : (p : Problem) (found : Found) → found.conflicts ≡ [] → found.corrections ≡ [] → IsKept p found
-IsKept-start p found us ms =
+-- a correction that was grown from a seed explores it
+pub IsRecordFor-grown : (p q : Problem) (seed : List ℕ) (made : Record) → q ≡ p → IsCorrectionOutside seed made → Accepts q made → IsRecordFor p seed made
+IsRecordFor-grown p q seed (record_of.Conflict set proof witnesses) same outside accepted = absurd outside
+IsRecordFor-grown p q seed (record_of.Correction set witness proofs) same outside accepted =
     record {
+      accepted = subst (λ r. Accepts r (record_of.Correction set witness proofs)) same accepted;
+      explores = all_from (λ g. not (has seed g)) set (λ g i. ap not (outside g (any_at (λ h. eqb h g) set g i (eq-eqb g g refl))));
+    }
+
+-- and so does a conflict that was shrunk from a part of it
+pub IsRecordFor-shrunk : (p q : Problem) (seed core : List ℕ) (made : Record) → q ≡ p → IsSubset core seed → IsConflictWithin q core made → Accepts q made → IsRecordFor p seed made
+IsRecordFor-shrunk p q seed core (record_of.Conflict set proof witnesses) same part within accepted =
+    record {
+      accepted = subst (λ r. Accepts r (record_of.Conflict set proof witnesses)) same accepted;
+      explores = all_from (has seed) set (λ g i. part g (within g (any_at (λ h. eqb h g) set g i (eq-eqb g g refl))));
+    }
+IsRecordFor-shrunk p q seed core (record_of.Correction set witness proofs) same part within accepted = absurd within
+
+-- what the end of a listing says
+pub all-from_end : (p : Problem) (found : Found) (o : OracleState) (units : ℕ) (e : End) → TellsEnd p found o units e → e ≡ end.All → ListsAll p found
+all-from_end p found o units end.All told is = told.1
+all-from_end p found o units end.Spent told is = absurd cc
+
+pub kept-from_end : (p : Problem) (found : Found) (o : OracleState) (units : ℕ) (e : End) → TellsEnd p found o units e → IsKept p found
+kept-from_end p found o units end.All told = told.0
+kept-from_end p found o units end.Spent told = told.0
+
+pub dry-from_end : (p : Problem) (found : Found) (o : OracleState) (units : ℕ) (e : End) → TellsEnd p found o units e → e ≡ end.Spent → IsDry o units
+dry-from_end p found o units end.All told is = absurd cc
+dry-from_end p found o units end.Spent told is = told.1
+
+pub IsKept-start : (p : Problem) (found : Found) → found.conflicts ≡ [] → found.corrections ≡ [] → found.records ≡ [] → IsKept p found
+IsKept-start p found us ms made =
+    record {
+      conflicts_recorded = ap conflicts_in made ∙ sym us;
+      corrections_recorded = ap corrections_in made ∙ sym ms;
+      accepted = subst (AllByRecursion (Accepts p)) (sym made) tt;
       conflicts = subst (AllByRecursion (IsConflictOf p)) (sym us) tt;
       corrections = subst (AllByRecursion (IsCorrectionOf p)) (sym ms) tt;
       distinct_conflicts = subst IsDistinct (sym us) (λ s. omega arith);
@@ -212,7 +309,7 @@ left-fewer groups old new seed s e =
 whole_subset : (s t : List ℕ) → IsSubset s t → ¬ IsProperSubset s t → IsSubset t s
 whole_subset s t sub not_proper g inside = true_from_ne_false (has s g) (λ out. not_proper (sub, (g, inside, out)))
 
-once : (xs ys : List (List ℕ)) → IsDistinct xs → IsDistinct ys → ((s : List ℕ) → In s xs → In s ys) → ((s : List ℕ) → In s ys → In s xs) → SameSets xs ys
+pub once : (xs ys : List (List ℕ)) → IsDistinct xs → IsDistinct ys → ((s : List ℕ) → In s xs → In s ys) → ((s : List ℕ) → In s ys → In s xs) → SameSets xs ys
 once xs ys p q there back s = by (times s xs) (times s ys) refl refl
   where
     by : (m n : ℕ) → times s xs ≡ m → times s ys ≡ n → times s xs ≡ times s ys
@@ -221,14 +318,32 @@ once xs ys p q there back s = by (times s xs) (times s ys) refl refl
     by (suc m) zero a b = absurd (let some = times-In s ys (there s (In-times s xs (omega (arith, a)))) in omega (arith, b))
     by (suc m) (suc n) a b = let low = p s in let high = q s in omega (arith, a, b)
 
+pub distinct-conflicts : (p : Problem) → IsDistinct (conflicts p)
+unfolding conflicts
+distinct-conflicts p = distinct-filter_subsets (is_conflict p) p.groups
+
+pub distinct-corrections : (p : Problem) → IsDistinct (corrections p)
+unfolding corrections
+distinct-corrections p = distinct-filter_subsets (is_correction p) p.groups
+
+-- what was kept is among all
+pub conflicts-kept : (p : Problem) (found : Found) → IsKept p found → (s : List ℕ) → In s found.conflicts → In s (conflicts p)
+unfolding conflicts
+conflicts-kept p found h s kept =
+    let c = each-at (IsConflictOf p) found.conflicts s h.conflicts kept in
+    In-filter (is_conflict p) s (subsets p.groups) (In-subsets p.groups s c.is_set c.within) (test-from_IsConflict p s c.is_set c.is_conflict)
+
+pub corrections-kept : (p : Problem) (found : Found) → IsKept p found → (s : List ℕ) → In s found.corrections → In s (corrections p)
+unfolding corrections
+corrections-kept p found h s kept =
+    let c = each-at (IsCorrectionOf p) found.corrections s h.corrections kept in
+    In-filter (is_correction p) s (subsets p.groups) (In-subsets p.groups s c.is_set c.within) (test-from_IsCorrection p s c.is_set c.is_correction)
+
 -- once all sets are explored, none is missing
 pub conflicts-all : (p : Problem) (found : Found) → IsKept p found → AllExplored p.groups found.conflicts found.corrections → SameSets found.conflicts (conflicts p)
 unfolding conflicts
 conflicts-all p found h all =
-    once found.conflicts (conflicts p) h.distinct_conflicts (distinct-filter_subsets (is_conflict p) p.groups)
-    (λ s kept.
-    let c = each-at (IsConflictOf p) found.conflicts s h.conflicts kept in
-    In-filter (is_conflict p) s (subsets p.groups) (In-subsets p.groups s c.is_set c.within) (test-from_IsConflict p s c.is_set c.is_conflict))
+    once found.conflicts (conflicts p) h.distinct_conflicts (distinct-conflicts p) (conflicts-kept p found h)
     (λ s inside.
     let (there, t) = filter-In (is_conflict p) s (subsets p.groups) inside in
     let (ok, within) = subsets-In p.groups s there in
@@ -249,10 +364,7 @@ conflicts-all p found h all =
 pub corrections-all : (p : Problem) (found : Found) → IsKept p found → AllExplored p.groups found.conflicts found.corrections → SameSets found.corrections (corrections p)
 unfolding corrections
 corrections-all p found h all =
-    once found.corrections (corrections p) h.distinct_corrections (distinct-filter_subsets (is_correction p) p.groups)
-    (λ s kept.
-    let c = each-at (IsCorrectionOf p) found.corrections s h.corrections kept in
-    In-filter (is_correction p) s (subsets p.groups) (In-subsets p.groups s c.is_set c.within) (test-from_IsCorrection p s c.is_set c.is_correction))
+    once found.corrections (corrections p) h.distinct_corrections (distinct-corrections p) (corrections-kept p found h)
     (λ s inside.
     let (there, t) = filter-In (is_correction p) s (subsets p.groups) inside in
     let (ok, within) = subsets-In p.groups s there in

@@ -252,6 +252,9 @@ same_set low (g ∷ gs) (h ∷ hs) p q sub sup =
           ]
         ]
 
--- what is kept of all sets is distinct
+-- what is kept of distinct sets is distinct
+pub distinct-filter : (test : List ℕ → Bool) (xs : List (List ℕ)) → IsDistinct xs → IsDistinct (filter test xs)
+distinct-filter test xs distinct s = let all = distinct s in let kept = times-filter test s xs in omega arith
+
 pub distinct-filter_subsets : (test : List ℕ → Bool) (groups : ℕ) → IsDistinct (filter test (subsets groups))
-distinct-filter_subsets test groups s = let all = distinct-subsets groups s in let kept = times-filter test s (subsets groups) in omega arith
+distinct-filter_subsets test groups = distinct-filter test (subsets groups) (distinct-subsets groups)

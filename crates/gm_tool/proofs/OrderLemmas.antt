@@ -10,15 +10,17 @@ use Rattle.std.proofs.lemmas.List.Sorted.{ranks_by, sorted_far, sum_by-IsPermuta
 use Rattle.std.proofs.lemmas.List.Sums.{sum_by-cons}
 use Rattle.std.proofs.lemmas.Bool.{true≢false, cases_Bool, cases_order, lt-ltb, eq-eqb, cond-true, cond-false, ltb-true}
 use Rattle.gm_base.specs.Sets.{AscendsAbove, nonempty_sublists, subsets, all_groups}
+use Rattle.gm_base.specs.Members.{In}
 use Rattle.gm_base.specs.Problem.{Problem}
 use Rattle.gm_base.specs.Minimal.{is_conflict, is_correction, conflicts, corrections}
 use Rattle.gm_base.specs.Report.{report_text}
 use Rattle.report_text.specs.Sorted.{IsSortedOf}
 use Rattle.report_text.specs.Reports.{IsReportOf}
 use Rattle.gm_tool.specs.declared.listing.Found.{Found}
-use Rattle.gm_tool.specs.Run.{full_report}
-use Rattle.gm_tool.specs.Listing.{one_if, times, SameSets, ListsAll}
-use Rattle.gm_tool.proofs.ListingLemmas.{same-is, same-refl, AscendsAbove-range}
+use Rattle.gm_tool.specs.Run.{full_report, IsPartialReport}
+use Rattle.gm_tool.specs.Listing.{one_if, times, IsDistinct, SameSets, IsKept, ListsAll}
+use Rattle.gm_tool.proofs.ListingLemmas.{same-is, same-refl, AscendsAbove-range, times-In, In-times, In-filter, filter-In, distinct-filter}
+use Rattle.gm_tool.proofs.KeptLemmas.{once as same_once, conflicts-kept, corrections-kept, distinct-conflicts, distinct-corrections}
 
 -- a set comes before another
 abbrev pub below : List ℕ → List ℕ → Bool
@@ -234,25 +236,49 @@ times-sum : (s : List ℕ) (ss : List (List ℕ)) → times s ss ≡ sum_by (λ 
 times-sum s [] = refl
 times-sum s (t ∷ ts) = ap (λ n. one_if (pointwise nat_eq t s) + n) (times-sum s ts) ∙ sym (sum_by-cons (λ u. one_if (pointwise nat_eq u s)) t ts)
 
--- sets that are sorted, of those that pass a test, are those of all sets that pass it
-sorted_is : (found us : List (List ℕ)) (test : List ℕ → Bool) (groups : ℕ) → IsSortedOf found us → SameSets found (filter test (subsets groups)) → us ≡ filter test (subsets groups)
-sorted_is found us test groups sorted same =
-    one_order us (filter test (subsets groups))
-    (Rises-from_sorted us (sorted_far below (ranks_by nat_list_cmp_total (λ x. x)) us sorted.order))
-    (Rises-from_ascends (filter test (subsets groups)) (Ascends-filter test (subsets groups) (Ascends-subsets groups)))
+-- sets that are sorted are the list in order of the same sets
+sorted_is : (found us ts : List (List ℕ)) → IsSortedOf found us → Ascends ts → SameSets found ts → us ≡ ts
+sorted_is found us ts sorted up same =
+    one_order us ts (Rises-from_sorted us (sorted_far below (ranks_by nat_list_cmp_total (λ x. x)) us sorted.order)) (Rises-from_ascends ts up)
     (λ s. times-sum s us ∙ sum_by-IsPermutation (λ t. one_if (pointwise nat_eq t s)) found us sorted.same ∙ sym (times-sum s found) ∙ same s)
 
-conflicts-sorted : (p : Problem) (found us : List (List ℕ)) → IsSortedOf found us → SameSets found (conflicts p) → us ≡ conflicts p
+Ascends-conflicts : (p : Problem) → Ascends (conflicts p)
 unfolding conflicts
-conflicts-sorted p found us sorted same = sorted_is found us (is_conflict p) p.groups sorted same
+Ascends-conflicts p = Ascends-filter (is_conflict p) (subsets p.groups) (Ascends-subsets p.groups)
 
-corrections-sorted : (p : Problem) (found us : List (List ℕ)) → IsSortedOf found us → SameSets found (corrections p) → us ≡ corrections p
+Ascends-corrections : (p : Problem) → Ascends (corrections p)
 unfolding corrections
-corrections-sorted p found us sorted same = sorted_is found us (is_correction p) p.groups sorted same
+Ascends-corrections p = Ascends-filter (is_correction p) (subsets p.groups) (Ascends-subsets p.groups)
 
 -- the report of all sets of a listing is the whole report
 pub full_report-from : (p : Problem) (found : Found) (text : List ℕ) → ListsAll p found → IsReportOf p.groups true found.conflicts found.corrections text → text ≡ full_report p
 full_report-from p found text all report =
     report.same
-    ∙ ap (λ us. report_text p.groups true us report.ms) (conflicts-sorted p found.conflicts report.us report.conflicts_in_order all.conflicts)
-    ∙ ap (λ ms. report_text p.groups true (conflicts p) ms) (corrections-sorted p found.corrections report.ms report.corrections_in_order all.corrections)
+    ∙ ap (λ us. report_text p.groups true us report.ms) (sorted_is found.conflicts report.us (conflicts p) report.conflicts_in_order (Ascends-conflicts p) all.conflicts)
+    ∙ ap (λ ms. report_text p.groups true (conflicts p) ms) (sorted_is found.corrections report.ms (corrections p) report.corrections_in_order (Ascends-corrections p) all.corrections)
+
+-- whether a set is in a list
+abbrev pub is_in : List (List ℕ) → List ℕ → Bool
+is_in sets s = ltb 0 (times s sets)
+
+-- sorted, what was found of a list in order is that list, but for what was not found
+part_is : (found us all : List (List ℕ)) → IsSortedOf found us → Ascends all → IsDistinct found → IsDistinct all → ((s : List ℕ) → In s found → In s all) → us ≡ filter (is_in found) all
+part_is found us all sorted up once_found once_all sub =
+    sorted_is found us (filter (is_in found) all) sorted (Ascends-filter (is_in found) all up)
+    (same_once found (filter (is_in found) all) once_found (distinct-filter (is_in found) all once_all)
+    (λ s i. In-filter (is_in found) s all (sub s i) (lt-ltb 0 (times s found) (times-In s found i)))
+    (λ s i. In-times s found (ltb-true 0 (times s found) (filter-In (is_in found) s all i).1)))
+
+-- the report of what was kept is the report of a part of all sets
+pub IsPartialReport-from : (p : Problem) (found : Found) (text : List ℕ) → IsKept p found → IsReportOf p.groups false found.conflicts found.corrections text → IsPartialReport p text
+IsPartialReport-from p found text kept report =
+    record {
+      is_listed_conflict = is_in found.conflicts;
+      is_listed_correction = is_in found.corrections;
+      same =
+          report.same
+          ∙ ap (λ us. report_text p.groups false us report.ms)
+          (part_is found.conflicts report.us (conflicts p) report.conflicts_in_order (Ascends-conflicts p) kept.distinct_conflicts (distinct-conflicts p) (conflicts-kept p found kept))
+          ∙ ap (λ ms. report_text p.groups false (filter (is_in found.conflicts) (conflicts p)) ms)
+          (part_is found.corrections report.ms (corrections p) report.corrections_in_order (Ascends-corrections p) kept.distinct_corrections (distinct-corrections p) (corrections-kept p found kept));
+    }

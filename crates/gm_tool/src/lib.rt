@@ -8,22 +8,20 @@
 //! ```
 //!
 //! Start reading at `run` and at `specs/Run.antt`, which says what each status tells of the words, the file and the
-//! report. Then `listing`: a seed that nothing explores which was found so far (`seed`) is shrunk to a minimal conflict
-//! (`shrink`) or grown to a minimal correction (`grow`), until there is no seed. Seeds and assignments are both found
-//! depth-first over choices (`search`, `satisfiable`).
+//! report. Then `listing`: an oracle over the learning solver is asked about a seed that nothing explores which was found so
+//! far (`seed`), and the seed is shrunk to a minimal conflict or grown to a minimal correction, until there is no seed or
+//! the budget is spent. Seeds are found depth-first over choices (`search`).
 //!
 //! Nothing is promised of time, and want of memory may end any run.
 #![tactic(auto)]
 
 mod error_line;
-mod grow;
 mod list;
 mod listing;
+mod records;
 mod refusal;
-mod satisfiable;
 mod search;
 mod seed;
-mod shrink;
 #[cfg(test)]
 mod tests;
 mod top;

@@ -9,15 +9,15 @@ const FIRST: &str = "p gcnf 2 4 4\n{1} 1 0\n{2} -1 0\n{3} -1 2 0\n{4} -2 0\n";
 
 // What is held under the name `f`, how much a call moves, and which calls fail.
 #[derive(Clone, Copy)]
-struct Outside {
-    text: &'static str,
+struct Outside<'a> {
+    text: &'a str,
     per_read: usize,
     failing_reads: &'static [u64],
     per_write: usize,
     failing_writes: &'static [u64],
 }
 
-fn plain(text: &'static str) -> Outside {
+fn plain(text: &str) -> Outside<'_> {
     Outside {
         text,
         per_read: 1000,
@@ -38,7 +38,7 @@ fn run_on<R: Threads + Wait + Sync>(
     rt: &R,
     alloc: Global,
     words: &[&str],
-    outside: Outside,
+    outside: Outside<'_>,
 ) -> Result<Outcome, Fail> {
     let mut given = Vec::new(alloc);
     for word in words {
@@ -121,6 +121,36 @@ fn each_file_has_its_report(rt: HostRuntime) -> Result<(), Fail> {
     Ok(())
 }
 
+// The negations of five variables, a chain of implications from x1 to x30, and five clauses that are always true. Each
+// negation and the chain up to it are a minimal conflict. A minimal correction cuts the chain once and leaves out the
+// negations before the cut, or leaves out all negations.
+fn chain(alloc: Global) -> Result<String, Fail> {
+    let mut text = String::from_str(alloc, "p gcnf 30 40 40\n{6} 1 0\n")?;
+    'negations: for (group, at) in [(1, 6), (2, 12), (3, 18), (4, 24), (5, 30)] {
+        let line = format!(in alloc; "{{{}}} -{} 0\n", group, at)?;
+        text.push_str(line.as_str())?;
+    }
+    'chain: for at in 1..30 {
+        let line = format!(in alloc; "{{{}}} -{} {} 0\n", at + 6, at, at + 1)?;
+        text.push_str(line.as_str())?;
+    }
+    'truths: for at in 1..6 {
+        let line = format!(in alloc; "{{{}}} {} -{} 0\n", at + 35, at, at)?;
+        text.push_str(line.as_str())?;
+    }
+    Ok(text)
+}
+
+#[test]
+fn listing_of_forty_groups_ends(rt: HostRuntime) -> Result<(), Fail> {
+    let alloc = rt.alloc();
+    let text = chain(alloc)?;
+    let outcome = run_on(&rt, alloc, &["list", "f"], plain(text.as_str()))?;
+    assert_eq!(rt; outcome.status, 0);
+    assert!(rt; outcome.out.got().ends_with(b"e 5 31\n"));
+    Ok(())
+}
+
 #[test]
 fn other_words_are_refused(rt: HostRuntime) -> Result<(), Fail> {
     let rows: [&[&str]; 10] = [
@@ -160,7 +190,7 @@ fn faults_have_their_lines(rt: HostRuntime) -> Result<(), Fail> {
         failing_writes: &[2],
         ..plain(FIRST)
     };
-    let rows: [(&str, Outside, u8, &str, &str); 5] = [
+    let rows: [(&str, Outside<'_>, u8, &str, &str); 5] = [
         ("f", third_read, 6, "", "gmus: read fault on input\n"),
         ("g", plain(FIRST), 6, "", "gmus: read fault on input\n"),
         ("", plain(FIRST), 6, "", "gmus: read fault on input\n"),

@@ -13,7 +13,7 @@ pub returns-clause-refused : goal.returns-clause-refused
 returns-clause-refused g c =
     refusal-from _ (g.F.Files.state c.args.files.now)
     (λ line. GetsLine line (g.E.Sink.got c.args.err.now) (g.E.Sink.got c.write_error_line.new.err) (g.E.Sink.faults c.args.err.now) (g.E.Sink.faults c.write_error_line.new.err))
-    c.match-read_words.ending c.finish_of.result.status
+    c.match-read_words.ending c.status_of.result
     (elim c.match-read_words.branch [
       | in-Ok-Some w ↦ subst (λ e. IfRefused e (λ offence. OfNamed (words_read (map string_bytes c.args.words.now)) (g.F.Files.state c.args.files.now) (λ text. IsRefused text offence))) (sym w.ending-is)
           (subst (λ asked. IfRefused w.list_file-ending.result (λ offence. OfNamed asked (g.F.Files.state c.args.files.now) (λ text. IsRefused text offence)))
@@ -23,4 +23,4 @@ returns-clause-refused g c =
       | in-Ok-None w ↦ subst (λ e. IfRefused e (λ offence. OfNamed (words_read (map string_bytes c.args.words.now)) (g.F.Files.state c.args.files.now) (λ text. IsRefused text offence))) (sym w.ending-is) tt
       | in-Err w ↦ subst (λ e. IfRefused e (λ offence. OfNamed (words_read (map string_bytes c.args.words.now)) (g.F.Files.state c.args.files.now) (λ text. IsRefused text offence))) (sym w.ending-is) tt
     ])
-    c.write_error_line.ensures c.finish_of.ensures
+    c.write_error_line.ensures c.status_of.ensures
