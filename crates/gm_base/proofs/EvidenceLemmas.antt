@@ -10,7 +10,7 @@ use Rattle.std.proofs.lemmas.List.{get_or_append_left, get_or-append-add}
 use Rattle.std.proofs.lemmas.List.FromFn.{get_or-map-range_with_len}
 use Rattle.std.proofs.lemmas.List.Folds.{list_any-append}
 use Rattle.gm_base.specs.declared.clause.Clause.{Clause}
-use Rattle.gm_base.specs.Sets.{AscendsAbove, IsGroupSet, has, all_groups, without, complement}
+use Rattle.gm_base.specs.Sets.{IsGroupSet, has, all_groups, without, complement}
 use Rattle.gm_base.specs.Literals.{IsLiteral, literal_true, clause_true}
 use Rattle.gm_base.specs.Problem.{Problem, IsProblem, IsClause, Sat, satisfies, is_present}
 use Rattle.gm_base.specs.Minimal.{IsConflict, IsCorrection}
@@ -18,7 +18,7 @@ use Rattle.gm_base.specs.Derivation.{Derivation, numbered}
 use Rattle.gm_base.specs.Evidence.{left_out, with_selector, selector_form, refutes, is_witness, each_passes, AcceptsConflict, AcceptsCorrection}
 use Rattle.gm_base.specs.Members.{In}
 use Rattle.gm_base.proofs.Members.{In-append_cases, any_at, any_from}
-use Rattle.gm_base.proofs.SetLemmas.{IsGroupSet-complement}
+use Rattle.gm_base.proofs.SetLemmas.{IsGroupSet-complement, AscendsAbove-has}
 use Rattle.gm_base.proofs.Singles.{IsConflict-from_singles, IsCorrection-from_singles}
 use Rattle.gm_base.proofs.Soundness.{Good, AllGood, derives-sound}
 
@@ -115,15 +115,6 @@ left_out-group p g l low same over =
     let here : IsLiteral (p.vars + p.groups) (negsuc (p.vars + (g - 1))) = subst (IsLiteral (p.vars + p.groups)) (sym same ∙ left_out-is p g low) over in
     let at_most = here.in_range in omega arith
 
-group_above_0 : (low : ℕ) (set : List ℕ) (g : ℕ) → AscendsAbove low set → has set g ≡ true → low < g
-group_above_0 low [] g h i = absurd (false≢true i)
-group_above_0 low (k ∷ ks) g h i =
-    let first = h.0 in
-    elim (or_cases (eqb k g) (has ks g) i) [
-      | inl here ↦ let same = eqb-true k g here in omega arith
-      | inr later ↦ let above = group_above_0 k ks g h.1 later in omega arith
-    ]
-
 -- what refutes a set shows that it can't be satisfied
 pub refutes-sound : (p : Problem) (set : List ℕ) (d : Derivation) → IsProblem p → IsGroupSet set → refutes p set d ≡ true → ¬ Sat p set
 refutes-sound p set d ok is_set r sat =
@@ -132,7 +123,7 @@ refutes-sound p set d ok is_set r sat =
     derives-sound (p.vars + p.groups) (sat.0 ++ chosen p set) (selector_form p) d (λ l. list_any (λ g. int_eq (left_out p g) l) set) inputs r in
     let (g, i, e) = any_from (λ g. int_eq (left_out p g) l) set allowed in
     let inside : has set g ≡ true = any_at (λ h. eqb h g) set g i (eq-eqb g g refl) in
-    let low : 0 < g = group_above_0 0 set g is_set inside in
+    let low : 0 < g = AscendsAbove-has 0 set g is_set inside in
     let same : left_out p g ≡ l = (Decides-int_eq (left_out p g) l).0 e in
     let high : g ≤ p.groups = left_out-group p g l low same over in
     let dead : literal_true (sat.0 ++ chosen p set) (left_out p g) ≡ false = left_out-value p sat.0 set g sat.1 low high ∙ ap not inside in

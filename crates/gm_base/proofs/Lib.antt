@@ -10,3 +10,5 @@ pub mod SpanLemmas
 pub mod FollowsLemmas
 pub mod Soundness
 pub mod EvidenceLemmas
+pub mod ExploredLemmas
+pub mod HittingLemmas

@@ -2,7 +2,7 @@
 use Rattle.std.proofs.Common.{◌≡◌, ◌≢◌, ℕ, zero, suc, ◌+◌, ◌<◌, ◌≤◌, Bool, true, false, not, ◌&&◌, ◌||◌, cond, take, drop, get_or, append-nil, List, [], ◌∷◌, ◌++◌, length, refl, sym, ◌∙◌, ap, subst, inl, inr, arith, eqb, ltb}
 use Rattle.std.specs.List.{list_all, filter, range_with_len}
 use Rattle.std.proofs.lemmas.List.Elements.{filter-append}
-use Rattle.std.proofs.lemmas.Bool.{ltb-true, ltb-false, le-ltb, cond_both, cond-true, cond-false, or_left, eqb-true, eq-eqb, ne_eqb, cases_Bool, or_from, cases_lt}
+use Rattle.std.proofs.lemmas.Bool.{ltb-true, ltb-false, le-ltb, cond_both, cond-true, cond-false, or_cases, or_left, or_right, and_parts, and_from, not-true, false≢true, false_from_ne_true, true_from_ne_false, eqb-true, eq-eqb, ne_eqb, cases_Bool, cases_eq, or_from, cases_lt}
 use Rattle.std.proofs.lemmas.List.{take_all, drop_more, drop_all}
 use Rattle.std.proofs.lemmas.List.Folds.{list_any_at}
 use Rattle.std.proofs.lemmas.List.Sorted.{searched}
@@ -35,6 +35,29 @@ has-without set g h = has-filter (λ k. not (eqb k g)) set h
 
 pub has-complement : (groups : ℕ) (set : List ℕ) (g : ℕ) → has (complement groups set) g ≡ (not (has set g) && has (all_groups groups) g)
 has-complement groups set g = has-filter (λ k. not (has set k)) (all_groups groups) g
+
+pub has-complement-parts : (groups : ℕ) (set : List ℕ) (g : ℕ) → has (complement groups set) g ≡ true
+    → (has set g ≡ false) × (has (all_groups groups) g ≡ true)
+has-complement-parts groups set g h =
+    let parts = and_parts (not (has set g)) (has (all_groups groups) g) (sym (has-complement groups set g) ∙ h) in
+    (not-true (has set g) parts.0, parts.1)
+
+pub has-complement-from : (groups : ℕ) (set : List ℕ) (g : ℕ) → has (all_groups groups) g ≡ true → has set g ≡ false
+    → has (complement groups set) g ≡ true
+has-complement-from groups set g all out =
+    has-complement groups set g ∙ and_from (not (has set g)) (has (all_groups groups) g) (ap not out) all
+
+-- the complement of the complement has the same groups
+pub IsSubset-complement_twice : (groups : ℕ) (set : List ℕ) → IsSubset set (all_groups groups)
+    → IsSubset set (complement groups (complement groups set))
+IsSubset-complement_twice groups set within g i =
+    has-complement-from groups (complement groups set) g (within g i)
+    (false_from_ne_true (has (complement groups set) g) (λ out. false≢true (sym (has-complement-parts groups set g out).0 ∙ i)))
+
+pub complement_twice-IsSubset : (groups : ℕ) (set : List ℕ) → IsSubset (complement groups (complement groups set)) set
+complement_twice-IsSubset groups set g i =
+    let parts = has-complement-parts groups (complement groups set) g i in
+    true_from_ne_false (has set g) (λ out. false≢true (sym parts.0 ∙ has-complement-from groups set g parts.1 out))
 
 pub IsSubset-from_all : (small large : List ℕ) → list_all (has large) small ≡ true → IsSubset small large
 IsSubset-from_all small large a g h =
@@ -155,6 +178,70 @@ not_has-bound low g [] le h = refl
 not_has-bound low g (x ∷ xs) le h =
     let above = h.0 in
     or_from (eqb x g) (has xs g) (ne_eqb x g (λ e. absurd (omega arith))) (not_has-bound x g xs (omega arith) h.1)
+
+-- each group of what ascends above a bound is above it
+pub AscendsAbove-has : (low : ℕ) (set : List ℕ) (g : ℕ) → AscendsAbove low set → has set g ≡ true → low < g
+AscendsAbove-has low set g h i =
+    elim (cases_lt low g) [ inl above ↦ above | inr le ↦ absurd (false≢true (sym (not_has-bound low g set le h) ∙ i)) ]
+
+-- a list has its first group
+pub has-head : (g : ℕ) (gs : List ℕ) → has (g ∷ gs) g ≡ true
+has-head g gs = or_left (eqb g g) (has gs g) (eq-eqb g g refl)
+
+-- a subset of an ascending list, without their common head
+IsSubset-tail : (x y : ℕ) (xs ys : List ℕ) → x ≡ y → AscendsAbove x xs → IsSubset (x ∷ xs) (y ∷ ys) → IsSubset xs ys
+IsSubset-tail x y xs ys same ok sub g i =
+    elim (or_cases (eqb y g) (has ys g) (sub g (or_right (eqb x g) (has xs g) i))) [
+      | inl here ↦ let e = eqb-true y g here in let above = AscendsAbove-has x xs g ok i in absurd (omega arith)
+      | inr later ↦ later
+    ]
+
+-- the head of an ascending list is not above a group of the list
+head-least : (low x g : ℕ) (xs : List ℕ) → AscendsAbove low (x ∷ xs) → has (x ∷ xs) g ≡ true → x ≤ g
+head-least low x g xs ok i =
+    elim (or_cases (eqb x g) (has xs g) i) [
+      | inl here ↦ let e = eqb-true x g here in omega arith
+      | inr later ↦ let above = AscendsAbove-has x xs g ok.1 later in omega arith
+    ]
+
+-- two ascending lists with the same groups are one
+pub AscendsAbove-same : (low : ℕ) (xs ys : List ℕ) → AscendsAbove low xs → AscendsAbove low ys
+    → IsSubset xs ys → IsSubset ys xs → xs ≡ ys
+AscendsAbove-same low [] [] p q there back = refl
+AscendsAbove-same low [] (y ∷ ys) p q there back = absurd (false≢true (back y (has-head y ys)))
+AscendsAbove-same low (x ∷ xs) [] p q there back = absurd (false≢true (there x (has-head x xs)))
+AscendsAbove-same low (x ∷ xs) (y ∷ ys) p q there back =
+    let at_least = head-least low x y xs p (back y (has-head y ys)) in
+    let at_most = head-least low y x ys q (there x (has-head x xs)) in
+    let same : x ≡ y = omega arith in
+    let rest : xs ≡ ys =
+    AscendsAbove-same x xs ys p.1 (subst (λ n. AscendsAbove n ys) (sym same) q.1) (IsSubset-tail x y xs ys same p.1 there)
+    (IsSubset-tail y x ys xs (sym same) q.1 back) in
+    cc
+
+has-range : (a n g : ℕ) → a ≤ g → g < a + n → has (range_with_len a n) g ≡ true
+has-range a zero g low high = absurd (omega arith)
+has-range a (suc n) g low high =
+    elim (cases_eq a g) [
+      | inl same ↦ or_left (eqb a g) (has (range_with_len (a + 1) n) g) (eq-eqb a g same)
+      | inr other ↦
+          or_right (eqb a g) (has (range_with_len (a + 1) n) g) (has-range (a + 1) n g (omega arith) (omega arith))
+    ]
+
+range-has : (a n g : ℕ) → has (range_with_len a n) g ≡ true → (a ≤ g) × (g < a + n)
+range-has a zero g h = absurd (false≢true h)
+range-has a (suc n) g h =
+    elim (or_cases (eqb a g) (has (range_with_len (a + 1) n) g) h) [
+      | inl here ↦ let same = eqb-true a g here in (omega arith, omega arith)
+      | inr later ↦ let (low, high) = range-has (a + 1) n g later in (omega arith, omega arith)
+    ]
+
+-- the groups up to a number
+pub has-all_groups : (groups g : ℕ) → 0 < g → g ≤ groups → has (all_groups groups) g ≡ true
+has-all_groups groups g low high = has-range 1 groups g low (omega arith)
+
+pub all_groups-has : (groups g : ℕ) → has (all_groups groups) g ≡ true → (0 < g) × (g ≤ groups)
+all_groups-has groups g h = let (low, high) = range-has 1 groups g h in (low, omega arith)
 
 -- the complement of a set up to i, where the groups of the set from the place `at` on are above i, and those before are not
 pub record Merged (set rest : List ℕ) (i at : ℕ) : Type 0 where

@@ -1,9 +1,10 @@
 -- Worked evidence for the four clauses of `Rows`, checked by computation.
-use Rattle.std.specs.Prelude.{◌≡◌, ℕ, true, false, List, [], ◌∷◌, pos, negsuc, ℤ}
+use Rattle.std.specs.Prelude.{◌≡◌, ℕ, Bool, true, false, List, [], ◌∷◌, take, pos, negsuc, ℤ}
 use Rattle.std.proofs.Common.{refl}
 use Rattle.gm_base.specs.Derivation.{Derivation, derives_within}
 use Rattle.gm_base.specs.Evidence.{selector_form, refutes, AcceptsConflict, AcceptsCorrection}
-use Rattle.gm_base.specs.Explored.{Found, Conflict, Correction, block_clause, is_explored}
+use Rattle.gm_base.specs.declared.kind.Kind.TheVariants.{Conflict, Correction}
+use Rattle.gm_base.specs.Explored.{Found, block_clause, is_explored, groups_true, is_model}
 use Rattle.gm_base.specs.Rows.{four_clauses}
 use Rattle.std.specs.Prelude.{map}
 use Rattle.std.proofs.Common.{arith}
@@ -61,6 +62,19 @@ blocks_of_all_five = refl
 
 pub closing_of_all_five : derives_within 4 (map block_clause all_five) (one_step 6 [] (3 ∷ 1 ∷ 4 ∷ 5 ∷ 2 ∷ [])) (λ l. false) ≡ true
 closing_of_all_five = refl
+
+-- groups 1 and 3, a model of the first three block clauses; the last one, of groups 2 and 4, rules it out
+abbrev pub first_and_third : List Bool
+first_and_third = true ∷ false ∷ true ∷ false ∷ []
+
+pub groups_of_model : groups_true first_and_third ≡ 1 ∷ 3 ∷ []
+groups_of_model = refl
+
+pub model_of_three : is_model (take 3 all_five) first_and_third ≡ true
+model_of_three = refl
+
+pub no_model_of_five : is_model all_five first_and_third ≡ false
+no_model_of_five = refl
 
 -- a conflict explores what holds it, a correction what misses it, and an empty set of either kind explores all
 pub explored_by_conflict : is_explored (record { kind = Conflict; set = 1 ∷ 2 ∷ [] } ∷ []) (1 ∷ 2 ∷ 4 ∷ []) ≡ true

@@ -1,14 +1,15 @@
 -- Which sets of groups the conflicts and corrections that were found have explored, and the clauses that block them in
 -- the map (MARCO: Liffiton, Previti, Malik and Marques-Silva 2016).
-use Rattle.std.specs.Prelude.{ℕ, Bool, not, List, map, ℤ, pos, neg_ℤ}
-use Rattle.std.specs.List.{list_any, list_all}
-use Rattle.gm_base.specs.Sets.{has}
+use Rattle.std.specs.Prelude.{◌≡◌, ℕ, ◌-◌, Bool, true, false, not, List, length, map, ℤ, pos, neg_ℤ, slice_index_or}
+use Rattle.std.specs.List.{list_any, list_all, filter}
+use Rattle.gm_base.specs.Sets.{has, all_groups, IsGroupSet, IsSubset}
+use Rattle.gm_base.specs.Literals.{clause_true}
+use Rattle.gm_base.specs.declared.kind.Kind.{Kind}
+use Rattle.gm_base.specs.declared.kind.Kind.TheVariants.{Conflict, Correction}
+use Rattle.gm_base.specs.declared.kind.Side.{Side}
+use Rattle.gm_base.specs.declared.kind.Side.TheVariants.{Up, Down}
 
 -- a minimal conflict or a minimal correction that was found
-pub data Kind : Type 0 where
-  Conflict : Kind
-  Correction : Kind
-
 pub record Found : Type 0 where
   pub kind : Kind
   pub set : List ℕ
@@ -32,3 +33,26 @@ block_clause f = by f.kind
     by : Kind → List ℤ
     by Conflict = map (λ g. neg_ℤ (pos g)) f.set
     by Correction = map pos f.set
+
+-- what a block on a side is of
+abbrev pub block_of : Side → List ℕ → Found
+block_of Up set = record { kind = Conflict; set = set }
+block_of Down set = record { kind = Correction; set = set }
+
+-- an ascending set of these groups that nothing explores
+pub record IsUnexplored (groups : ℕ) (found : List Found) (set : List ℕ) : Type 0 where
+  pub is_set : IsGroupSet set
+  pub within : IsSubset set (all_groups groups)
+  pub unexplored : is_explored found set ≡ false
+
+-- each set of these groups is explored
+pub record AllExplored (groups : ℕ) (found : List Found) : Type 0 where
+  pub explored : (set : List ℕ) → IsGroupSet set → IsSubset set (all_groups groups) → is_explored found set ≡ true
+
+-- an assignment of the map read as a set: the groups whose variables are true
+abbrev pub groups_true : List Bool → List ℕ
+groups_true assign = filter (λ g. slice_index_or assign (g - 1) false) (all_groups (length assign))
+
+-- the assignment makes the block clauses of all that was found true
+abbrev pub is_model : List Found → List Bool → Bool
+is_model found assign = list_all (clause_true assign) (map block_clause found)

@@ -1,10 +1,12 @@
 -- Laws of minimal conflicts and corrections.
-use Rattle.std.specs.Prelude.{◌≡◌, ◌↔◌, ℕ, Bool, true, List, ◌++◌}
+use Rattle.std.specs.Prelude.{◌≡◌, ◌⊎◌, ◌↔◌, ℕ, Bool, true, false, List, ◌++◌, length}
 use Rattle.gm_base.specs.declared.clause.Clause.{Clause}
-use Rattle.gm_base.specs.Sets.{has, IsSubset, IsGroupSet, without, complement}
+use Rattle.gm_base.specs.Sets.{has, IsSubset, IsProperSubset, IsGroupSet, all_groups, without, complement}
+use Rattle.gm_base.specs.Members.{In}
 use Rattle.gm_base.specs.Problem.{Problem, IsProblem, Sat}
 use Rattle.gm_base.specs.Derivation.{Derivation}
 use Rattle.gm_base.specs.Evidence.{AcceptsConflict, AcceptsCorrection}
+use Rattle.gm_base.specs.Explored.{Found, is_explored, is_model, groups_true}
 use Rattle.gm_base.specs.Minimal.{IsConflict, IsCorrection, is_conflict, is_correction, is_sat}
 
 -- more groups keep unsatisfiability
@@ -54,3 +56,47 @@ CorrectionByEvidence =
     → IsProblem p
     → AcceptsCorrection p set witness proofs
     → IsCorrection p set
+
+-- an ascending set of the problem's groups
+abbrev pub IsSetOf : Problem → List ℕ → Type 0
+IsSetOf p set = IsGroupSet set × IsSubset set (all_groups p.groups)
+
+-- no group is in both
+abbrev pub AreDisjoint : List ℕ → List ℕ → Type 0
+AreDisjoint a b = (g : ℕ) → has a g ≡ true → has b g ≡ false
+
+-- each set of groups holds a minimal conflict, or misses a minimal correction
+abbrev pub HoldsOrMisses : Type 0
+HoldsOrMisses =
+    (p : Problem) (set : List ℕ)
+    → IsSubset set (all_groups p.groups)
+    → ((u : List ℕ) × IsSetOf p u × IsConflict p u × IsSubset u set) ⊎ ((c : List ℕ) × IsSetOf p c × IsCorrection p c × AreDisjoint c set)
+
+-- the set has a group of each minimal conflict
+abbrev pub HitsConflicts : Problem → List ℕ → Type 0
+HitsConflicts p set = (u : List ℕ) → IsSetOf p u → IsConflict p u → (g : ℕ) × (has u g ≡ true) × (has set g ≡ true)
+
+-- the set has a group of each minimal correction
+abbrev pub HitsCorrections : Problem → List ℕ → Type 0
+HitsCorrections p set = (c : List ℕ) → IsSetOf p c → IsCorrection p c → (g : ℕ) × (has c g ≡ true) × (has set g ≡ true)
+
+-- the set hits, and no proper subset of it does
+pub record IsMinimalHitting (Hits : List ℕ → Type 0) (set : List ℕ) : Type 0 where
+  pub hits : Hits set
+  pub minimal : (part : List ℕ) → IsProperSubset part set → ¬ Hits part
+
+-- the minimal conflicts are the minimal hitting sets of the minimal corrections, and the other way round (Liffiton and
+-- Sakallah 2008; for sets of constraints, Reiter 1987)
+abbrev pub HitEachOther : Type 0
+HitEachOther =
+    (p : Problem) (set : List ℕ)
+    → IsSetOf p set
+    → (IsConflict p set ↔ IsMinimalHitting (HitsCorrections p) set) × (IsCorrection p set ↔ IsMinimalHitting (HitsConflicts p) set)
+
+-- the models of the block clauses, read as sets, are exactly the sets that nothing explores
+abbrev pub ModelsAreUnexplored : Type 0
+ModelsAreUnexplored =
+    (groups : ℕ) (found : List Found) (assign : List Bool)
+    → ((f : Found) → In f found → IsSubset f.set (all_groups groups))
+    → length assign ≡ groups
+    → (is_model found assign ≡ true ↔ is_explored found (groups_true assign) ≡ false)

@@ -1,5 +1,5 @@
 //! Laws over the definitions alone. Each is the contract of a function that has no code.
-ghost use Rattle.gm_base.specs.Laws.{GroupsKeepUnsat, ClausesKeepUnsat, ConflictBySingles, CorrectionBySingles, TestsDecide, ConflictByEvidence, CorrectionByEvidence};
+ghost use Rattle.gm_base.specs.Laws.{GroupsKeepUnsat, ClausesKeepUnsat, ConflictBySingles, CorrectionBySingles, TestsDecide, ConflictByEvidence, CorrectionByEvidence, HoldsOrMisses, HitEachOther, ModelsAreUnexplored};
 
 /// More groups keep unsatisfiability.
 pub fn groups_keep_unsat()
@@ -26,4 +26,16 @@ pub fn tests_decide()
 pub fn accepted_is_minimal()
     ensures conflict { ConflictByEvidence }
     ensures correction { CorrectionByEvidence }
+{}
+
+/// Each set of groups holds a minimal conflict or misses a minimal correction, and these are each other's minimal hitting
+/// sets.
+pub fn conflicts_and_corrections()
+    ensures holds_or_misses { HoldsOrMisses }
+    ensures hit_each_other { HitEachOther }
+{}
+
+/// The models of the block clauses, read as sets, are exactly the sets that nothing explores.
+pub fn models_are_unexplored()
+    ensures { ModelsAreUnexplored }
 {}

@@ -11,7 +11,9 @@
 //! ```
 //!
 //! For those who search, a [`Derivation`] is the steps by which a clause follows from others, a [`WorkList`] hands out
-//! numbers from the greatest down, and a [`Purse`] says how many clauses may still be learnt.
+//! numbers from the greatest down, and a [`Purse`] says how many clauses may still be learnt. For those who enumerate, a
+//! [`Kind`] says whether a minimal set is a conflict or a correction, a [`Side`] which sets it takes out of the map, and
+//! `specs/Explored.antt` which sets all that was found has explored.
 //!
 //! Start reading at `specs/Sets.antt`, `specs/Problem.antt` and `specs/Minimal.antt`, on which every promise of the
 //! program stands. `specs/Rows.antt` has worked examples that the definitions compute, and the module `laws` what is
@@ -23,6 +25,7 @@ mod clause;
 mod derivation;
 mod group_set;
 mod index;
+mod kind;
 pub mod laws;
 mod lit;
 mod problem;
@@ -37,6 +40,7 @@ pub use clause::{Clause, Clauses};
 pub use derivation::{Derivation, Step};
 pub use group_set::GroupSet;
 pub use index::Placed;
+pub use kind::{Kind, Side};
 pub use lit::{Lit, Lits};
 pub use problem::{Problem, clause_fits};
 pub use purse::Purse;

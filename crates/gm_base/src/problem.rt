@@ -10,6 +10,7 @@ use crate::assign::Assign;
 use crate::clause::{Clause, Clauses};
 use crate::group_set::GroupSet;
 use crate::index::{Placed, index_of, stretch};
+use crate::lit::Lits;
 use std::alloc::{AllocError, Global};
 use std::marker::Model;
 
@@ -56,6 +57,20 @@ impl Problem {
         Ok(Problem {
             vars,
             groups,
+            clauses,
+            index,
+        })
+    }
+
+    /// A copy of it.
+    pub fn copy(&self, alloc: Global) -> Result<Problem, AllocError>
+        ensures { IfOk result (λ copy. copy ≡ self.now) }
+    {
+        let clauses = copy_clauses(alloc, self.clauses.as_slice())?;
+        let index = Vec::from_slice(alloc, self.index.as_slice())?;
+        Ok(Problem {
+            vars: self.vars,
+            groups: self.groups,
             clauses,
             index,
         })
@@ -128,6 +143,20 @@ impl Problem {
         }
         true
     }
+}
+
+fn copy_clauses(alloc: Global, clauses: &[Clause]) -> Result<Vec<Clause>, AllocError>
+    ensures { IfOk result (λ copies. copies.items ≡ clauses.now) }
+{
+    let mut copies = Vec::with_capacity(alloc, clauses.len())?;
+    for clause in clauses {
+        let lits = Lits::from_slice(alloc, clause.lits.as_slice())?;
+        copies.push(Clause {
+            group: clause.group,
+            lits,
+        })?;
+    }
+    Ok(copies)
 }
 
 /// Whether a clause is over these groups and variables.

@@ -78,6 +78,7 @@ fn four_clauses(alloc: Global) -> Result<Problem, AllocError> {
 fn problem_holds_for_the_groups_that_an_assignment_satisfies(rt: HostRuntime) -> Result<(), Fail> {
     let alloc = rt.alloc();
     let problem = four_clauses(alloc)?;
+    let copy = problem.copy(alloc)?;
     let rows: [(bool, bool, &[u32], bool); 6] = [
         (false, false, &[2, 3, 4], true),
         (false, false, &[1], false),
@@ -93,8 +94,28 @@ fn problem_holds_for_the_groups_that_an_assignment_satisfies(rt: HostRuntime) ->
         assign.set(2, y);
         let set = set_of(alloc, groups)?;
         assert_eq!(rt; problem.holds(&set, &assign), wanted, "{x} {y} {groups:?}");
+        assert_eq!(rt; copy.holds(&set, &assign), wanted, "{x} {y} {groups:?}");
     }
-    assert_eq!(rt; problem.places(3).len(), 1);
+    Ok(())
+}
+
+#[test]
+fn copy_of_a_problem_has_its_clauses_in_their_groups(rt: HostRuntime) -> Result<(), Fail> {
+    let alloc = rt.alloc();
+    let copy = four_clauses(alloc)?.copy(alloc)?;
+    let rows: [(u32, &[i32]); 4] = [(1, &[1]), (2, &[-1]), (3, &[-1, 2]), (4, &[-2])];
+    assert_eq!(rt; copy.len(), rows.len());
+    for (at, (group, lits)) in rows.iter().enumerate() {
+        assert_eq!(rt; copy.places(*group).len(), 1, "{group}");
+        if at < copy.len() {
+            let clause = copy.clause(at);
+            assert_eq!(rt; clause.group, *group);
+            assert_eq!(rt; clause.lits.len(), lits.len(), "{group}");
+            for (lit, number) in clause.lits.as_slice().iter().zip(lits.iter()) {
+                assert_eq!(rt; lit.number(), *number, "{group}");
+            }
+        }
+    }
     Ok(())
 }
 
