@@ -1,5 +1,6 @@
 pub mod Records
 pub mod Asking
+pub mod Seeding
 pub mod Verdicts
 pub mod Refusals
 pub mod Basis

@@ -1,4 +1,4 @@
-//! Records of minimal sets, checks of records, and the oracle that records are made by.
+//! Records of minimal sets, checks of records, and what enumerates them: oracles and map engines.
 //!
 //! A [`Record`] is a set of groups with the evidence that it is a minimal conflict or a minimal correction: refutations,
 //! each a derivation from the clauses with their selectors, and assignments as witnesses. Whoever made it, [`check_record`]
@@ -12,7 +12,7 @@
 //! ```
 //!
 //! A [`RecordChecker`] is made once for many records about one problem. An [`Oracle`] answers whether groups can be
-//! satisfied together, and derives its refutations.
+//! satisfied together, and derives its refutations. A [`MapEngine`] finds sets of groups that no record explores yet.
 //!
 //! Start reading at `specs/Records.antt` and `specs/Refusals.antt`, which say what a record means and what it is refused
 //! for, and at `specs/Rows.antt`, which has a row for each reason. How the sets are found, and how records are written as
@@ -20,6 +20,7 @@
 #![tactic(auto)]
 
 mod checking;
+mod engine;
 mod lines;
 mod lists;
 mod oracle;
@@ -31,6 +32,7 @@ mod tests;
 mod witnessing;
 
 pub use checking::{RecordChecker, Verdict, check_record};
-pub use lists::{Proofs, Witnesses};
+pub use engine::{MapEngine, Seed};
+pub use lists::{Proofs, Records, Witnesses};
 pub use oracle::{Asked, Oracle};
 pub use record::Record;

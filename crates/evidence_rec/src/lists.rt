@@ -1,6 +1,7 @@
-//! Lists of witnesses and of proofs.
+//! Lists of witnesses, of proofs and of records.
 ghost use Rattle.std.specs.Prelude.{◌≡◌, ◌↔◌, ◌<◌, [], ◌∷◌, ◌++◌, IsTrue, OnOk, OnErr, Some, length, slice_get};
 
+use crate::record::Record;
 use gm_base::{Assign, Derivation};
 use std::alloc::{AllocError, Global};
 use std::marker::Model;
@@ -111,5 +112,72 @@ impl Proofs {
         ensures { slice_get self.now at ≡ Some result.now }
     {
         &self.items[at]
+    }
+}
+
+/// Records, in order.
+#[derive(Drop)]
+pub struct Records {
+    items: Vec<Record>,
+}
+
+impl Model for Records {
+    ghost use Rattle.std.specs.Prelude.{List};
+    ghost use Rattle.evidence_rec.specs.declared.record.Record.{Record};
+
+    ghost Value = { List Record };
+
+    ghost view = { λ records. records.items.items };
+}
+
+impl Records {
+    /// No records. It takes no memory.
+    pub fn new(alloc: Global) -> Records
+        ensures { result ≡ [] }
+    {
+        Records {
+            items: Vec::new(alloc),
+        }
+    }
+
+    /// The records of a vector. It takes no memory.
+    pub fn from_vec(items: Vec<Record>) -> Records
+        ensures { result ≡ items.items }
+    {
+        Records { items }
+    }
+
+    /// They as a vector. It takes no memory.
+    pub fn into_vec(self) -> Vec<Record>
+        ensures { result.items ≡ self }
+    {
+        self.items
+    }
+
+    /// Adds a record at the end.
+    pub fn push(&mut self, made: Record) -> Result<(), AllocError>
+        ensures ok { OnOk result (self.new ≡ self.old ++ made ∷ []) }
+        ensures err { OnErr result (self.new ≡ self.old) }
+    {
+        self.items.push(made)?;
+        Ok(())
+    }
+
+    pub fn len(&self) -> usize
+        ensures { result ≡ length self.now }
+    {
+        self.items.len()
+    }
+
+    pub fn is_empty(&self) -> bool
+        ensures { IsTrue result ↔ (self.now ≡ []) }
+    {
+        self.items.is_empty()
+    }
+
+    pub fn as_slice(&self) -> &[Record]
+        ensures { result.now ≡ self.now }
+    {
+        self.items.as_slice()
     }
 }
