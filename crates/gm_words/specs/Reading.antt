@@ -1,10 +1,15 @@
 -- The words of the command line: the command as a value of clap's specification, and what it reads of any words.
--- clap (docs.rs/clap): a subcommand's name comes first; `--` ends the options; `-` alone is a word.
-use Rattle.std.specs.Prelude.{List, Option, None, codes, if◌then◌else◌, option_and_then, option_map, true}
+-- clap (docs.rs/clap): a subcommand's name comes first; an option stands before or after the other words, as
+-- `--name VALUE` or `--name=VALUE`, and at most once; `--` ends the options; `-` alone is a word.
+use Rattle.std.specs.Prelude.{◌-◌, ◌^◌, ℕ, List, Option, Some, None, codes, if◌then◌else◌, option_and_then, true}
+use Rattle.std.specs.Option.{option_map_or}
 use Rattle.std.specs.Str.{bytes_eq}
+use Rattle.std.specs.Str.Parse.{digits_value, without_leading_plus}
 use Rattle.clap.specs.Walk.{Row, Rule, Text, first_of, is_empty}
 use Rattle.clap.specs.Simple.{App, new_app, new_rule, subcommand_of, with_rule, with_subcommand}
+use Rattle.clap.specs.Takes.{value_passes}
 use Rattle.clap.specs.Faults.{fault_of}
+use Rattle.clap.specs.declared.builder.value_parser.ValueParser.TheVariants.{Unsigned}
 
 -- ---- the command
 
@@ -12,9 +17,29 @@ use Rattle.clap.specs.Faults.{fault_of}
 abbrev pub place_rule : Text → Rule
 place_rule id = record (new_rule id) { required = true }
 
--- `list FILE`
+-- `--id NUMBER`: a text that Rust reads as a u64, from `low` to `high`
+abbrev pub number_rule : Text → ℕ → ℕ → Rule
+number_rule id low high = record (new_rule id) { long = Some id; parser = Some (Unsigned low high) }
+
+-- the greatest numbers that the options take, which are also meant where they are not given
+abbrev pub greatest_conflicts : ℕ
+greatest_conflicts = 2 ^ 64 - 1
+
+abbrev pub greatest_limit : ℕ
+greatest_limit = 1000000000
+
+-- `--conflicts B`
+abbrev pub conflicts_rule : Rule
+conflicts_rule = number_rule (codes "conflicts") 0 greatest_conflicts
+
+-- `--limit L`
+abbrev pub limit_rule : Rule
+limit_rule = number_rule (codes "limit") 1 greatest_limit
+
+-- `list FILE [--conflicts B] [--limit L]`
 abbrev pub list_app : App
-list_app = with_rule (new_app (codes "list")) (place_rule (codes "file"))
+list_app = with_rule (with_rule (with_rule (new_app (codes "list"))
+    (place_rule (codes "file"))) conflicts_rule) limit_rule
 
 -- the command without its subcommands: the program's name is not among the words, and a subcommand is due
 abbrev pub gmus_top : App
@@ -31,13 +56,31 @@ gmus_app = with_subcommand gmus_top list_app.top
 -- what `list` is asked for
 pub record Listing : Type 0 where
   pub file : Text
+  pub conflicts : ℕ
+  pub limit : ℕ
 
 pub data Asked : Type 0 where
   listing : Listing → Asked
 
+-- the number that a text says, where the option takes the text
+abbrev pub number_by : Rule → Text → Option ℕ
+number_by rule text = if value_passes rule text
+    then Some (digits_value 10 (without_leading_plus text)) else None
+
+-- the number of an option, or `other` where it is not given
+abbrev pub number_or : ℕ → Rule → List Row → Option ℕ
+number_or other rule rows = option_map_or (number_by rule) (first_of rule.id rows) (Some other)
+
+-- a listing, where each of its parts can be had
+abbrev pub listing_with : Option Text → Option ℕ → Option ℕ → Option Asked
+listing_with (Some file) (Some conflicts) (Some limit) =
+    Some (listing (record { file = file; conflicts = conflicts; limit = limit }))
+listing_with _ _ _ = None
+
 -- what the values of `list` ask for
 abbrev pub listing_of : List Row → Option Asked
-listing_of rows = option_map (λ file. listing (record { file = file })) (first_of (codes "file") rows)
+listing_of rows = listing_with (first_of (codes "file") rows)
+    (number_or greatest_conflicts conflicts_rule rows) (number_or greatest_limit limit_rule rows)
 
 -- what a subcommand's values ask for
 abbrev pub asked_of : Text → List Row → Option Asked

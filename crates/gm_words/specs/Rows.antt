@@ -1,13 +1,18 @@
 -- Worked rows: what command lines ask for, computed from the definition.
-use Rattle.std.specs.Prelude.{◌≡◌, [], ◌∷◌, Option, Some, None, codes}
+use Rattle.std.specs.Prelude.{◌≡◌, ℕ, [], ◌∷◌, Option, Some, None, codes}
 use Rattle.std.proofs.Common.{refl}
 use Rattle.clap.proofs.OnLiterals.{clap_on_literals}
 use Rattle.clap.specs.Walk.{Text}
-use Rattle.gm_words.specs.Reading.{Asked, listing, words_read}
+use Rattle.gm_words.specs.Reading.{Asked, greatest_conflicts, greatest_limit, listing, words_read}
 
--- `list` of a file
+-- `list` of a file, with both numbers
+abbrev pub listing_of_file : Text → ℕ → ℕ → Option Asked
+listing_of_file file conflicts limit =
+    Some (listing (record { file = file; conflicts = conflicts; limit = limit }))
+
+-- and with none given
 abbrev pub list_of : Text → Option Asked
-list_of file = Some (listing (record { file = file }))
+list_of file = listing_of_file file greatest_conflicts greatest_limit
 
 -- one name, whatever it is; behind `--` also one that begins with `-`
 pub read :
@@ -16,8 +21,28 @@ pub read :
     × (words_read (codes "list" ∷ codes "-" ∷ []) ≡ list_of (codes "-"))
     × (words_read (codes "list" ∷ codes "help" ∷ []) ≡ list_of (codes "help"))
     × (words_read (codes "list" ∷ codes "--" ∷ codes "-x" ∷ []) ≡ list_of (codes "-x"))
+    × (words_read (codes "list" ∷ codes "--" ∷ codes "--limit" ∷ []) ≡ list_of (codes "--limit"))
 unfolding clap_on_literals
-read = (refl, refl, refl, refl, refl)
+read = (refl, refl, refl, refl, refl, refl)
+
+-- the options, before and behind the name
+pub read_options :
+    (words_read (codes "list" ∷ codes "f" ∷ codes "--conflicts" ∷ codes "0" ∷ [])
+    ≡ listing_of_file (codes "f") 0 greatest_limit)
+    × (words_read (codes "list" ∷ codes "f" ∷ codes "--conflicts=0" ∷ [])
+    ≡ listing_of_file (codes "f") 0 greatest_limit)
+    × (words_read (codes "list" ∷ codes "--limit" ∷ codes "5" ∷ codes "f" ∷ [])
+    ≡ listing_of_file (codes "f") greatest_conflicts 5)
+    × (words_read (codes "list" ∷ codes "f" ∷ codes "--limit" ∷ codes "5" ∷ codes "--conflicts"
+    ∷ codes "18446744073709551615" ∷ []) ≡ listing_of_file (codes "f") 18446744073709551615 5)
+    × (words_read (codes "list" ∷ codes "f" ∷ codes "--limit" ∷ codes "1000000000" ∷ [])
+    ≡ listing_of_file (codes "f") greatest_conflicts 1000000000)
+    × (words_read (codes "list" ∷ codes "f" ∷ codes "--conflicts" ∷ codes "+5" ∷ [])
+    ≡ listing_of_file (codes "f") 5 greatest_limit)
+    × (words_read (codes "list" ∷ codes "f" ∷ codes "--conflicts" ∷ codes "007" ∷ [])
+    ≡ listing_of_file (codes "f") 7 greatest_limit)
+unfolding clap_on_literals
+read_options = (refl, refl, refl, refl, refl, refl, refl)
 
 -- no name, two names, and what looks like an option
 pub refused :
@@ -25,11 +50,30 @@ pub refused :
     × (words_read (codes "list" ∷ codes "a" ∷ codes "b" ∷ []) ≡ None)
     × (words_read (codes "list" ∷ codes "-x" ∷ []) ≡ None)
     × (words_read (codes "list" ∷ codes "f" ∷ codes "--jobs" ∷ codes "2" ∷ []) ≡ None)
+    × (words_read (codes "list" ∷ codes "f" ∷ codes "--conflict" ∷ codes "1" ∷ []) ≡ None)
     × (words_read (codes "list" ∷ codes "--help" ∷ []) ≡ None)
+    × (words_read (codes "list" ∷ codes "--conflicts" ∷ codes "1" ∷ []) ≡ None)
+    × (words_read (codes "list" ∷ codes "f" ∷ codes "--" ∷ codes "--limit" ∷ codes "5" ∷ []) ≡ None)
 unfolding clap_on_literals
-refused = (refl, refl, refl, refl, refl)
+refused = (refl, refl, refl, refl, refl, refl, refl, refl)
 
--- no words, other subcommands, and asking for help
+-- `list f` with an option whose value is out of range, no number or not there, and with an option twice
+pub refused_options :
+    (words_read (codes "list" ∷ codes "f" ∷ codes "--limit" ∷ codes "0" ∷ []) ≡ None)
+    × (words_read (codes "list" ∷ codes "f" ∷ codes "--limit" ∷ codes "1000000001" ∷ []) ≡ None)
+    × (words_read (codes "list" ∷ codes "f" ∷ codes "--conflicts" ∷ codes "18446744073709551616" ∷ []) ≡ None)
+    × (words_read (codes "list" ∷ codes "f" ∷ codes "--conflicts" ∷ codes "-1" ∷ []) ≡ None)
+    × (words_read (codes "list" ∷ codes "f" ∷ codes "--conflicts=-1" ∷ []) ≡ None)
+    × (words_read (codes "list" ∷ codes "f" ∷ codes "--conflicts" ∷ codes "x" ∷ []) ≡ None)
+    × (words_read (codes "list" ∷ codes "f" ∷ codes "--conflicts" ∷ [] ∷ []) ≡ None)
+    × (words_read (codes "list" ∷ codes "f" ∷ codes "--conflicts=" ∷ []) ≡ None)
+    × (words_read (codes "list" ∷ codes "f" ∷ codes "--conflicts" ∷ []) ≡ None)
+    × (words_read (codes "list" ∷ codes "f" ∷ codes "--conflicts" ∷ codes "1" ∷ codes "--conflicts"
+    ∷ codes "1" ∷ []) ≡ None)
+unfolding clap_on_literals
+refused_options = (refl, refl, refl, refl, refl, refl, refl, refl, refl, refl)
+
+-- no words, other subcommands, an option before the subcommand, and asking for help
 pub no_subcommand :
     (words_read [] ≡ None)
     × (words_read (codes "frob" ∷ []) ≡ None)
@@ -39,5 +83,6 @@ pub no_subcommand :
     × (words_read (codes "-h" ∷ []) ≡ None)
     × (words_read (codes "--version" ∷ []) ≡ None)
     × (words_read (codes "--" ∷ codes "list" ∷ codes "f" ∷ []) ≡ None)
+    × (words_read (codes "--limit" ∷ codes "5" ∷ codes "list" ∷ codes "f" ∷ []) ≡ None)
 unfolding clap_on_literals
-no_subcommand = (refl, refl, refl, refl, refl, refl, refl, refl)
+no_subcommand = (refl, refl, refl, refl, refl, refl, refl, refl, refl)

@@ -4,6 +4,7 @@ ghost use Rattle.clap.specs.Words.{app_of, rule_of};
 ghost use Rattle.clap.specs.declared.builder.command.Command.TheViews.{out-Command};
 ghost use Rattle.gm_words.specs.Reading.{gmus_app, gmus_top, list_app, place_rule};
 
+use crate::options::{CONFLICTS, LIMIT};
 use clap::{Arg, Command};
 use std::alloc::{AllocError, Global};
 
@@ -23,12 +24,15 @@ fn gmus_top_command<'a>(alloc: Global) -> Command<'a>
         .subcommand_required(true)
 }
 
-/// `list FILE`
+/// `list FILE [--conflicts B] [--limit L]`
 fn list_command<'a>(alloc: Global) -> Result<Command<'a>, AllocError>
     ensures app { IfOk result (λ c. app_of c ≡ list_app) }
     ensures local { IfOk result (λ c. (out-Command c).has_globals ≡ false) }
 {
-    Command::new(alloc, "list").arg(place(alloc, "file"))
+    Command::new(alloc, "list")
+        .arg(place(alloc, "file"))?
+        .arg(CONFLICTS.arg(alloc))?
+        .arg(LIMIT.arg(alloc))
 }
 
 /// A word that is required at its place.

@@ -4,7 +4,7 @@
 //!
 //! ```text
 //! match read_words(alloc, words)? {
-//!     Some(Request::List(listing)) => list(listing.file),
+//!     Some(Request::List(listing)) => list(listing.file, listing.conflicts, listing.limit),
 //!     None => usage(),
 //! }
 //! ```
@@ -15,6 +15,7 @@
 #![tactic(auto)]
 
 mod command;
+mod options;
 mod read;
 mod request;
 

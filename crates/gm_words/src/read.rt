@@ -1,11 +1,13 @@
 //! Reads the words of a command line.
-ghost use Rattle.std.specs.Prelude.{◌≡◌, IfOk, map, option_and_then, option_map, string_bytes};
+ghost use Rattle.std.specs.Prelude.{◌≡◌, ◌≤◌, IfOk, IfSome, map, option_and_then, option_map, string_bytes};
 ghost use Rattle.clap.specs.Walk.{first_of, rows_of};
 ghost use Rattle.clap.specs.Words.{found_of, subcommand_rows_of};
-ghost use Rattle.gm_words.specs.Reading.{asked_of, listing_of, words_read};
-ghost use Rattle.gm_words.specs.Requests.{asked_by, text_of};
+ghost use Rattle.gm_words.specs.Options.{option_rule};
+ghost use Rattle.gm_words.specs.Reading.{asked_of, listing_of, number_or, words_read};
+ghost use Rattle.gm_words.specs.Requests.{HasGoodLimit, asked_by, text_of};
 
 use crate::command::gmus_command;
+use crate::options::{CONFLICTS, LIMIT, NumberOption};
 use crate::request::{Listing, Request};
 use clap::ArgMatches;
 use clap::error::ErrorKind;
@@ -13,7 +15,8 @@ use std::alloc::{AllocError, Global};
 
 /// Reads the words after the program's name. `None` is a wrong command line.
 pub fn read_words<'a>(alloc: Global, words: &'a [String]) -> Result<Option<Request<'a>>, AllocError>
-    ensures { IfOk result (λ r. option_map asked_by r ≡ words_read (map string_bytes words.entry.now)) }
+    ensures asked { IfOk result (λ r. option_map asked_by r ≡ words_read (map string_bytes words.entry.now)) }
+    ensures limit { IfOk result (λ r. IfSome r HasGoodLimit) }
 {
     match gmus_command(alloc)?.try_get_matches_from(words) {
         Ok(matches) => Ok(request_of(&matches)),
@@ -29,8 +32,9 @@ pub fn read_words<'a>(alloc: Global, words: &'a [String]) -> Result<Option<Reque
 
 /// What the matches of the whole command ask for.
 fn request_of<'a>(matches: &ArgMatches<'a>) -> Option<Request<'a>>
-    ensures { option_map asked_by result
+    ensures asked { option_map asked_by result
         ≡ option_and_then (λ p. asked_of p.0 p.1) (subcommand_rows_of matches.now) }
+    ensures limit { IfSome result HasGoodLimit }
 {
     let (name, inner) = matches.subcommand()?;
     if name == "list" { listing(inner) } else { None }
@@ -38,10 +42,17 @@ fn request_of<'a>(matches: &ArgMatches<'a>) -> Option<Request<'a>>
 
 /// What the matches of `list` ask for.
 fn listing<'a>(matches: &ArgMatches<'a>) -> Option<Request<'a>>
-    ensures { option_map asked_by result ≡ listing_of (rows_of (found_of matches.now)) }
+    ensures asked { option_map asked_by result ≡ listing_of (rows_of (found_of matches.now)) }
+    ensures limit { IfSome result HasGoodLimit }
 {
     let file = text_given(matches, "file")?;
-    Some(Request::List(Listing { file }))
+    let conflicts = number_or(matches, CONFLICTS, CONFLICTS.high)?;
+    let limit = number_or(matches, LIMIT, LIMIT.high)?;
+    Some(Request::List(Listing {
+        file,
+        conflicts,
+        limit,
+    }))
 }
 
 /// The text of an argument, if it was given.
@@ -49,4 +60,18 @@ fn text_given<'a>(matches: &ArgMatches<'a>, id: &str) -> Option<&'a str>
     ensures { text_of result ≡ first_of id.now (rows_of (found_of matches.now)) }
 {
     matches.get_str(id)
+}
+
+/// The number of an option, or `other` if it was not given. `None` is a text that the option does not take.
+fn number_or(matches: &ArgMatches<'_>, option: NumberOption, other: u64) -> Option<u64>
+    requires low { option.low ≤ other }
+    requires high { other ≤ option.high }
+    ensures number { result ≡ number_or other (option_rule option) (rows_of (found_of matches.now)) }
+    ensures low { IfSome result (λ n. option.low ≤ n) }
+    ensures high { IfSome result (λ n. n ≤ option.high) }
+{
+    match text_given(matches, option.name) {
+        Some(text) => option.number_by(text),
+        None => Some(other),
+    }
 }

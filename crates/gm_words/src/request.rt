@@ -5,11 +5,15 @@
 pub struct Listing<'a> {
     /// The name of the input file.
     pub file: &'a str,
+    /// The budget: how many conflicts (falsified clauses) the solver may meet.
+    pub conflicts: u64,
+    /// How many sets may be recorded before the listing ends.
+    pub limit: u64,
 }
 
 /// What the words ask for.
 #[derive(Clone, Copy, Debug, PartialEq, Eq)]
 pub enum Request<'a> {
-    /// `list FILE`
+    /// `list FILE [--conflicts B] [--limit L]`
     List(Listing<'a>),
 }

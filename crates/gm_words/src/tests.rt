@@ -24,6 +24,8 @@ fn a_listing_has_one_name(rt: HostRuntime) -> Result<(), Fail> {
         ("list|--|-x|", "-x"),
         ("list|--|--|", "--"),
         ("list|--|--help|", "--help"),
+        ("list|--|--limit|", "--limit"),
+        ("list|--|--limit=5|", "--limit=5"),
         ("list|a b|", "a b"),
         ("list|\u{e4}|", "\u{e4}"),
     ];
@@ -32,9 +34,69 @@ fn a_listing_has_one_name(rt: HostRuntime) -> Result<(), Fail> {
         let Ok(Some(Request::List(listing))) = read_words(rt.alloc(), words.as_slice()) else {
             return Err(Fail::from("no listing"));
         };
-        assert!(rt; listing == Listing { file }, "{line}");
+        let wanted = Listing {
+            file,
+            conflicts: u64::MAX,
+            limit: 1_000_000_000,
+        };
+        assert!(rt; listing == wanted, "{line}");
     }
     Ok(())
+}
+
+#[test]
+fn numbers_are_read_before_and_behind_the_name(rt: HostRuntime) -> Result<(), Fail> {
+    let rows = [
+        ("list|f|--conflicts|0|", 0, 1_000_000_000),
+        ("list|f|--conflicts=0|", 0, 1_000_000_000),
+        ("list|f|--conflicts|+5|", 5, 1_000_000_000),
+        ("list|f|--conflicts=+5|", 5, 1_000_000_000),
+        ("list|f|--conflicts|007|", 7, 1_000_000_000),
+        ("list|f|--limit|1|", u64::MAX, 1),
+        ("list|f|--limit=1000000000|", u64::MAX, 1_000_000_000),
+        (
+            "list|f|--limit|000000000001000000000|",
+            u64::MAX,
+            1_000_000_000,
+        ),
+        ("list|--limit|5|f|", u64::MAX, 5),
+        ("list|--limit=5|--|f|", u64::MAX, 5),
+        ("list|f|--limit|5|--|", u64::MAX, 5),
+        (
+            "list|f|--limit|5|--conflicts|18446744073709551615|",
+            u64::MAX,
+            5,
+        ),
+        ("list|--conflicts|3|f|--limit|4|", 3, 4),
+        ("list|--limit=4|--conflicts=3|f|", 3, 4),
+    ];
+    for (line, conflicts, limit) in rows {
+        let words = split(rt.alloc(), line)?;
+        let Ok(Some(Request::List(listing))) = read_words(rt.alloc(), words.as_slice()) else {
+            return Err(Fail::from("no listing"));
+        };
+        let wanted = Listing {
+            file: "f",
+            conflicts,
+            limit,
+        };
+        assert!(rt; listing == wanted, "{line}");
+    }
+    Ok(())
+}
+
+/// The first of the lines that is not wrong.
+fn first_read<'a>(alloc: Global, lines: &[&'a str]) -> Result<Option<&'a str>, Fail> {
+    for line in lines {
+        let words = split(alloc, line)?;
+        let Ok(request) = read_words(alloc, words.as_slice()) else {
+            return Err(Fail::from("no memory"));
+        };
+        if request.is_some() {
+            return Ok(Some(*line));
+        }
+    }
+    Ok(None)
 }
 
 #[test]
@@ -65,13 +127,74 @@ fn other_lines_are_wrong(rt: HostRuntime) -> Result<(), Fail> {
         "check|f|e|",
         "drill|7|12|",
         "f|list|",
+        "--limit|5|list|f|",
+        "list|f|--|--limit|5|",
+        "list|f|--conflicts|1|g|",
+        "list|--conflicts|1|",
+        "list|--limit|f|",
     ];
-    for line in lines {
-        let words = split(rt.alloc(), line)?;
-        let Ok(request) = read_words(rt.alloc(), words.as_slice()) else {
-            return Err(Fail::from("no memory"));
-        };
-        assert!(rt; request.is_none(), "{line}");
-    }
+    assert_eq!(rt; first_read(rt.alloc(), &lines)?, None);
+    Ok(())
+}
+
+#[test]
+fn options_that_are_not_known_are_wrong(rt: HostRuntime) -> Result<(), Fail> {
+    let lines = [
+        "list|f|--conflict|1|",
+        "list|f|--conflict=1|",
+        "list|f|--limits|1|",
+        "list|f|--l|1|",
+        "list|f|-l|1|",
+        "list|f|-limit|1|",
+        "list|f|--Limit|1|",
+        "list|f|--=1|",
+    ];
+    assert_eq!(rt; first_read(rt.alloc(), &lines)?, None);
+    Ok(())
+}
+
+#[test]
+fn values_that_are_no_number_in_the_range_are_wrong(rt: HostRuntime) -> Result<(), Fail> {
+    let lines = [
+        "list|f|--limit|0|",
+        "list|f|--limit=0|",
+        "list|f|--limit|1000000001|",
+        "list|f|--limit|18446744073709551617|",
+        "list|f|--conflicts|18446744073709551616|",
+        "list|f|--conflicts|-1|",
+        "list|f|--conflicts=-1|",
+        "list|f|--conflicts=-0|",
+        "list|f|--conflicts|x|",
+        "list|f|--conflicts||",
+        "list|f|--conflicts=|",
+        "list|f|--conflicts|+|",
+        "list|f|--conflicts|++5|",
+        "list|f|--conflicts| 5|",
+        "list|f|--conflicts|5 |",
+        "list|f|--conflicts|1_000|",
+        "list|f|--conflicts|0x5|",
+        "list|f|--conflicts|1e3|",
+        "list|f|--conflicts|5.0|",
+        "list|f|--conflicts|\u{665}|",
+        "list|f|--conflicts==5|",
+    ];
+    assert_eq!(rt; first_read(rt.alloc(), &lines)?, None);
+    Ok(())
+}
+
+#[test]
+fn an_option_has_one_value_and_is_given_once(rt: HostRuntime) -> Result<(), Fail> {
+    let lines = [
+        "list|f|--conflicts|",
+        "list|--conflicts|--|f|",
+        "list|f|--limit|--|5|",
+        "list|f|--limit|--conflicts|5|",
+        "list|f|--conflicts|1|2|",
+        "list|f|--conflicts=1|2|",
+        "list|f|--conflicts|1|--conflicts|1|",
+        "list|f|--conflicts|1|--conflicts=1|",
+        "list|--limit|5|f|--limit|5|",
+    ];
+    assert_eq!(rt; first_read(rt.alloc(), &lines)?, None);
     Ok(())
 }

@@ -2,9 +2,10 @@ use Rattle.std.proofs.Common.{rules}
 use Rattle.gm_words.proofs.ReadingLemmas.{read_of_matches, read_of_error}
 use Rattle.gm_words.proofs.read.read_words.Goals as goal
 
-pub returns-in-Ok : goal.returns-in-Ok
-returns-in-Ok c =
-    read_of_matches _ _ c.in-Ok.matches _ c.in_ok-gmus_command.ensures.app c.in-Ok.ensures.kinds c.in-Ok.ensures.matches c.request_of.ensures
+pub returns-in-Ok-clause-asked : goal.returns-in-Ok-clause-asked
+returns-in-Ok-clause-asked c = read_of_matches _ _ c.in-Ok.matches _ c.in_ok-gmus_command.ensures.app
+    c.in-Ok.ensures.kinds c.in-Ok.ensures.matches c.request_of.ensures.asked
 
-pub returns : goal.returns
-returns c = read_of_error _ _ c.in-Err.error c.in_ok-gmus_command.ensures.app c.in-Err.ensures.kinds (search rules)
+pub returns-clause-asked : goal.returns-clause-asked
+returns-clause-asked c =
+    read_of_error _ _ c.in-Err.error c.in_ok-gmus_command.ensures.app c.in-Err.ensures.kinds (search rules)
