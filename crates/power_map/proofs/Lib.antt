@@ -1,0 +1,3 @@
+pub mod BlockLemmas
+pub mod TrueLemmas
+pub mod MapLemmas

@@ -1,0 +1,21 @@
+use Rattle.std.proofs.Common.{◌≡◌, true, get_or, subst, sym}
+use Rattle.gm_base.specs.Sets.{has, IsGroupSet}
+use Rattle.gm_base.proofs.SetLemmas.{AscendsAbove-at}
+use Rattle.gm_base.proofs.DatabaseLemmas.{get_in}
+use Rattle.power_map.proofs.BlockLemmas.{in_has}
+use Rattle.power_map.proofs.clauses.clause_of.Goals as goal
+
+-- a group of a set is not the background
+pub literal_of-requires-clause-not_background : goal.literal_of-requires-clause-not_background
+literal_of-requires-clause-not_background c =
+    let items = c.as_slice-group-items.result.now in
+    AscendsAbove-at 0 items c.loop-group.group-index
+    (subst IsGroupSet (sym c.as_slice-group-items.ensures.groups) c.as_slice-group-items.ensures.ascends) c.loop-group-test.true
+
+pub literal_of-requires-clause-in_range : goal.literal_of-requires-clause-in_range
+literal_of-requires-clause-in_range c =
+    let items = c.as_slice-group-items.result.now in
+    let g = get_or items c.loop-group.group-index 0 in
+    c.requires g
+    (subst (λ s. has s g ≡ true) c.as_slice-group-items.ensures.groups
+    (in_has items g (get_in items c.loop-group.group-index 0 c.loop-group-test.true)))

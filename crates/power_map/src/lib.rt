@@ -1,0 +1,28 @@
+//! A map engine over the learning solver: which sets of groups are not explored yet, and why none is left.
+//!
+//! ```text
+//! let mut map = PowerMap::new(alloc, groups)?;
+//! match map.seed(alloc, 0, &mut purse)? {
+//!     Seed::Set(set) => ..,  // no block explores it: shrink or grow it, and block what was found
+//!     Seed::Empty => ..,     // each set is explored, and map.empty_proof(alloc)? derives the empty clause
+//!     Seed::Dry => ..,       // the purse is empty
+//! }
+//! map.block(alloc, &conflict, Side::Up)?;
+//! ```
+//!
+//! The map of all sets of groups is a formula: group g is variable g, each block is a clause, and the models are the sets
+//! that are not explored. The contracts are those of the trait `evidence_rec::MapEngine`.
+//!
+//! Start with `map.rt`, whose head says why the answers are right, and `specs/Inside.antt`, which says what a map keeps.
+//! `clauses.rt` makes the clause of a block, and `sets.rt` reads the set off an assignment.
+//!
+//! Not said here: which of the sets a seed is, how many units it costs, and that memory suffices.
+#![tactic(auto)]
+
+mod clauses;
+mod map;
+mod sets;
+#[cfg(test)]
+mod tests;
+
+pub use map::PowerMap;

@@ -1,0 +1,94 @@
+//! The map.
+//!
+//! The map is a learning solver over the block clauses, in which group g is variable g. A block is one clause more, and what
+//! was learnt stays, so each seed is found by all that the earlier ones taught. An assignment that makes all clauses true,
+//! read as the set of the groups whose variables are true, breaks no block: no conflict lies within it, and each correction
+//! has a group in it. Where there is none, the log ends in the empty clause, which follows from the block clauses: each set
+//! is explored, and the steps that lead there say why.
+//!
+//! The sets themselves are kept nowhere but in the log: a clause names its groups. Its signs would tell the side too, but
+//! the empty clause has none, so the sides stand in a list of their own.
+ghost use Rattle.std.specs.Prelude.{◌≡◌, ◌<◌, ◌^◌, ◌||◌, true, IfOk, OnOk, OnErr};
+ghost use Rattle.gm_base.specs.Sets.{IsSubset, all_groups};
+ghost use Rattle.gm_base.specs.Explored.{block_of};
+ghost use Rattle.evidence_rec.specs.Seeding.{new_engine};
+
+use crate::clauses::clause_of;
+use crate::sets::set_of;
+use cdcl_core::{Solved, Solver};
+use evidence_rec::{MapEngine, Seed};
+use gm_base::{Derivation, GroupSet, Purse, Side};
+use lrat_steps::Log;
+use std::alloc::{AllocError, Global};
+use std::marker::Model;
+
+/// Finds sets of groups that nothing explores, by the learning solver.
+#[derive(Drop)]
+pub struct PowerMap {
+    solver: Solver,
+    // One for each input clause of the log.
+    sides: Vec<Side>,
+    // The id of the step with the empty clause, once a seed found no set.
+    empty: Option<u64>,
+}
+
+impl Model for PowerMap {
+    ghost use Rattle.evidence_rec.specs.Seeding.{EngineState};
+
+    ghost Value = { EngineState };
+
+    ghost use Rattle.power_map.specs.Inside.{view_of, IsMap};
+
+    ghost view = { view_of };
+
+    ghost invariant = { IsMap };
+}
+
+impl PowerMap {
+    /// A map of all sets of so many groups, of which none is explored.
+    pub fn new(alloc: Global, groups: u32) -> Result<PowerMap, AllocError>
+        requires { groups < 2 ^ 31 }
+        ensures { IfOk result (λ map. map ≡ new_engine groups) }
+    {
+        Ok(PowerMap {
+            solver: Solver::new(alloc, groups)?,
+            sides: Vec::new(alloc),
+            empty: None,
+        })
+    }
+}
+
+impl MapEngine for PowerMap {
+    ghost state = { λ map. map };
+
+    fn block(&mut self, alloc: Global, set: &GroupSet, side: Side) -> Result<(), AllocError> {
+        // Room first, so that all is as it was where there is none.
+        self.sides.reserve(1)?;
+        let clause = clause_of(alloc, set, side)?;
+        self.solver.add(alloc, &clause)?;
+        self.sides.push_reserved(side);
+        Ok(())
+    }
+
+    fn seed(&mut self, alloc: Global, turn: u64, purse: &mut Purse) -> Result<Seed, AllocError> {
+        match self.solver.solve(alloc, &[], turn, purse)? {
+            Solved::Sat(assign) => Ok(Seed::Set(set_of(alloc, self.solver.vars(), &assign)?)),
+            Solved::Unsat(step) => {
+                self.empty = Some(step);
+                Ok(Seed::Empty)
+            }
+            Solved::Dry => Ok(Seed::Dry),
+        }
+    }
+
+    fn empty_proof(&self, alloc: Global) -> Result<Derivation, AllocError> {
+        let Some(step) = self.empty else {
+            unreachable!();
+        };
+        self.solver.log().trim(alloc, step)
+    }
+
+    fn into_log(self) -> Log {
+        self.solver.into_log()
+    }
+}
