@@ -1,0 +1,317 @@
+-- What one call does to the numbers and the marks, for each call and each reply.
+use Rattle.std.proofs.Common.{◌≡◌, ◌⊎◌, ℕ, ◌+◌, ◌-◌, ◌*◌, ◌<◌, ◌≤◌, ◌^◌, min, max, true, false, ◌||◌, List, length, Option, Some, None, refl, sym, ◌∙◌, ap, subst, inl, inr, arith}
+use Rattle.std.proofs.Math.Bool.{or-false}
+use Rattle.std.proofs.lemmas.Bool.{false≢true, true≢false, or_left, or_right}
+use Rattle.gm_base.specs.declared.kind.Kind.{Kind}
+use Rattle.gm_base.specs.Explored.{AllExplored}
+use Rattle.evidence_rec.specs.declared.record.Record.{Record}
+use Rattle.evidence_rec.specs.Records.{founds}
+use Rattle.map_core.specs.declared.entry.Call.{Call}
+use Rattle.map_core.specs.declared.entry.Call.TheVariants.{Take, Refill, Post, Retire}
+use Rattle.map_core.specs.declared.entry.Reply.{Reply}
+use Rattle.map_core.specs.declared.entry.Reply.TheVariants.{Job, Grant, Exhausted, Limit, Dry, Stopped, New, Already, Retired, Memory}
+use Rattle.map_core.specs.declared.turn.Turn.{Turn}
+use Rattle.map_core.specs.Core.{State, worker_in, settle, give_back, end_turn, spend, grant, retire, mark_exhausted, mark_limited, refill_size, is_full, MayAsk, Takes, TakesAsked, TakesUnasked, Refills, Posts, Does}
+use Rattle.map_core.specs.Own.{ended, worker_after, is_retirement, engine_part}
+
+-- from the part before the call to the part after it
+pub record TurnFacts (s : State) (t : Turn) (used : ℕ) (engine : Option ℕ) (reply : Reply) (u : Turn) : Type 0 where
+  pub total : (u.available + u.purse) + u.spent ≡ (t.available + t.purse) + t.spent
+  pub spent : u.spent ≡ t.spent + (used + engine_part engine)
+  pub worker : worker_in u ≡ worker_after (worker_in t) used reply
+  pub ended : t.ended ≡ false → u.ended ≡ true → u.purse ≡ 0
+  -- a worker that ends where nothing is marked was answered Dry
+  pub dry : t.ended ≡ false → u.ended ≡ true → u.exhausted ≡ false → u.limited ≡ false → u.stopped ≡ false → reply ≡ Dry
+  pub stopped : u.stopped ≡ (t.stopped || is_retirement reply)
+  pub live : t.ended ≡ false → 0 < u.available → (u.ended ≡ false) ⊎ ((u.exhausted || (u.limited || u.stopped)) ≡ true)
+  pub exhausted : u.exhausted ≡ true → (t.exhausted ≡ true) ⊎ AllExplored s.opening.problem.groups (founds s.records)
+  pub limited : u.limited ≡ true → (t.limited ≡ true) ⊎ (is_full s.opening s.records ≡ true)
+
+-- the part with so much more spent: all else of the worker and the marks is as before, and nothing is lost
+record IsPaid (t u : Turn) (paid : ℕ) : Type 0 where
+  last_grant : u.last_grant ≡ t.last_grant
+  ended : u.ended ≡ t.ended
+  exhausted : u.exhausted ≡ t.exhausted
+  limited : u.limited ≡ t.limited
+  stopped : u.stopped ≡ t.stopped
+  total : (u.available + u.purse) + u.spent ≡ (t.available + t.purse) + t.spent
+  spent : u.spent ≡ t.spent + paid
+
+paid-settle : (t : Turn) (used : ℕ) → used ≤ t.purse → IsPaid t (settle used t) (used + 0)
+paid-settle t used le =
+    record {
+      last_grant = refl;
+      ended = refl;
+      exhausted = refl;
+      limited = refl;
+      stopped = refl;
+      total = omega arith;
+      spent = omega arith;
+    }
+
+paid-give_back : (t : Turn) (used : ℕ) → used ≤ t.purse → IsPaid t (give_back (settle used t)) (used + 0)
+paid-give_back t used le =
+    record {
+      last_grant = refl;
+      ended = refl;
+      exhausted = refl;
+      limited = refl;
+      stopped = refl;
+      total = omega arith;
+      spent = omega arith;
+    }
+
+paid-spend : (t : Turn) (used n : ℕ) → used ≤ t.purse → n ≤ t.available + (t.purse - used)
+    → IsPaid t (spend n (give_back (settle used t))) (used + n)
+paid-spend t used n le within =
+    record {
+      last_grant = refl;
+      ended = refl;
+      exhausted = refl;
+      limited = refl;
+      stopped = refl;
+      total = omega arith;
+      spent = omega arith;
+    }
+
+-- a worker that ends for a mark that was set, or since nothing is available
+facts-end : (s : State) (t u : Turn) (used : ℕ) (engine : Option ℕ) (reply : Reply)
+    → IsPaid t u (used + engine_part engine)
+    → worker_after (worker_in t) used reply ≡ ended (worker_in t) → is_retirement reply ≡ false
+    → (u.stopped ≡ true) ⊎ ((u.exhausted ≡ true) ⊎ ((u.available + u.purse ≡ 0) × (reply ≡ Dry)))
+    → TurnFacts s t used engine reply (end_turn u)
+facts-end s t u used engine reply paid own kept why =
+    let total = paid.total in
+    record {
+      total = omega arith;
+      spent = paid.spent;
+      worker = ap (λ k. record { purse = 0; last_grant = k; ended = true }) paid.last_grant ∙ sym own;
+      ended = λ _ _. refl;
+      dry = λ _ _ not_exhausted _ not_stopped. elim why [
+        | inl h ↦ absurd (true≢false (sym h ∙ not_stopped))
+        | inr more ↦ elim more [ inl h ↦ absurd (true≢false (sym h ∙ not_exhausted)) | inr none ↦ none.1 ]
+      ];
+      stopped = paid.stopped ∙ sym (or-false t.stopped) ∙ ap (λ b. t.stopped || b) (sym kept);
+      live = λ _ some. elim why [
+        | inl h ↦ inr (or_right u.exhausted (u.limited || u.stopped) (or_right u.limited u.stopped h))
+        | inr more ↦ elim more [
+          | inl h ↦ inr (or_left u.exhausted (u.limited || u.stopped) h)
+          | inr none ↦ let empty = none.0 in absurd (omega arith)
+        ]
+      ];
+      exhausted = λ h. inl (sym paid.exhausted ∙ h);
+      limited = λ h. inl (sym paid.limited ∙ h);
+    }
+
+-- a worker that ends since there are as many records as the limit
+facts-limit : (s : State) (t u : Turn) (used : ℕ) → IsPaid t u (used + 0) → is_full s.opening s.records ≡ true
+    → TurnFacts s t used None Limit (end_turn (mark_limited u))
+facts-limit s t u used paid full =
+    let total = paid.total in
+    record {
+      total = omega arith;
+      spent = paid.spent;
+      worker = ap (λ k. record { purse = 0; last_grant = k; ended = true }) paid.last_grant;
+      ended = λ _ _. refl;
+      dry = λ _ _ _ not_limited _. absurd (true≢false not_limited);
+      stopped = paid.stopped ∙ sym (or-false t.stopped);
+      live = λ _ _. inr (or_right u.exhausted (true || u.stopped) refl);
+      exhausted = λ h. inl (sym paid.exhausted ∙ h);
+      limited = λ _. inr full;
+    }
+
+-- a worker that ends since the engine answered that each set is explored
+facts-exhausted : (s : State) (t u : Turn) (used n : ℕ) → IsPaid t u (used + n)
+    → AllExplored s.opening.problem.groups (founds s.records)
+    → TurnFacts s t used (Some n) Exhausted (end_turn (mark_exhausted u))
+facts-exhausted s t u used n paid all =
+    let total = paid.total in
+    record {
+      total = omega arith;
+      spent = paid.spent;
+      worker = ap (λ k. record { purse = 0; last_grant = k; ended = true }) paid.last_grant;
+      ended = λ _ _. refl;
+      dry = λ _ _ not_exhausted _ _. absurd (true≢false not_exhausted);
+      stopped = paid.stopped ∙ sym (or-false t.stopped);
+      live = λ _ _. inr refl;
+      exhausted = λ _. inr all;
+      limited = λ h. inl (sym paid.limited ∙ h);
+    }
+
+-- a worker that retires, or has no memory
+facts-retire : (s : State) (t u : Turn) (used : ℕ) (engine : Option ℕ) (reply : Reply)
+    → IsPaid t u (used + engine_part engine)
+    → worker_after (worker_in t) used reply ≡ ended (worker_in t) → is_retirement reply ≡ true
+    → TurnFacts s t used engine reply (retire u)
+facts-retire s t u used engine reply paid own retired =
+    let total = paid.total in
+    record {
+      total = omega arith;
+      spent = paid.spent;
+      worker = ap (λ k. record { purse = 0; last_grant = k; ended = true }) paid.last_grant ∙ sym own;
+      ended = λ _ _. refl;
+      dry = λ _ _ _ _ not_stopped. absurd (true≢false not_stopped);
+      stopped = sym (or_right t.stopped (is_retirement reply) retired);
+      live = λ _ _. inr (or_right u.exhausted (u.limited || true) (or_right u.limited true refl));
+      exhausted = λ h. inl (sym paid.exhausted ∙ h);
+      limited = λ h. inl (sym paid.limited ∙ h);
+    }
+
+-- a worker whose empty purse is given some of what is available
+facts-grant : (s : State) (t u : Turn) (used n : ℕ) (engine : Option ℕ) (reply : Reply)
+    → IsPaid t u (used + engine_part engine)
+    → worker_after (worker_in t) used reply ≡ record { purse = n; last_grant = n; ended = t.ended }
+    → is_retirement reply ≡ false
+    → n ≤ u.available → u.purse ≡ 0 → TurnFacts s t used engine reply (grant n u)
+facts-grant s t u used n engine reply paid own kept le none =
+    let total = paid.total in
+    let purse : u.purse + n ≡ n = omega arith in
+    record {
+      total = omega arith;
+      spent = paid.spent;
+      worker =
+          ap (λ k. record { purse = k; last_grant = n; ended = u.ended }) purse
+          ∙ ap (λ b. record { purse = n; last_grant = n; ended = b }) paid.ended ∙ sym own;
+      ended = λ alive over. absurd (false≢true (sym (paid.ended ∙ alive) ∙ over));
+      dry = λ alive over _ _ _. absurd (false≢true (sym (paid.ended ∙ alive) ∙ over));
+      stopped = paid.stopped ∙ sym (or-false t.stopped) ∙ ap (λ b. t.stopped || b) (sym kept);
+      live = λ alive _. inl (paid.ended ∙ alive);
+      exhausted = λ h. inl (sym paid.exhausted ∙ h);
+      limited = λ h. inl (sym paid.limited ∙ h);
+    }
+
+-- a worker that keeps the rest of its purse
+facts-kept : (s : State) (t : Turn) (used : ℕ) (reply : Reply) → used ≤ t.purse
+    → worker_after (worker_in t) used reply ≡ record { purse = t.purse - used; last_grant = t.last_grant; ended = t.ended }
+    → is_retirement reply ≡ false → TurnFacts s t used None reply (settle used t)
+facts-kept s t used reply le own kept =
+    record {
+      total = omega arith;
+      spent = omega arith;
+      worker = sym own;
+      ended = λ alive over. absurd (false≢true (sym alive ∙ over));
+      dry = λ alive over _ _ _. absurd (false≢true (sym alive ∙ over));
+      stopped = sym (or-false t.stopped) ∙ ap (λ b. t.stopped || b) (sym kept);
+      live = λ alive _. inl alive;
+      exhausted = λ h. inl h;
+      limited = λ h. inl h;
+    }
+
+facts-unasked : (s : State) (t : Turn) (used : ℕ) (reply : Reply) (u : Turn) → used ≤ t.purse
+    → TakesUnasked (is_full s.opening s.records) (give_back (settle used t)) reply u → TurnFacts s t used None reply u
+facts-unasked s t used Stopped u le h =
+    subst (TurnFacts s t used None Stopped) (sym h.1)
+    (facts-end s t (give_back (settle used t)) used None Stopped (paid-give_back t used le) refl refl (inl h.0))
+facts-unasked s t used Exhausted u le h =
+    subst (TurnFacts s t used None Exhausted) (sym h.2)
+    (facts-end s t (give_back (settle used t)) used None Exhausted (paid-give_back t used le) refl refl (inr (inl h.1)))
+facts-unasked s t used Limit u le h =
+    subst (TurnFacts s t used None Limit) (sym h.3)
+    (facts-limit s t (give_back (settle used t)) used (paid-give_back t used le) h.2)
+facts-unasked s t used Memory u le h =
+    subst (TurnFacts s t used None Memory) (sym h)
+    (facts-retire s t (give_back (settle used t)) used None Memory (paid-give_back t used le) refl refl)
+facts-unasked s t used (Job a b c) u le h = absurd h
+facts-unasked s t used (Grant a) u le h = absurd h
+facts-unasked s t used Dry u le h = absurd h
+facts-unasked s t used New u le h = absurd h
+facts-unasked s t used Already u le h = absurd h
+facts-unasked s t used Retired u le h = absurd h
+
+facts-asked : (s : State) (t : Turn) (used n : ℕ) (reply : Reply) (u : Turn) → used ≤ t.purse
+    → MayAsk (is_full s.opening s.records) (give_back (settle used t)) n
+    → TakesAsked s.opening.problem.groups (founds s.records) (length s.history + 1) (give_back (settle used t)) n reply u
+    → TurnFacts s t used (Some n) reply u
+facts-asked s t used n (Job turn seed g) u le may h =
+    let size = h.2 in
+    let paid = paid-spend t used n le may.within in
+    subst (TurnFacts s t used (Some n) (Job turn seed g)) (sym h.3)
+    (facts-grant s t (spend n (give_back (settle used t))) used g (Some n) (Job turn seed g) paid refl refl (omega arith) refl)
+facts-asked s t used n Exhausted u le may h =
+    subst (TurnFacts s t used (Some n) Exhausted) (sym h.1)
+    (facts-exhausted s t (spend n (give_back (settle used t))) used n (paid-spend t used n le may.within) h.0)
+facts-asked s t used n Dry u le may h =
+    let all = h.0 in
+    let paid = paid-spend t used n le may.within in
+    subst (TurnFacts s t used (Some n) Dry) (sym h.1)
+    (facts-end s t (spend n (give_back (settle used t))) used (Some n) Dry paid refl refl (inr (inr (omega arith, refl))))
+facts-asked s t used n Memory u le may h =
+    let paid = paid-spend t used n le may.within in
+    subst (TurnFacts s t used (Some n) Memory) (sym h)
+    (facts-retire s t (spend n (give_back (settle used t))) used (Some n) Memory paid refl refl)
+facts-asked s t used n (Grant a) u le may h = absurd h
+facts-asked s t used n Limit u le may h = absurd h
+facts-asked s t used n Stopped u le may h = absurd h
+facts-asked s t used n New u le may h = absurd h
+facts-asked s t used n Already u le may h = absurd h
+facts-asked s t used n Retired u le may h = absurd h
+
+facts-takes : (s : State) (t : Turn) (used : ℕ) (engine : Option ℕ) (reply : Reply) (u : Turn) → used ≤ t.purse
+    → Takes s.opening.problem.groups (founds s.records) (is_full s.opening s.records) (length s.history + 1) (give_back (settle used t)) engine reply u
+    → TurnFacts s t used engine reply u
+facts-takes s t used None reply u le h = facts-unasked s t used reply u le h
+facts-takes s t used (Some n) reply u le h = facts-asked s t used n reply u le h.0 h.1
+
+refill_size-le : (t : Turn) → refill_size t ≤ t.available
+refill_size-le t = least t.available (max (min (t.last_grant * 2) (2 ^ 64 - 1)) 1000)
+  where
+    least : (a b : ℕ) → min a b ≤ a
+    least a b = omega arith
+
+facts-refills : (s : State) (t : Turn) (used : ℕ) (reply : Reply) (u : Turn) → used ≤ t.purse
+    → Refills (give_back (settle used t)) reply u → TurnFacts s t used None reply u
+facts-refills s t used Stopped u le h =
+    subst (TurnFacts s t used None Stopped) (sym h.1)
+    (facts-end s t (give_back (settle used t)) used None Stopped (paid-give_back t used le) refl refl (inl h.0))
+facts-refills s t used Dry u le h =
+    let none = h.1 in
+    let paid = paid-give_back t used le in
+    subst (TurnFacts s t used None Dry) (sym h.2)
+    (facts-end s t (give_back (settle used t)) used None Dry paid refl refl (inr (inr (omega arith, refl))))
+facts-refills s t used (Grant n) u le h =
+    let v = give_back (settle used t) in
+    let low : n ≤ v.available = subst (λ k. k ≤ v.available) (sym h.2) (refill_size-le v) in
+    subst (TurnFacts s t used None (Grant n)) (sym h.3)
+    (facts-grant s t v used n None (Grant n) (paid-give_back t used le) refl refl low refl)
+facts-refills s t used Memory u le h =
+    subst (TurnFacts s t used None Memory) (sym h)
+    (facts-retire s t (give_back (settle used t)) used None Memory (paid-give_back t used le) refl refl)
+facts-refills s t used (Job a b c) u le h = absurd h
+facts-refills s t used Exhausted u le h = absurd h
+facts-refills s t used Limit u le h = absurd h
+facts-refills s t used New u le h = absurd h
+facts-refills s t used Already u le h = absurd h
+facts-refills s t used Retired u le h = absurd h
+
+facts-posts : (s : State) (t : Turn) (used : ℕ) (kind : Kind) (set : List ℕ) (reply : Reply) (u : Turn) (records : List Record) → used ≤ t.purse
+    → Posts s.opening.problem (is_full s.opening s.records) s.records (settle used t) kind set reply u records
+    → TurnFacts s t used None reply u
+facts-posts s t used kind set Already u records le h =
+    subst (TurnFacts s t used None Already) (sym h.1) (facts-kept s t used Already le refl refl)
+facts-posts s t used kind set New u records le h =
+    subst (TurnFacts s t used None New) (sym h.2) (facts-kept s t used New le refl refl)
+facts-posts s t used kind set Limit u records le h =
+    subst (TurnFacts s t used None Limit) (sym h.2) (facts-limit s t (settle used t) used (paid-settle t used le) h.1)
+facts-posts s t used kind set Memory u records le h =
+    subst (TurnFacts s t used None Memory) (sym h.0)
+    (facts-retire s t (settle used t) used None Memory (paid-settle t used le) refl refl)
+facts-posts s t used kind set (Job a b c) u records le h = absurd h
+facts-posts s t used kind set (Grant a) u records le h = absurd h
+facts-posts s t used kind set Exhausted u records le h = absurd h
+facts-posts s t used kind set Dry u records le h = absurd h
+facts-posts s t used kind set Stopped u records le h = absurd h
+facts-posts s t used kind set Retired u records le h = absurd h
+
+-- what any call does
+pub turn_facts : (s : State) (t : Turn) (used : ℕ) (call : Call) (engine : Option ℕ) (reply : Reply) (u : Turn) (records : List Record)
+    → used ≤ t.purse → Does s (settle used t) call engine reply u records → TurnFacts s t used engine reply u
+turn_facts s t used Take engine reply u records le h = facts-takes s t used engine reply u le h.0
+turn_facts s t used (Refill asked) engine reply u records le h =
+    subst (λ e. TurnFacts s t used e reply u) (sym h.0) (facts-refills s t used reply u le h.1)
+turn_facts s t used (Post kind set) engine reply u records le h =
+    subst (λ e. TurnFacts s t used e reply u) (sym h.0) (facts-posts s t used kind set reply u records le h.1)
+turn_facts s t used Retire engine reply u records le h =
+    subst (λ e. TurnFacts s t used e reply u) (sym h.0)
+    (subst (λ r. TurnFacts s t used None r u) (sym h.1)
+    (subst (TurnFacts s t used None Retired) (sym h.2)
+    (facts-retire s t (settle used t) used None Retired (paid-settle t used le) refl refl)))

@@ -1,0 +1,94 @@
+use Rattle.std.proofs.Common.{◌≡◌, length, List, ℕ, [], ◌∷◌, ◌++◌, sym, ap, ◌∙◌, subst, refl, arith, None}
+use Rattle.gm_base.specs.declared.kind.Kind.{Kind}
+use Rattle.evidence_rec.specs.Records.{kind_of, set_of, IsAccepted}
+use Rattle.map_core.specs.Core.{State, CoreStep, turn_at, settle}
+use Rattle.map_core.specs.Kept.{IsReady, state_of}
+use Rattle.map_core.specs.Replies.{post_reply}
+use Rattle.map_core.specs.declared.turn.Turn.{Turn}
+use Rattle.map_core.specs.declared.entry.Reply.{Reply}
+use Rattle.map_core.specs.declared.entry.Entry.{Entry}
+use Rattle.map_core.specs.declared.entry.Call.TheVariants.{Post}
+use Rattle.map_core.proofs.Kept.{call_kept, step_made, proof_kept, posts_here, no_take}
+use Rattle.map_core.proofs.calls.MapCore.post.Goals as goal
+
+-- the record that is posted is the one that is answered about
+pub invariant_of-self : goal.invariant_of-self
+invariant_of-self g c =
+    let i = c.self.inside in
+    let k = c.self.invariant in
+    let d = k.driven in
+    let r = subst (λ s. IsReady s c.args.w c.args.used) (sym c.self.view_is) c.settled-turn.ensures.ready in
+    let given = c.admit-given in
+    let f = c.finish-self-inside in
+    let u = given.result.turn in
+    let made : Kind → List ℕ → Reply → Entry =
+    λ kind groups reply. record
+    { worker = c.args.w; call = Post kind groups; used = c.args.used; engine = None; reply = reply } in
+    let e : Entry = made (kind_of c.args.finding) (set_of c.args.finding) (post_reply given.result.reply) in
+    let is = c.settled-turn.ensures.turn ∙ ap (λ s. settle c.args.used (turn_at s c.args.w)) (sym c.self.view_is) in
+    let accepted =
+    subst (λ (s : State). IsAccepted s.opening.problem c.args.finding) (sym c.self.view_is) c.requires.accepted in
+    let records : c.len.result ≡ length i.records.items = omega (arith, c.len.ensures, i.records.ok.0) in
+    let posts =
+    posts_here i.problem i.limit i.records.items (kind_of c.args.finding) (set_of c.args.finding)
+    (post_reply given.result.reply) u given.new.records.items records is (given.ensures.posts i.problem accepted) in
+    let same = given.ensures.exhausted ∙ ap (λ (t : Turn). t.exhausted) is in
+    let entry : made c.kind-kind.result given.result.set c.kept_post.result ≡ e =
+    ap (λ x. made x given.result.set c.kept_post.result) c.kind-kind.ensures
+    ∙ ap (λ x. made (kind_of c.args.finding) x c.kept_post.result) given.ensures.set
+    ∙ ap (made (kind_of c.args.finding) (set_of c.args.finding)) c.kept_post.ensures in
+    let history =
+    f.ensures.history ∙ ap (λ h. h ++ made c.kind-kind.result given.result.set c.kept_post.result ∷ [])
+    given.ensures.history ∙ ap (λ x. i.history.items ++ x ∷ []) entry in
+    let size = ap length given.ensures.history in
+    let longer = f.ensures.capacity in
+    let more = given.ensures.capacity in
+    call_kept f.result given.new.records.items f.new.workers.items f.new.history.items _ given.new.held
+    (g.M.MapEngine.state given.new.engine) i.proof e u k r (refl, posts) f.ensures.common f.ensures.workers history
+    (omega arith)
+    (λ on. let room = given.ensures.room on in omega (arith, room, size, longer, c.len-2.ensures, i.workers.ok.0, given.new.history.ok.0))
+    given.ensures.index
+    (proof_kept e u given.new.records.items k (refl, posts) same)
+    (record {
+      same_groups = given.ensures.groups;
+      blocks = given.ensures.blocked;
+      honest = given.ensures.honest d.honest;
+      learned = let l = given.ensures.learned in omega arith;
+      dry = λ take. absurd (no_take e.call refl take);
+    })
+
+-- one entry more, with the posted record's kind and set
+pub returns-clause-step : goal.returns-clause-step
+returns-clause-step g c =
+    let i = c.self.inside in
+    let k = c.self.invariant in
+    let r = subst (λ s. IsReady s c.args.w c.args.used) (sym c.self.view_is) c.settled-turn.ensures.ready in
+    let given = c.admit-given in
+    let f = c.finish-self-inside in
+    let u = given.result.turn in
+    let made : Kind → List ℕ → Reply → Entry =
+    λ kind groups reply. record
+    { worker = c.args.w; call = Post kind groups; used = c.args.used; engine = None; reply = reply } in
+    let e : Entry = made (kind_of c.args.finding) (set_of c.args.finding) (post_reply given.result.reply) in
+    let is = c.settled-turn.ensures.turn ∙ ap (λ s. settle c.args.used (turn_at s c.args.w)) (sym c.self.view_is) in
+    let accepted =
+    subst (λ (s : State). IsAccepted s.opening.problem c.args.finding) (sym c.self.view_is) c.requires.accepted in
+    let records : c.len.result ≡ length i.records.items = omega (arith, c.len.ensures, i.records.ok.0) in
+    let posts =
+    posts_here i.problem i.limit i.records.items (kind_of c.args.finding) (set_of c.args.finding)
+    (post_reply given.result.reply) u given.new.records.items records is (given.ensures.posts i.problem accepted) in
+    let entry : made c.kind-kind.result given.result.set c.kept_post.result ≡ e =
+    ap (λ x. made x given.result.set c.kept_post.result) c.kind-kind.ensures
+    ∙ ap (λ x. made (kind_of c.args.finding) x c.kept_post.result) given.ensures.set
+    ∙ ap (made (kind_of c.args.finding) (set_of c.args.finding)) c.kept_post.ensures in
+    let history =
+    f.ensures.history ∙ ap (λ h. h ++ made c.kind-kind.result given.result.set c.kept_post.result ∷ [])
+    given.ensures.history ∙ ap (λ x. i.history.items ++ x ∷ []) entry in
+    let t =
+    state_of i.problem i.first i.budget i.limit f.result given.new.records.items f.new.workers.items
+    f.new.history.items in
+    let step =
+    step_made i.problem i.first i.budget i.limit i.common f.result i.records.items given.new.records.items
+    i.workers.items f.new.workers.items i.history.items f.new.history.items e u k.begins r (refl, posts)
+    f.ensures.common f.ensures.workers history in
+    record { engine = None; step = subst (λ s. CoreStep s e t) c.self.view_is step }

@@ -1,0 +1,41 @@
+use Rattle.std.proofs.Common.{length, [], ◌∷◌, ◌++◌, sym, ap, ◌∙◌, subst, refl, arith, None}
+use Rattle.map_core.specs.Core.{turn_at, settle, give_back, Refills}
+use Rattle.map_core.specs.Kept.{IsReady}
+use Rattle.map_core.specs.Replies.{refill_reply}
+use Rattle.map_core.specs.declared.turn.Turn.{Turn}
+use Rattle.map_core.specs.declared.entry.Reply.{Reply}
+use Rattle.map_core.specs.declared.entry.Entry.{Entry}
+use Rattle.map_core.specs.declared.entry.Call.TheVariants.{Refill}
+use Rattle.map_core.proofs.Kept.{call_kept, proof_kept, idle, no_take}
+use Rattle.map_core.proofs.calls.MapCore.refill.Goals as goal
+
+-- no record and no engine is touched
+pub invariant_of-self : goal.invariant_of-self
+invariant_of-self g c =
+    let i = c.self.inside in
+    let k = c.self.invariant in
+    let r = subst (λ s. IsReady s c.args.w c.args.used) (sym c.self.view_is) c.settled.ensures.ready in
+    let given = c.regrant-given in
+    let made : Reply → Entry =
+    λ reply. record
+    { worker = c.args.w; call = Refill c.args.asked; used = c.args.used; engine = None; reply = reply } in
+    let e : Entry = made (refill_reply given.result.reply) in
+    let f = c.finish-self-inside in
+    let u = given.result.turn in
+    let is =
+    c.give_back-turn.ensures ∙ ap give_back
+    (c.settled.ensures.turn ∙ ap (λ s. settle c.args.used (turn_at s c.args.w)) (sym c.self.view_is)) in
+    let refills = subst (λ t. Refills t (refill_reply given.result.reply) u) is given.ensures.refills in
+    let same = given.ensures.exhausted ∙ ap (λ (t : Turn). t.exhausted) is in
+    let history =
+    f.ensures.history ∙ ap (λ h. h ++ made c.kept_refill.result ∷ []) given.ensures.history ∙ ap
+    (λ x. i.history.items ++ made x ∷ []) c.kept_refill.ensures in
+    let size = ap length given.ensures.history in
+    let longer = f.ensures.capacity in
+    let more = given.ensures.capacity in
+    call_kept f.result i.records.items f.new.workers.items f.new.history.items _ i.held (g.M.MapEngine.state i.engine)
+    i.proof e u k r (refl, refills, refl) f.ensures.common f.ensures.workers history
+    (omega arith)
+    (λ on. let room = given.ensures.room on in omega (arith, room, size, longer, c.len.ensures, i.workers.ok.0, given.new.history.ok.0))
+    k.index
+    (proof_kept e u i.records.items k (refl, refills, refl) same) (idle e k.driven refl (no_take e.call refl))

@@ -1,0 +1,56 @@
+use Rattle.std.proofs.Common.{◌≡◌, ◌+◌, length, [], ◌∷◌, ◌++◌, sym, ap, ◌∙◌, subst, refl, arith}
+use Rattle.evidence_rec.specs.Records.{founds}
+use Rattle.map_core.specs.Core.{turn_at, settle, give_back}
+use Rattle.map_core.specs.Kept.{IsReady, KeepsProof}
+use Rattle.map_core.specs.declared.turn.Turn.{Turn}
+use Rattle.map_core.specs.declared.entry.Entry.{Entry}
+use Rattle.map_core.specs.declared.entry.Call.TheVariants.{Take}
+use Rattle.map_core.proofs.Kept.{call_kept, proof_taken, takes_here}
+use Rattle.map_core.proofs.calls.MapCore.take.Goals as goal
+
+-- what the engine was asked is what the definition says, over the blocks of the records
+pub invariant_of-self : goal.invariant_of-self
+invariant_of-self g c =
+    let i = c.self.inside in
+    let k = c.self.invariant in
+    let d = k.driven in
+    let r = subst (λ s. IsReady s c.args.w c.args.used) (sym c.self.view_is) c.settled.ensures.ready in
+    let given = c.ask-given in
+    let e : Entry =
+    record
+    { worker = c.args.w; call = Take; used = c.args.used; engine = given.result.engine; reply = given.result.kept } in
+    let f = c.finish-self-inside in
+    let u = given.result.turn in
+    let asked = given.ensures.answered in
+    let is =
+    c.give_back-turn.ensures ∙ ap give_back
+    (c.settled.ensures.turn ∙ ap (λ s. settle c.args.used (turn_at s c.args.w)) (sym c.self.view_is)) in
+    let records : c.len.result ≡ length i.records.items = omega (arith, c.len.ensures, i.records.ok.0) in
+    let takes =
+    takes_here i.limit (length i.history.items + 1) given.result.engine given.result.kept u d.same_groups
+    d.same_blocks records is asked.takes in
+    let marked = ap (λ (t : Turn). t.exhausted) is in
+    let before =
+    subst (λ b. KeepsProof i.problem.groups (founds i.records.items) b c.take-old.result) (sym marked)
+    (subst (KeepsProof i.problem.groups (founds i.records.items) i.common.exhausted) (sym c.take-old.ensures.value) k.keeps) in
+    let proof =
+    proof_taken i.problem.groups _ (founds i.records.items) _ c.give_back-turn.result u c.take-old.result
+    given.result.proof d.same_groups d.same_blocks before asked.proof in
+    let history = f.ensures.history ∙ ap (λ h. h ++ e ∷ []) given.ensures.history in
+    let size = ap length given.ensures.history in
+    let longer = f.ensures.capacity in
+    let more = given.ensures.capacity in
+    call_kept f.result i.records.items f.new.workers.items f.new.history.items _ i.held
+    (g.M.MapEngine.state given.new.engine) c.or.result e u k r (takes, refl) f.ensures.common f.ensures.workers
+    history
+    (omega arith)
+    (λ on. let room = given.ensures.room on in omega (arith, room, size, longer, c.len-2.ensures, i.workers.ok.0, given.new.history.ok.0))
+    k.index
+    (subst (KeepsProof i.problem.groups (founds i.records.items) u.exhausted) (sym c.or.ensures) proof)
+    (record {
+      same_groups = given.ensures.groups;
+      blocks = given.ensures.same_blocks ∙ d.same_blocks;
+      honest = given.ensures.honest d.honest;
+      learned = given.ensures.learned;
+      dry = λ _. given.ensures.dry;
+    })

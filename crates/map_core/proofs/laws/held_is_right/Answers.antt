@@ -1,0 +1,11 @@
+use Rattle.map_core.proofs.Explored.{held_is_minimal, not_both, exhausted_holds_all}
+use Rattle.map_core.proofs.laws.held_is_right.Goals as goal
+
+pub returns-clause-minimal : goal.returns-clause-minimal
+returns-clause-minimal c = held_is_minimal
+
+pub returns-clause-apart : goal.returns-clause-apart
+returns-clause-apart c = not_both
+
+pub returns-clause-all : goal.returns-clause-all
+returns-clause-all c = exhausted_holds_all

@@ -1,0 +1,16 @@
+use Rattle.std.proofs.Common.{◌≡◌, take}
+use Rattle.lrat_steps.specs.Log.{learned_count}
+use Rattle.evidence_rec.specs.Seeding.{IsHonestMap}
+use Rattle.evidence_rec.specs.Records.{founds}
+use Rattle.map_core.specs.Index.{IsIndex}
+use Rattle.map_core.proofs.open.enter_all.Given as goal
+
+-- the records so far are blocked and in the index
+abbrev pub invariant-loop-r : goal.invariant-loop-r
+invariant-loop-r g l = record {
+  groups : (g.M.MapEngine.state l.engine).groups ≡ (g.M.MapEngine.state l.fn.engine).groups;
+  blocks : (g.M.MapEngine.state l.engine).blocks ≡ founds (take l.r-index l.records);
+  index : IsIndex l.held (take l.r-index l.records);
+  learned : learned_count (g.M.MapEngine.state l.engine).log ≡ learned_count (g.M.MapEngine.state l.fn.engine).log;
+  honest : IsHonestMap (g.M.MapEngine.state l.engine).blocks (g.M.MapEngine.state l.engine).log;
+}

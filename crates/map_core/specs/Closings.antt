@@ -1,0 +1,60 @@
+-- What is left when every worker has ended.
+use Rattle.std.specs.Prelude.{◌≡◌, ◌≢◌, ℕ, ◌<◌, Bool, true, false, List, [], ◌∷◌, ◌++◌, MatchOption}
+use Rattle.gm_base.specs.Sets.{IsGroupSet, IsSubset, all_groups}
+use Rattle.gm_base.specs.Problem.{Problem}
+use Rattle.gm_base.specs.Minimal.{IsConflict, IsCorrection}
+use Rattle.gm_base.specs.declared.kind.Kind.TheVariants.{Conflict, Correction}
+use Rattle.lrat_steps.specs.Log.{LogStep, db_of, learned_count}
+use Rattle.lrat_steps.specs.Undecided.{Undecided}
+use Rattle.evidence_rec.specs.declared.record.Record.{Record}
+use Rattle.evidence_rec.specs.Records.{founds}
+use Rattle.evidence_rec.specs.Seeding.{IsHonestMap, shows_all_explored}
+use Rattle.map_core.specs.declared.entry.Call.TheVariants.{Take}
+use Rattle.map_core.specs.declared.entry.Reply.TheVariants.{Dry}
+use Rattle.map_core.specs.declared.entry.Entry.{Entry}
+use Rattle.map_core.specs.declared.entry.Opening.{Opening}
+use Rattle.map_core.specs.declared.closing.Verdict.{Verdict}
+use Rattle.map_core.specs.declared.closing.Verdict.TheVariants.{Complete, Memory, Limit, Budget}
+use Rattle.map_core.specs.declared.closing.Closing.{Closing}
+use Rattle.map_core.specs.Core.{State, IsReached, is_held}
+use Rattle.map_core.specs.Own.{calls_of, worker_of, engine_used_in}
+use Rattle.map_core.specs.Sound.{IsSound}
+
+-- exhausted goes before stopped, and stopped before limited
+abbrev pub verdict_by : Bool → Bool → Bool → Verdict
+verdict_by true stopped limited = Complete
+verdict_by false true limited = Memory
+verdict_by false false true = Limit
+verdict_by false false false = Budget
+
+-- each worker has ended, by its own entries
+pub record HaveEnded (o : Opening) (history : List Entry) : Type 0 where
+  pub at : (w : ℕ) → w < o.workers → (worker_of (calls_of w history)).ended ≡ true
+
+-- the last entry found the budget spent; where it is a take's, the map's search stands before a conflict
+pub record EndsDry (history : List Entry) (log : List LogStep) : Type 0 where
+  pub before : List Entry
+  pub last : Entry
+  pub ends : history ≡ before ++ last ∷ []
+  pub dry : last.reply ≡ Dry
+  pub undecided : last.call ≡ Take → Undecided (db_of log) []
+
+-- each minimal conflict and each minimal correction of the problem is held
+pub record HoldsAll (p : Problem) (records : List Record) : Type 0 where
+  pub conflicts : (set : List ℕ) → IsGroupSet set → IsSubset set (all_groups p.groups) → IsConflict p set → is_held records Conflict set ≡ true
+  pub corrections : (set : List ℕ) → IsGroupSet set → IsSubset set (all_groups p.groups) → IsCorrection p set → is_held records Correction set ≡ true
+
+-- what is left of a state, and the map's log
+pub record IsClosing (s : State) (closing : Closing) (log : List LogStep) : Type 0 where
+  pub reached : IsReached s
+  pub sound : IsSound s
+  pub records : closing.records ≡ s.records
+  pub history : closing.history ≡ s.history
+  pub verdict : closing.verdict ≡ verdict_by s.exhausted s.stopped s.limited
+  pub all : closing.verdict ≡ Complete → HoldsAll s.opening.problem s.records
+  pub spent : closing.verdict ≡ Budget → s.spent ≡ s.opening.budget
+  pub dry : closing.verdict ≡ Budget → EndsDry s.history log
+  -- a derivation of the empty clause from the records' block clauses
+  pub proof : MatchOption closing.proof (closing.verdict ≢ Complete) (λ d. (closing.verdict ≡ Complete) × (shows_all_explored s.opening.problem.groups (founds s.records) d ≡ true))
+  pub honest : IsHonestMap (founds s.records) log
+  pub learned : learned_count log ≡ engine_used_in s.history

@@ -1,0 +1,222 @@
+-- The core of an enumeration: a state that the calls of workers change, one entry at a time.
+--
+-- A worker takes a job, a set of groups that no record explores, and a purse of clauses that it may learn. It refills the
+-- purse, posts the record that it made of the set, or retires. Budget that is in no purse and was not spent is available.
+use Rattle.std.specs.Prelude.{◌≡◌, ℕ, ◌+◌, ◌-◌, ◌*◌, ◌<◌, ◌≤◌, ◌^◌, min, max, Bool, true, false, nat_le, List, [], ◌∷◌, ◌++◌, length, slice_index_or, slice_set, Option, Some, None, replicate}
+use Rattle.std.specs.List.{list_any}
+use Rattle.std.specs.Cmp.Lexicographic.{pointwise}
+use Rattle.std.specs.Bool.{nat_eq}
+use Rattle.gm_base.specs.Problem.{Problem}
+use Rattle.gm_base.specs.Explored.{Found}
+use Rattle.gm_base.specs.declared.kind.Kind.{Kind}
+use Rattle.gm_base.specs.declared.kind.Kind.TheVariants.{Conflict, Correction}
+use Rattle.evidence_rec.specs.declared.record.Record.{Record}
+use Rattle.evidence_rec.specs.Records.{kind_of, set_of, founds, IsAccepted}
+use Rattle.gm_base.specs.Explored.{IsUnexplored, AllExplored}
+use Rattle.map_core.specs.declared.entry.Call.{Call}
+use Rattle.map_core.specs.declared.entry.Call.TheVariants.{Take, Refill, Post, Retire}
+use Rattle.map_core.specs.declared.entry.Reply.{Reply}
+use Rattle.map_core.specs.declared.entry.Reply.TheVariants.{Job, Grant, Exhausted, Limit, Dry, Stopped, New, Already, Retired, Memory}
+use Rattle.map_core.specs.declared.entry.Entry.{Entry}
+use Rattle.map_core.specs.declared.entry.Opening.{Opening}
+use Rattle.map_core.specs.declared.turn.Worker.{Worker}
+use Rattle.map_core.specs.declared.turn.Turn.{Turn}
+
+pub record State : Type 0 where
+  pub opening : Opening
+  pub records : List Record
+  pub workers : List Worker
+  pub available : ℕ
+  pub spent : ℕ
+  pub exhausted : Bool
+  pub limited : Bool
+  pub stopped : Bool
+  pub history : List Entry
+
+-- nobody: a worker that has ended
+abbrev pub no_worker : Worker
+no_worker = record { purse = 0; last_grant = 0; ended = true }
+
+-- a worker that has made no call
+abbrev pub new_worker : Worker
+new_worker = record { purse = 0; last_grant = 0; ended = false }
+
+abbrev pub worker_at : List Worker → ℕ → Worker
+worker_at workers w = slice_index_or workers w no_worker
+
+abbrev pub opened : Opening → State
+opened o =
+    record {
+      opening = o;
+      records = o.records;
+      workers = replicate o.workers new_worker;
+      available = o.budget;
+      spent = 0;
+      exhausted = false;
+      limited = false;
+      stopped = false;
+      history = [];
+    }
+
+-- the part of the state that a call of the worker changes
+abbrev pub turn_of : List Worker → ℕ → ℕ → Bool → Bool → Bool → ℕ → Turn
+turn_of workers available spent exhausted limited stopped w =
+    record {
+      purse = (worker_at workers w).purse;
+      last_grant = (worker_at workers w).last_grant;
+      ended = (worker_at workers w).ended;
+      available = available;
+      spent = spent;
+      exhausted = exhausted;
+      limited = limited;
+      stopped = stopped;
+    }
+
+abbrev pub turn_at : State → ℕ → Turn
+turn_at s w = turn_of s.workers s.available s.spent s.exhausted s.limited s.stopped w
+
+abbrev pub worker_in : Turn → Worker
+worker_in t = record { purse = t.purse; last_grant = t.last_grant; ended = t.ended }
+
+-- the purse loses what was used, and spent gains it
+abbrev pub settle : ℕ → Turn → Turn
+settle used t = record t { purse = t.purse - used; spent = t.spent + used }
+
+-- the rest of the purse goes back
+abbrev pub give_back : Turn → Turn
+give_back t = record t { purse = 0; available = t.available + t.purse }
+
+abbrev pub end_turn : Turn → Turn
+end_turn t = record t { purse = 0; available = t.available + t.purse; ended = true }
+
+-- some of what is available was used
+abbrev pub spend : ℕ → Turn → Turn
+spend n t = record t { available = t.available - n; spent = t.spent + n }
+
+abbrev pub grant : ℕ → Turn → Turn
+grant n t = record t { purse = t.purse + n; last_grant = n; available = t.available - n }
+
+abbrev pub mark_exhausted : Turn → Turn
+mark_exhausted t = record t { exhausted = true }
+
+abbrev pub mark_limited : Turn → Turn
+mark_limited t = record t { limited = true }
+
+-- a retirement, or want of memory: the worker ends, and stopped is marked
+abbrev pub retire : Turn → Turn
+retire t = record t { purse = 0; available = t.available + t.purse; ended = true; stopped = true }
+
+abbrev pub refill_size : Turn → ℕ
+refill_size t = min t.available (max (min (t.last_grant * 2) (2 ^ 64 - 1)) 1000)
+
+abbrev pub same_kind : Kind → Kind → Bool
+same_kind Conflict Conflict = true
+same_kind Correction Correction = true
+same_kind Conflict Correction = false
+same_kind Correction Conflict = false
+
+abbrev pub same_set : List ℕ → List ℕ → Bool
+same_set a b = pointwise nat_eq a b
+
+abbrev pub and_also : Bool → Bool → Bool
+and_also true b = b
+and_also false b = false
+
+-- a set of this kind and these groups is held
+abbrev pub is_held : List Record → Kind → List ℕ → Bool
+is_held records kind set = list_any (λ (r : Record). and_also (same_kind (kind_of r) kind) (same_set (set_of r) set)) records
+
+-- there are as many records as the limit, or more
+abbrev pub is_full : Opening → List Record → Bool
+is_full o records = nat_le o.limit (length records)
+
+-- a take for which no engine was asked; whether the records are at least the limit
+abbrev pub TakesUnasked : Bool → Turn → Reply → Turn → Type 0
+TakesUnasked full t Stopped new = (t.stopped ≡ true) × (new ≡ end_turn t)
+TakesUnasked full t Exhausted new = (t.stopped ≡ false) × (t.exhausted ≡ true) × (new ≡ end_turn t)
+TakesUnasked full t Limit new = (t.stopped ≡ false) × (t.exhausted ≡ false) × (full ≡ true) × (new ≡ end_turn (mark_limited t))
+TakesUnasked full t Memory new = new ≡ retire t
+TakesUnasked full t _ new = ⊥
+
+-- a take for which the engine was asked, and used so much of what was available; the number of the entry
+abbrev pub TakesAsked : ℕ → List Found → ℕ → Turn → ℕ → Reply → Turn → Type 0
+TakesAsked groups found number t used (Job turn seed n) new =
+    (turn ≡ number) × IsUnexplored groups found seed × (n ≡ min (t.available - used) 1000) × (new ≡ grant n (spend used t))
+TakesAsked groups found number t used Exhausted new = AllExplored groups found × (new ≡ end_turn (mark_exhausted (spend used t)))
+TakesAsked groups found number t used Dry new = (used ≡ t.available) × (new ≡ end_turn (spend used t))
+TakesAsked groups found number t used Memory new = new ≡ retire (spend used t)
+TakesAsked groups found number t used _ new = ⊥
+
+-- the engine is asked only where nothing is marked that ends a take
+pub record MayAsk (full : Bool) (t : Turn) (used : ℕ) : Type 0 where
+  pub not_stopped : t.stopped ≡ false
+  pub not_exhausted : t.exhausted ≡ false
+  pub not_full : full ≡ false
+  pub within : used ≤ t.available
+
+abbrev pub Takes : ℕ → List Found → Bool → ℕ → Turn → Option ℕ → Reply → Turn → Type 0
+Takes groups found full number t None reply new = TakesUnasked full t reply new
+Takes groups found full number t (Some used) reply new = MayAsk full t used × TakesAsked groups found number t used reply new
+
+abbrev pub Refills : Turn → Reply → Turn → Type 0
+Refills t Stopped new = (t.stopped ≡ true) × (new ≡ end_turn t)
+Refills t Dry new = (t.stopped ≡ false) × (t.available ≡ 0) × (new ≡ end_turn t)
+Refills t (Grant n) new = (t.stopped ≡ false) × (0 < t.available) × (n ≡ refill_size t) × (new ≡ grant n t)
+Refills t Memory new = new ≡ retire t
+Refills t _ new = ⊥
+
+-- a record of this kind and set that the problem accepts
+pub record IsRecordOf (p : Problem) (kind : Kind) (set : List ℕ) (r : Record) : Type 0 where
+  pub kind_is : kind_of r ≡ kind
+  pub set_is : set_of r ≡ set
+  pub accepted : IsAccepted p r
+
+abbrev pub Posts : Problem → Bool → List Record → Turn → Kind → List ℕ → Reply → Turn → List Record → Type 0
+Posts p full held t kind set Already new records = (is_held held kind set ≡ true) × (new ≡ t) × (records ≡ held)
+Posts p full held t kind set Limit new records = (is_held held kind set ≡ false) × (full ≡ true) × (new ≡ end_turn (mark_limited t)) × (records ≡ held)
+Posts p full held t kind set New new records =
+    (is_held held kind set ≡ false) × (full ≡ false) × (new ≡ t) × ((r : Record) × IsRecordOf p kind set r × (records ≡ held ++ r ∷ []))
+Posts p full held t kind set Memory new records = (new ≡ retire t) × (records ≡ held)
+Posts p full held t kind set _ new records = ⊥
+
+-- what a call does to the settled part of the worker, with its reply
+abbrev pub Does : State → Turn → Call → Option ℕ → Reply → Turn → List Record → Type 0
+Does s t Take engine reply new records = Takes s.opening.problem.groups (founds s.records) (is_full s.opening s.records) (length s.history + 1) (give_back t) engine reply new × (records ≡ s.records)
+Does s t (Refill asked) engine reply new records = (engine ≡ None) × Refills (give_back t) reply new × (records ≡ s.records)
+Does s t (Post kind set) engine reply new records = (engine ≡ None) × Posts s.opening.problem (is_full s.opening s.records) s.records t kind set reply new records
+Does s t Retire engine reply new records = (engine ≡ None) × (reply ≡ Retired) × (new ≡ retire t) × (records ≡ s.records)
+
+abbrev pub after : State → Entry → Turn → List Record → State
+after s e t records =
+    record s {
+      records = records;
+      workers = slice_set s.workers e.worker (worker_in t);
+      available = t.available;
+      spent = t.spent;
+      exhausted = t.exhausted;
+      limited = t.limited;
+      stopped = t.stopped;
+      history = s.history ++ e ∷ [];
+    }
+
+-- one entry, of a worker that has not ended, within its purse
+pub record CoreStep (old : State) (e : Entry) (new : State) : Type 0 where
+  pub alive : (worker_at old.workers e.worker).ended ≡ false
+  pub within : e.used ≤ (worker_at old.workers e.worker).purse
+  pub turn : Turn
+  pub records : List Record
+  pub does : Does old (settle e.used (turn_at old e.worker)) e.call e.engine e.reply turn records
+  pub is : new ≡ after old e turn records
+
+-- what these entries make of a state, from first to last
+abbrev pub CoreRun : State → List Entry → State → Type 0
+CoreRun s [] end = end ≡ s
+CoreRun s (e ∷ es) end = (mid : State) × CoreStep s e mid × CoreRun mid es end
+
+-- a state that its own history makes of its opening
+abbrev pub IsReached : State → Type 0
+IsReached s = CoreRun (opened s.opening) s.history s
+
+-- the histories that a core of this opening can have
+abbrev pub IsLegal : Opening → List Entry → Type 0
+IsLegal o log = (s : State) × CoreRun (opened o) log s

@@ -1,0 +1,79 @@
+-- Laws of the core, over every list of entries.
+use Rattle.std.specs.Prelude.{◌≡◌, ◌≢◌, ℕ, true, false, List}
+use Rattle.std.specs.List.{AllByRecursion}
+use Rattle.gm_base.specs.Sets.{IsGroupSet, IsSubset, all_groups}
+use Rattle.gm_base.specs.Problem.{Problem, Sat}
+use Rattle.gm_base.specs.Minimal.{IsConflict, IsCorrection}
+use Rattle.gm_base.specs.Explored.{explores, is_explored}
+use Rattle.gm_base.specs.declared.kind.Kind.{Kind}
+use Rattle.gm_base.specs.declared.kind.Kind.TheVariants.{Conflict, Correction}
+use Rattle.evidence_rec.specs.declared.record.Record.{Record}
+use Rattle.evidence_rec.specs.Records.{kind_of, found_of, founds}
+use Rattle.map_core.specs.declared.entry.Reply.TheVariants.{Job, New}
+use Rattle.map_core.specs.declared.entry.Entry.{Entry}
+use Rattle.map_core.specs.declared.entry.Opening.{Opening}
+use Rattle.map_core.specs.Core.{State, is_held, CoreStep, CoreRun, opened}
+use Rattle.map_core.specs.Sound.{IsOpening, IsSound}
+
+abbrev pub OpeningIsSound : Type 0
+OpeningIsSound = (o : Opening) → IsOpening o → IsSound (opened o)
+
+abbrev pub StepsKeepSound : Type 0
+StepsKeepSound = (s t : State) (e : Entry) → IsSound s → CoreStep s e t → IsSound t
+
+abbrev pub RunsAreSound : Type 0
+RunsAreSound = (o : Opening) (log : List Entry) (s : State) → IsOpening o → CoreRun (opened o) log s → IsSound s × (s.history ≡ log) × (s.opening ≡ o)
+
+-- a conflict says that the sets above it cannot be made true, a correction that those that miss it can
+abbrev pub Decides : Problem → Kind → List ℕ → Type 0
+Decides p Conflict set = ¬ Sat p set
+Decides p Correction set = Sat p set
+
+abbrev pub SoundDecides : Type 0
+SoundDecides =
+    (s : State) (set : List ℕ)
+    → IsSound s
+    → IsSubset set (all_groups s.opening.problem.groups)
+    → AllByRecursion (λ (r : Record). explores (found_of r) set ≡ true → Decides s.opening.problem (kind_of r) set) s.records
+
+-- what is explored stays so
+abbrev pub StepsExplore : Type 0
+StepsExplore = (s t : State) (e : Entry) (set : List ℕ) → CoreStep s e t → is_explored (founds s.records) set ≡ true → is_explored (founds t.records) set ≡ true
+
+-- no explored set is handed out
+abbrev pub JobsAreNew : Type 0
+JobsAreNew = (s t : State) (e : Entry) (turn n : ℕ) (seed : List ℕ) → CoreStep s e t → e.reply ≡ Job turn seed n → is_explored (founds s.records) seed ≡ false
+
+-- once exhausted is marked, no post is New
+abbrev pub ExhaustedStays : Type 0
+ExhaustedStays = (s t : State) (e : Entry) → IsSound s → s.exhausted ≡ true → CoreStep s e t → e.reply ≢ New
+
+-- what is held is minimal
+abbrev pub HeldIsMinimal : Type 0
+HeldIsMinimal =
+    (s : State) (set : List ℕ)
+    → IsSound s
+    → (is_held s.records Conflict set ≡ true → IsConflict s.opening.problem set)
+    × (is_held s.records Correction set ≡ true → IsCorrection s.opening.problem set)
+
+-- no set is explored both by a conflict and by a correction that are held
+abbrev pub NotBoth : Type 0
+NotBoth =
+    (s : State) (conflict correction set : List ℕ)
+    → IsSound s
+    → IsSubset set (all_groups s.opening.problem.groups)
+    → is_held s.records Conflict conflict ≡ true
+    → is_held s.records Correction correction ≡ true
+    → explores (record { kind = Conflict; set = conflict }) set ≡ true
+    → explores (record { kind = Correction; set = correction }) set ≡ false
+
+-- once exhausted is marked, each minimal conflict and each minimal correction is held
+abbrev pub ExhaustedHoldsAll : Type 0
+ExhaustedHoldsAll =
+    (s : State) (set : List ℕ)
+    → IsSound s
+    → s.exhausted ≡ true
+    → IsGroupSet set
+    → IsSubset set (all_groups s.opening.problem.groups)
+    → (IsConflict s.opening.problem set → is_held s.records Conflict set ≡ true)
+    × (IsCorrection s.opening.problem set → is_held s.records Correction set ≡ true)

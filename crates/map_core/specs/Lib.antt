@@ -1,0 +1,11 @@
+pub mod Core
+pub mod Own
+pub mod Replies
+pub mod Sound
+pub mod Laws
+pub mod Index
+pub mod Shared
+pub mod Asked
+pub mod Kept
+pub mod Opens
+pub mod Closings

@@ -1,0 +1,144 @@
+//! What a post is answered.
+ghost use Rattle.std.specs.Prelude.{◌≡◌, ◌+◌, ◌<◌, ◌≤◌, ◌^◌, ◌++◌, ◌∷◌, [], ℕ, List, false, vec_len, vec_capacity, OnOk, OnErr};
+ghost use Rattle.gm_base.specs.Sets.{IsSubset, all_groups};
+ghost use Rattle.gm_base.specs.Problem.{Problem};
+ghost use Rattle.gm_base.specs.Explored.{block_of};
+ghost use Rattle.lrat_steps.specs.Log.{learned_count};
+ghost use Rattle.evidence_rec.specs.Records.{kind_of, set_of, found_of, founds, IsAccepted};
+ghost use Rattle.evidence_rec.specs.Seeding.{IsHonestMap, blocked};
+ghost use Rattle.map_core.specs.Core.{Posts};
+ghost use Rattle.map_core.specs.Index.{holds, Gains, IsSameHeld, IsIndex};
+ghost use Rattle.map_core.specs.Replies.{post_reply};
+ghost use Rattle.map_core.specs.declared.replies.Posted.TheVariants.{New};
+
+use crate::entry::{Entry, Reply};
+use crate::held::Held;
+use crate::replies::Posted;
+use crate::turn::Turn;
+use evidence_rec::{MapEngine, Record};
+use gm_base::{GroupSet, Kind, Side};
+use std::alloc::Global;
+
+/// The reply, with the set for the history and the caller's part after the post.
+#[derive(Drop)]
+pub struct PostAnswer {
+    pub turn: Turn,
+    pub set: GroupSet,
+    pub reply: Posted,
+}
+
+/// The reply for the history.
+pub fn kept_post(reply: Posted) -> Reply
+    ensures { result ≡ post_reply reply }
+{
+    match reply {
+        Posted::New => Reply::New,
+        Posted::Already => Reply::Already,
+        Posted::Limit => Reply::Limit,
+        Posted::Memory => Reply::Memory,
+    }
+}
+
+/// The side on which the sets lie that a record of this kind explores.
+pub fn side_of(kind: Kind) -> Side
+    ensures { (groups : List ℕ) → (block_of result groups).kind ≡ kind }
+{
+    match kind {
+        Kind::Conflict => Side::Up,
+        Kind::Correction => Side::Down,
+    }
+}
+
+// Takes the record in, or gives it back with all as it was. What may want memory comes before the block, which can't be
+// taken back.
+#[tactic(auto, using(crate::proofs::Searched::learned_blocked))]
+fn hold<M: MapEngine>(
+    alloc: Global,
+    engine: &mut M,
+    held: &mut Held,
+    records: &mut Vec<Record>,
+    finding: Record,
+) -> Result<(), Record>
+    requires fresh { holds held.old (kind_of finding) (set_of finding) ≡ false }
+    requires within { IsSubset (set_of finding) (all_groups (M.state engine.old).groups) }
+    ensures record_ok { OnOk result (records.new.items ≡ records.old.items ++ finding ∷ []) }
+    ensures block_ok { OnOk result (M.state engine.new ≡ blocked (M.state engine.old) (found_of finding)) }
+    ensures honest_ok { OnOk result (IsHonestMap (M.state engine.new).blocks (M.state engine.new).log) }
+    ensures learned { learned_count (M.state engine.new).log ≡ learned_count (M.state engine.old).log }
+    ensures held_ok { OnOk result (Gains (kind_of finding) (set_of finding) held.old held.new) }
+    ensures record_err { OnErr result (records.new.items ≡ records.old.items) }
+    ensures block_err { OnErr result (M.state engine.new ≡ M.state engine.old) }
+    ensures held_err { OnErr result (IsSameHeld held.old held.new) }
+{
+    let kind = finding.kind();
+    if records.reserve(1).is_err() {
+        return Err(finding);
+    }
+    let Ok(key) = finding.set().copy(alloc) else {
+        return Err(finding);
+    };
+    if held.add(kind, key).is_err() {
+        return Err(finding);
+    }
+    if engine.block(alloc, finding.set(), side_of(kind)).is_err() {
+        held.remove(kind, finding.set());
+        return Err(finding);
+    }
+    records.push_reserved(finding);
+    Ok(())
+}
+
+fn answered(turn: Turn, set: GroupSet, reply: Posted) -> PostAnswer
+    ensures { result ≡ record { turn = turn; set = set; reply = reply } }
+{
+    PostAnswer { turn, set, reply }
+}
+
+/// What a post is answered, with room for the worker's own retirement where it goes on.
+pub fn admit<M: MapEngine>(
+    alloc: Global,
+    engine: &mut M,
+    held: &mut Held,
+    records: &mut Vec<Record>,
+    history: &mut Vec<Entry>,
+    workers: usize,
+    full: bool,
+    turn: Turn,
+    finding: Record,
+) -> PostAnswer
+    requires fits { turn.available + turn.purse < 2 ^ 64 }
+    requires few { workers < 2 ^ 32 }
+    requires index { IsIndex held.old records.old.items }
+    requires blocked { (M.state engine.old).blocks ≡ founds records.old.items }
+    requires within { IsSubset (set_of finding) (all_groups (M.state engine.old).groups) }
+    ensures posts { (p : Problem) → IsAccepted p finding → Posts p full records.old.items turn (kind_of finding) (set_of finding) (post_reply result.reply) result.turn records.new.items }
+    ensures handed_in { result.reply ≡ New → records.new.items ≡ records.old.items ++ finding ∷ [] }
+    ensures set { result.set ≡ set_of finding }
+    ensures exhausted { result.turn.exhausted ≡ turn.exhausted }
+    ensures index { IsIndex held.new records.new.items }
+    ensures blocked { (M.state engine.new).blocks ≡ founds records.new.items }
+    ensures groups { (M.state engine.new).groups ≡ (M.state engine.old).groups }
+    ensures learned { learned_count (M.state engine.new).log ≡ learned_count (M.state engine.old).log }
+    ensures honest { IsHonestMap (M.state engine.old).blocks (M.state engine.old).log → IsHonestMap (M.state engine.new).blocks (M.state engine.new).log }
+    ensures history { history.new.items ≡ history.old.items }
+    ensures capacity { vec_capacity history.old ≤ vec_capacity history.new }
+    ensures room { result.turn.ended ≡ false → vec_len history.new + (workers + 1) ≤ vec_capacity history.new }
+{
+    let is_held = held.has(finding.kind(), finding.set());
+    if full && !is_held {
+        return answered(turn.mark_limited().end(), finding.into_set(), Posted::Limit);
+    }
+    if history.reserve(workers + 1).is_err() {
+        return answered(turn.retire(), finding.into_set(), Posted::Memory);
+    }
+    if is_held {
+        return answered(turn, finding.into_set(), Posted::Already);
+    }
+    let Ok(copy) = finding.set().copy(alloc) else {
+        return answered(turn.retire(), finding.into_set(), Posted::Memory);
+    };
+    match hold(alloc, engine, held, records, finding) {
+        Ok(()) => answered(turn, copy, Posted::New),
+        Err(_) => answered(turn.retire(), copy, Posted::Memory),
+    }
+}

@@ -1,0 +1,76 @@
+//! The part of the state that all calls share, and how a call begins and ends.
+ghost use Rattle.std.specs.Prelude.{◌≡◌, ◌+◌, ◌<◌, ◌≤◌, ◌^◌, ◌++◌, ◌∷◌, [], length, slice_set, vec_len, vec_capacity, IsTrue, ℕ, true, ◌↔◌};
+ghost use Rattle.map_core.specs.Core.{worker_at, worker_in, settle, turn_of};
+ghost use Rattle.map_core.specs.Shared.{common_in};
+
+use crate::entry::Entry;
+use crate::turn::{Turn, Worker};
+
+/// The numbers and marks that do not belong to one worker.
+#[derive(Clone, Copy)]
+pub struct Common {
+    pub available: u64,
+    pub spent: u64,
+    pub exhausted: bool,
+    pub limited: bool,
+    pub stopped: bool,
+}
+
+/// The worker's part, with what it used settled.
+pub fn begin(workers: &[Worker], common: Common, w: u32, used: u64) -> Turn
+    requires seat { w < length workers.now }
+    requires within { used ≤ (worker_at workers.now w).purse }
+    requires fits { common.spent + used < 2 ^ 64 }
+    ensures { result ≡ settle used (turn_of workers.now common.available common.spent common.exhausted common.limited common.stopped w) }
+{
+    let me = workers[w as usize];
+    let turn = Turn {
+        purse: me.purse,
+        last_grant: me.last_grant,
+        ended: me.ended,
+        available: common.available,
+        spent: common.spent,
+        exhausted: common.exhausted,
+        limited: common.limited,
+        stopped: common.stopped,
+    };
+    turn.settle(used)
+}
+
+/// Writes the worker's part back, appends the entry, and gives the common part.
+pub fn finish(
+    workers: &mut Vec<Worker>,
+    history: &mut Vec<Entry>,
+    turn: Turn,
+    entry: Entry,
+) -> Common
+    requires seat { entry.worker < length workers.old.items }
+    requires room { vec_len history.old < vec_capacity history.old }
+    ensures workers { workers.new.items ≡ slice_set workers.old.items entry.worker (worker_in turn) }
+    ensures history { history.new.items ≡ history.old.items ++ entry ∷ [] }
+    ensures len { vec_len history.new ≡ vec_len history.old + 1 }
+    ensures capacity { vec_capacity history.new ≡ vec_capacity history.old }
+    ensures common { result ≡ common_in turn }
+{
+    let at = entry.worker as usize;
+    workers[at] = Worker {
+        purse: turn.purse,
+        last_grant: turn.last_grant,
+        ended: turn.ended,
+    };
+    history.push_reserved(entry);
+    Common {
+        available: turn.available,
+        spent: turn.spent,
+        exhausted: turn.exhausted,
+        limited: turn.limited,
+        stopped: turn.stopped,
+    }
+}
+
+/// Whether each of them has ended.
+pub fn all_ended(workers: &[Worker]) -> bool
+    ensures { IsTrue result ↔ ((k : ℕ) → k < length workers.now → (worker_at workers.now k).ended ≡ true) }
+{
+    workers.iter().all(|worker| worker.ended)
+}

@@ -1,0 +1,56 @@
+//! Calls of workers, and their replies.
+use evidence_rec::Records;
+use gm_base::{GroupSet, Kind, Problem};
+
+/// What a worker asks for.
+#[derive(Drop)]
+pub enum Call {
+    Take,
+    /// With the set that its solver was asked about.
+    Refill(GroupSet),
+    /// With the kind and the set of the record.
+    Post(Kind, GroupSet),
+    Retire,
+}
+
+/// What a call is answered.
+#[derive(Drop)]
+pub enum Reply {
+    /// With the number of the entry, a set that no record explores, and what is granted for it.
+    Job {
+        turn: u64,
+        seed: GroupSet,
+        grant: u64,
+    },
+    Grant(u64),
+    Exhausted,
+    Limit,
+    Dry,
+    Stopped,
+    New,
+    Already,
+    Retired,
+    /// Want of memory: the worker has ended.
+    Memory,
+}
+
+/// One call: whose it was, how much of the purse was used before it, how much the engine used where it was asked, and the
+/// reply.
+#[derive(Drop)]
+pub struct Entry {
+    pub worker: u32,
+    pub call: Call,
+    pub used: u64,
+    pub engine: Option<u64>,
+    pub reply: Reply,
+}
+
+/// What a core is opened with.
+#[derive(Drop)]
+pub struct Opening {
+    pub problem: Problem,
+    pub records: Records,
+    pub workers: u32,
+    pub budget: u64,
+    pub limit: u64,
+}

@@ -1,0 +1,24 @@
+//! What holds after every list of entries, by any workers in any order: each law is the contract of a function with no code.
+ghost use Rattle.map_core.specs.Laws.{OpeningIsSound, StepsKeepSound, RunsAreSound, SoundDecides, StepsExplore, JobsAreNew, ExhaustedStays, HeldIsMinimal, NotBoth, ExhaustedHoldsAll};
+
+/// The opening state has the core's facts, and each step keeps them.
+pub fn core_is_sound()
+    ensures opening { OpeningIsSound }
+    ensures steps { StepsKeepSound }
+    ensures runs { RunsAreSound }
+{}
+
+/// What an explored set is, and what stays so.
+pub fn explored_is_right()
+    ensures decides { SoundDecides }
+    ensures stays { StepsExplore }
+    ensures jobs { JobsAreNew }
+    ensures exhausted { ExhaustedStays }
+{}
+
+/// What is held, and that nothing is missing once exhausted is marked.
+pub fn held_is_right()
+    ensures minimal { HeldIsMinimal }
+    ensures apart { NotBoth }
+    ensures all { ExhaustedHoldsAll }
+{}

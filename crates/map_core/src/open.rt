@@ -1,0 +1,73 @@
+//! How a core is opened.
+ghost use Rattle.std.specs.Prelude.{◌≡◌, ◌+◌, ◌++◌, ◌∷◌, [], replicate, OnOk, IfOk};
+ghost use Rattle.gm_base.specs.Sets.{IsSubset, all_groups};
+ghost use Rattle.lrat_steps.specs.Log.{learned_count};
+ghost use Rattle.evidence_rec.specs.Seeding.{IsHonestMap};
+ghost use Rattle.evidence_rec.specs.Records.{kind_of, set_of, found_of, founds};
+ghost use Rattle.map_core.specs.Core.{new_worker};
+ghost use Rattle.map_core.specs.Index.{Gains, IsIndex};
+ghost use Rattle.map_core.specs.Opens.{IsWithin};
+
+use crate::admit::side_of;
+use crate::held::Held;
+use crate::turn::Worker;
+use evidence_rec::{MapEngine, Record};
+use std::alloc::{AllocError, Global};
+
+/// Gives the engine the block of a record, and puts its set into the index.
+#[tactic(auto, using(crate::proofs::Searched::learned_blocked))]
+fn enter<M: MapEngine>(
+    alloc: Global,
+    engine: &mut M,
+    held: &mut Held,
+    opening: &Record,
+) -> Result<(), AllocError>
+    requires { IsSubset (set_of opening.now) (all_groups (M.state engine.old).groups) }
+    ensures block { OnOk result ((M.state engine.new).blocks ≡ (M.state engine.old).blocks ++ found_of opening.now ∷ []) }
+    ensures held { OnOk result (Gains (kind_of opening.now) (set_of opening.now) held.old held.new) }
+    ensures groups { (M.state engine.new).groups ≡ (M.state engine.old).groups }
+    ensures learned { learned_count (M.state engine.new).log ≡ learned_count (M.state engine.old).log }
+    ensures honest { IsHonestMap (M.state engine.new).blocks (M.state engine.new).log }
+{
+    let kind = opening.kind();
+    engine.block(alloc, opening.set(), side_of(kind))?;
+    let key = opening.set().copy(alloc)?;
+    held.add(kind, key)
+}
+
+/// Gives the engine the blocks of the records, and makes their index.
+pub fn enter_all<M: MapEngine>(
+    alloc: Global,
+    engine: &mut M,
+    records: &[Record],
+) -> Result<Held, AllocError>
+    requires within { IsWithin (M.state engine.old).groups records.now }
+    requires blocks { (M.state engine.old).blocks ≡ [] }
+    requires log { (M.state engine.old).log ≡ [] }
+    ensures index { IfOk result (λ held. IsIndex held records.now) }
+    ensures blocks { OnOk result ((M.state engine.new).blocks ≡ founds records.now) }
+    ensures groups { (M.state engine.new).groups ≡ (M.state engine.old).groups }
+    ensures learned { learned_count (M.state engine.new).log ≡ learned_count (M.state engine.old).log }
+    ensures honest { IsHonestMap (M.state engine.new).blocks (M.state engine.new).log }
+{
+    let mut held = Held::new(alloc);
+    for r in records {
+        enter(alloc, engine, &mut held, r)?;
+    }
+    Ok(held)
+}
+
+/// Workers that have made no call.
+pub fn new_workers(alloc: Global, count: u32) -> Result<Vec<Worker>, AllocError>
+    ensures { IfOk result (λ workers. workers.items ≡ replicate count new_worker) }
+{
+    let mut workers = Vec::new(alloc);
+    for _ in 0..count {
+        workers.push(Worker {
+            purse: 0,
+            last_grant: 0,
+            ended: false,
+        })?;
+    }
+    Ok(workers)
+}
