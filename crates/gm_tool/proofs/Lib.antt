@@ -1,6 +1,7 @@
-pub mod SearchLemmas
-pub mod SeedLemmas
-pub mod ListingLemmas
-pub mod KeptLemmas
+pub mod MarcoLemmas
+pub mod SetListLemmas
+pub mod HeldLemmas
 pub mod OrderLemmas
+pub mod ReportLemmas
+pub mod ClosedLemmas
 pub mod RunLemmas

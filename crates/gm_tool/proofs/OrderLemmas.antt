@@ -1,6 +1,6 @@
 -- Lists of sets in lexicographic order. Two of them with the same sets are one list, and the lists of all minimal conflicts
 -- and of all minimal corrections are in that order.
-use Rattle.std.proofs.Common.{◌≡◌, ℕ, suc, ◌+◌, ◌<◌, ◌≤◌, Bool, true, false, cond, List, [], ◌∷◌, ◌++◌, map, length, get_or, refl, sym, ◌∙◌, ap, subst, inl, inr, arith, eqb, ltb, is_lt, nat_cmp, Less, Equal, Greater}
+use Rattle.std.proofs.Common.{◌≡◌, ℕ, suc, ◌+◌, ◌<◌, ◌≤◌, Bool, true, false, cond, List, [], ◌∷◌, ◌++◌, map, length, get_or, refl, sym, ◌∙◌, ap, ap₂, subst, inl, inr, arith, eqb, ltb, is_lt, nat_cmp, Less, Equal, Greater}
 use Rattle.std.specs.Prelude.{nat_eq}
 use Rattle.std.specs.List.{AllByRecursion, filter, sum_by}
 use Rattle.std.specs.Ordering.{ordering_then}
@@ -10,17 +10,21 @@ use Rattle.std.proofs.lemmas.List.Sorted.{ranks_by, sorted_far, sum_by-IsPermuta
 use Rattle.std.proofs.lemmas.List.Sums.{sum_by-cons}
 use Rattle.std.proofs.lemmas.Bool.{true≢false, cases_Bool, cases_order, lt-ltb, eq-eqb, cond-true, cond-false, ltb-true}
 use Rattle.gm_base.specs.Sets.{AscendsAbove, nonempty_sublists, subsets, all_groups}
-use Rattle.gm_base.specs.Members.{In}
-use Rattle.gm_base.specs.Problem.{Problem}
+use Rattle.gm_base.proofs.SetLemmas.{AscendsAbove-range}
+use Rattle.gm_base.specs.Problem.{Problem, IsProblem}
+use Rattle.gm_base.specs.declared.kind.Kind.TheVariants.{Conflict, Correction}
 use Rattle.gm_base.specs.Minimal.{is_conflict, is_correction, conflicts, corrections}
 use Rattle.gm_base.specs.Report.{report_text}
 use Rattle.report_text.specs.Sorted.{IsSortedOf}
 use Rattle.report_text.specs.Reports.{IsReportOf}
-use Rattle.gm_tool.specs.declared.listing.Found.{Found}
-use Rattle.gm_tool.specs.Run.{full_report, IsPartialReport}
-use Rattle.gm_tool.specs.Listing.{one_if, times, IsDistinct, SameSets, IsKept, ListsAll}
-use Rattle.gm_tool.proofs.ListingLemmas.{same-is, same-refl, AscendsAbove-range, times-In, In-times, In-filter, filter-In, distinct-filter}
-use Rattle.gm_tool.proofs.KeptLemmas.{once as same_once, conflicts-kept, corrections-kept, distinct-conflicts, distinct-corrections}
+use Rattle.evidence_rec.specs.declared.record.Record.{Record}
+use Rattle.evidence_rec.specs.Records.{IsAccepted}
+use Rattle.map_core.specs.Core.{is_held}
+use Rattle.map_core.specs.Sound.{AreNew}
+use Rattle.map_core.specs.Closings.{HoldsAll}
+use Rattle.gm_tool.specs.Closed.{conflicts_in, corrections_in, held_report, full_report}
+use Rattle.gm_tool.proofs.SetListLemmas.{one_if, times, SameSets, same-is, same-refl}
+use Rattle.gm_tool.proofs.HeldLemmas.{SameSets-held, all_conflicts, all_corrections}
 
 -- a set comes before another
 abbrev pub below : List ℕ → List ℕ → Bool
@@ -36,19 +40,23 @@ abbrev pub Ascends : List (List ℕ) → Type 0
 Ascends [] = Unit {0}
 Ascends (s ∷ ss) = AllByRecursion (λ t. below s t ≡ true) ss × Ascends ss
 
-all_by_place : (P : List ℕ → Type 0) (ss : List (List ℕ)) → ((j : ℕ) (d : List ℕ) → j < length ss → P (get_or ss j d)) → AllByRecursion P ss
+all_by_place : (P : List ℕ → Type 0) (ss : List (List ℕ)) → ((j : ℕ) (d : List ℕ) → j < length ss → P (get_or ss j d))
+    → AllByRecursion P ss
 all_by_place P [] at = tt
 all_by_place P (s ∷ ss) at = (at 0 s (omega arith), all_by_place P ss (λ j d lt. at (suc j) d (omega arith)))
 
-all_then : (P Q : List ℕ → Type 0) (ss : List (List ℕ)) → ((s : List ℕ) → P s → Q s) → AllByRecursion P ss → AllByRecursion Q ss
+all_then : (P Q : List ℕ → Type 0) (ss : List (List ℕ)) → ((s : List ℕ) → P s → Q s) → AllByRecursion P ss
+    → AllByRecursion Q ss
 all_then P Q [] then all = tt
 all_then P Q (s ∷ ss) then all = (then s all.0, all_then P Q ss then all.1)
 
-all-append : (P : List ℕ → Type 0) (ss ts : List (List ℕ)) → AllByRecursion P ss → AllByRecursion P ts → AllByRecursion P (ss ++ ts)
+all-append : (P : List ℕ → Type 0) (ss ts : List (List ℕ)) → AllByRecursion P ss → AllByRecursion P ts
+    → AllByRecursion P (ss ++ ts)
 all-append P [] ts a b = b
 all-append P (s ∷ ss) ts a b = (a.0, all-append P ss ts a.1 b)
 
-all-filter : (P : List ℕ → Type 0) (test : List ℕ → Bool) (ss : List (List ℕ)) → AllByRecursion P ss → AllByRecursion P (filter test ss)
+all-filter : (P : List ℕ → Type 0) (test : List ℕ → Bool) (ss : List (List ℕ)) → AllByRecursion P ss
+    → AllByRecursion P (filter test ss)
 all-filter P test [] all = tt
 all-filter P test (s ∷ ss) all =
     elim (cases_Bool (test s)) [
@@ -56,7 +64,8 @@ all-filter P test (s ∷ ss) all =
       | inr dropped ↦ subst (AllByRecursion P) (sym (cond-false (test s) (s ∷ filter test ss) (filter test ss) dropped)) (all-filter P test ss all.1)
     ]
 
-Rises-from_sorted : (ss : List (List ℕ)) → ((i j : ℕ) (d : List ℕ) → i ≤ j → j < length ss → below (get_or ss j d) (get_or ss i d) ≡ false) → Rises ss
+Rises-from_sorted : (ss : List (List ℕ))
+    → ((i j : ℕ) (d : List ℕ) → i ≤ j → j < length ss → below (get_or ss j d) (get_or ss i d) ≡ false) → Rises ss
 Rises-from_sorted [] far = tt
 Rises-from_sorted (s ∷ ss) far = (
   all_by_place (λ t. below t s ≡ false) ss (λ j d lt. far 0 (suc j) d (omega arith) (omega arith)),
@@ -101,7 +110,8 @@ one_place (g ∷ s) (h ∷ t) p q =
     ]
 
 -- a set that is in a list, which all that stand there don't come before
-in_order_of : (s : List ℕ) (ss : List (List ℕ)) (t : List ℕ) → AllByRecursion (λ u. below u t ≡ false) ss → 0 < times s ss → below s t ≡ false
+in_order_of : (s : List ℕ) (ss : List (List ℕ)) (t : List ℕ) → AllByRecursion (λ u. below u t ≡ false) ss
+    → 0 < times s ss → below s t ≡ false
 in_order_of s [] t all some = absurd (omega arith)
 in_order_of s (u ∷ ss) t all some =
     elim (cases_Bool (pointwise nat_eq u s)) [
@@ -174,7 +184,8 @@ first_of_later : (g : ℕ) (s t : List ℕ) → BeginsAbove g t → below (g ∷
 first_of_later g s [] above = absurd above
 first_of_later g s (h ∷ t) above = below-less g h s t above
 
-Ascends-append : (ss ts : List (List ℕ)) → Ascends ss → Ascends ts → AllByRecursion (λ s. AllByRecursion (λ t. below s t ≡ true) ts) ss → Ascends (ss ++ ts)
+Ascends-append : (ss ts : List (List ℕ)) → Ascends ss → Ascends ts
+    → AllByRecursion (λ s. AllByRecursion (λ t. below s t ≡ true) ts) ss → Ascends (ss ++ ts)
 Ascends-append [] ts a b across = b
 Ascends-append (s ∷ ss) ts a b across =
     (all-append (λ t. below s t ≡ true) ss ts a.0 across.0, Ascends-append ss ts a.1 b across.1)
@@ -183,12 +194,14 @@ Ascends-map : (g : ℕ) (ss : List (List ℕ)) → Ascends ss → Ascends (map (
 Ascends-map g [] up = tt
 Ascends-map g (s ∷ ss) up = (behind ss up.0, Ascends-map g ss up.1)
   where
-    behind : (ts : List (List ℕ)) → AllByRecursion (λ t. below s t ≡ true) ts → AllByRecursion (λ t. below (g ∷ s) t ≡ true) (map (λ t. g ∷ t) ts)
+    behind : (ts : List (List ℕ)) → AllByRecursion (λ t. below s t ≡ true) ts
+        → AllByRecursion (λ t. below (g ∷ s) t ≡ true) (map (λ t. g ∷ t) ts)
     behind [] all = tt
     behind (t ∷ ts) all = (below-same g s t ∙ all.0, behind ts all.1)
 
 -- a set of one group comes before each longer one that begins with it
-single_first : (low g : ℕ) (ss : List (List ℕ)) → AllByRecursion (BeginsAbove low) ss → AllByRecursion (λ t. below (g ∷ []) t ≡ true) (map (λ s. g ∷ s) ss)
+single_first : (low g : ℕ) (ss : List (List ℕ)) → AllByRecursion (BeginsAbove low) ss
+    → AllByRecursion (λ t. below (g ∷ []) t ≡ true) (map (λ s. g ∷ s) ss)
 single_first low g [] all = tt
 single_first low g (s ∷ ss) all = (below-same g [] s ∙ short s all.0, single_first low g ss all.1)
   where
@@ -196,7 +209,8 @@ single_first low g (s ∷ ss) all = (below-same g [] s ∙ short s all.0, single
     short [] above = absurd above
     short (h ∷ t) above = refl
 
-across_from : (g : ℕ) (ss ts : List (List ℕ)) → AllByRecursion (BeginsAbove g) ts → AllByRecursion (λ s. AllByRecursion (λ t. below s t ≡ true) ts) (map (λ s. g ∷ s) ss)
+across_from : (g : ℕ) (ss ts : List (List ℕ)) → AllByRecursion (BeginsAbove g) ts
+    → AllByRecursion (λ s. AllByRecursion (λ t. below s t ≡ true) ts) (map (λ s. g ∷ s) ss)
 across_from g [] ts above = tt
 across_from g (s ∷ ss) ts above = (all_then (BeginsAbove g) (λ t. below (g ∷ s) t ≡ true) ts (first_of_later g s) above, across_from g ss ts above)
 
@@ -250,35 +264,27 @@ Ascends-corrections : (p : Problem) → Ascends (corrections p)
 unfolding corrections
 Ascends-corrections p = Ascends-filter (is_correction p) (subsets p.groups) (Ascends-subsets p.groups)
 
--- the report of all sets of a listing is the whole report
-pub full_report-from : (p : Problem) (found : Found) (text : List ℕ) → ListsAll p found → IsReportOf p.groups true found.conflicts found.corrections text → text ≡ full_report p
-full_report-from p found text all report =
+-- the report of the sets of distinct accepted records is that of the minimal sets that are held
+pub held_report-from : (p : Problem) (complete : Bool) (records : List Record) (text : List ℕ) → IsProblem p
+    → AllByRecursion (IsAccepted p) records → AreNew [] records
+    → IsReportOf p.groups complete (conflicts_in records) (corrections_in records) text
+    → text ≡ held_report p complete records
+held_report-from p complete records text ok all new report =
     report.same
-    ∙ ap (λ us. report_text p.groups true us report.ms) (sorted_is found.conflicts report.us (conflicts p) report.conflicts_in_order (Ascends-conflicts p) all.conflicts)
-    ∙ ap (λ ms. report_text p.groups true (conflicts p) ms) (sorted_is found.corrections report.ms (corrections p) report.corrections_in_order (Ascends-corrections p) all.corrections)
+    ∙ ap (λ us. report_text p.groups complete us report.ms)
+    (sorted_is (conflicts_in records) report.us us report.conflicts_in_order (Ascends-filter (is_held records Conflict) (conflicts p) (Ascends-conflicts p))
+    (SameSets-held p Conflict records ok all new))
+    ∙ ap (report_text p.groups complete us)
+    (sorted_is (corrections_in records) report.ms ms report.corrections_in_order (Ascends-filter (is_held records Correction) (corrections p) (Ascends-corrections p))
+    (SameSets-held p Correction records ok all new))
+  where
+    us : List (List ℕ)
+    us = filter (is_held records Conflict) (conflicts p)
 
--- whether a set is in a list
-abbrev pub is_in : List (List ℕ) → List ℕ → Bool
-is_in sets s = ltb 0 (times s sets)
+    ms : List (List ℕ)
+    ms = filter (is_held records Correction) (corrections p)
 
--- sorted, what was found of a list in order is that list, but for what was not found
-part_is : (found us all : List (List ℕ)) → IsSortedOf found us → Ascends all → IsDistinct found → IsDistinct all → ((s : List ℕ) → In s found → In s all) → us ≡ filter (is_in found) all
-part_is found us all sorted up once_found once_all sub =
-    sorted_is found us (filter (is_in found) all) sorted (Ascends-filter (is_in found) all up)
-    (same_once found (filter (is_in found) all) once_found (distinct-filter (is_in found) all once_all)
-    (λ s i. In-filter (is_in found) s all (sub s i) (lt-ltb 0 (times s found) (times-In s found i)))
-    (λ s i. In-times s found (ltb-true 0 (times s found) (filter-In (is_in found) s all i).1)))
-
--- the report of what was kept is the report of a part of all sets
-pub IsPartialReport-from : (p : Problem) (found : Found) (text : List ℕ) → IsKept p found → IsReportOf p.groups false found.conflicts found.corrections text → IsPartialReport p text
-IsPartialReport-from p found text kept report =
-    record {
-      is_listed_conflict = is_in found.conflicts;
-      is_listed_correction = is_in found.corrections;
-      same =
-          report.same
-          ∙ ap (λ us. report_text p.groups false us report.ms)
-          (part_is found.conflicts report.us (conflicts p) report.conflicts_in_order (Ascends-conflicts p) kept.distinct_conflicts (distinct-conflicts p) (conflicts-kept p found kept))
-          ∙ ap (λ ms. report_text p.groups false (filter (is_in found.conflicts) (conflicts p)) ms)
-          (part_is found.corrections report.ms (corrections p) report.corrections_in_order (Ascends-corrections p) kept.distinct_corrections (distinct-corrections p) (corrections-kept p found kept));
-    }
+-- where all minimal sets are held, it is the whole report
+pub full_report-from : (p : Problem) (records : List Record) → HoldsAll p records
+    → held_report p true records ≡ full_report p
+full_report-from p records all = ap₂ (report_text p.groups true) (all_conflicts p records all) (all_corrections p records all)

@@ -1,5 +1,5 @@
-pub mod Search
-pub mod Seed
-pub mod Listing
 pub mod Refusals
+pub mod Lines
+pub mod Marco
+pub mod Closed
 pub mod Run

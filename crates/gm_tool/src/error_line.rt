@@ -13,8 +13,7 @@ fn text_of(ending: &Ending) -> &[u8]
     match ending {
         Ending::Complete => b"",
         Ending::BadWords => b"gmus: bad command line\n",
-        Ending::Spent => b"gmus: budget of 18446744073709551615 conflicts spent\n",
-        Ending::Refused(line) => line.as_slice(),
+        Ending::Spent(line) | Ending::Limited(line) | Ending::Refused(line) => line.as_slice(),
         Ending::ReadFault => b"gmus: read fault on input\n",
         Ending::WriteFault => b"gmus: write fault on report\n",
         Ending::Memory => b"gmus: out of memory\n",

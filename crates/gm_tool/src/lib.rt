@@ -8,20 +8,21 @@
 //! ```
 //!
 //! Start reading at `run` and at `specs/Run.antt`, which says what each status tells of the words, the file and the
-//! report. Then `listing`: an oracle over the learning solver is asked about a seed that nothing explores which was found so
-//! far (`seed`), and the seed is shrunk to a minimal conflict or grown to a minimal correction, until there is no seed or
-//! the budget is spent. Seeds are found depth-first over choices (`search`).
+//! report. Then `marco`: the core hands out seeds, which an oracle over the learning solver decides, and each is shrunk to a
+//! minimal conflict or grown to a minimal correction, until no set of groups is left, the budget is spent or as many sets
+//! are recorded as were wanted.
 //!
 //! Nothing is promised of time, and want of memory may end any run.
 #![tactic(auto)]
 
+mod bounds_line;
 mod error_line;
 mod list;
 mod listing;
-mod records;
+mod marco;
+#[cfg(test)]
+mod plain;
 mod refusal;
-mod search;
-mod seed;
 #[cfg(test)]
 mod tests;
 mod top;

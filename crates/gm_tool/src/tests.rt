@@ -1,6 +1,19 @@
+ghost use Rattle.std.specs.Prelude.{◌≡◌, IfOk};
+ghost use Rattle.gm_base.specs.Sets.{IsSubset, all_groups};
+ghost use Rattle.evidence_rec.specs.Records.{IsAccepted};
+
 use super::*;
+use crate::marco::{Explored, explore};
+use crate::plain::draw_problem;
+use evidence_rec::{Record, Records};
+use gcnf_text::{Read, read_gcnf};
+use gm_base::{GroupSet, Problem, Purse};
 use gm_ports::{Calls, MemFiles, MemSink, Rooms, Texts};
+use group_oracle::GroupOracle;
+use map_core::{MapCore, Posted, Refilled, Taken, Verdict};
+use power_map::PowerMap;
 use std::alloc::Global;
+use std::process::Abort;
 use std::sync::Wait;
 use std::test::Fail;
 use std::thread::Threads;
@@ -30,6 +43,8 @@ fn plain(text: &str) -> Outside<'_> {
 #[derive(Drop)]
 struct Outcome {
     status: u8,
+    spent: u64,
+    records: Option<usize>,
     out: MemSink,
     err: MemSink,
 }
@@ -62,6 +77,8 @@ fn run_on<R: Threads + Wait + Sync>(
     let finish = run(rt, alloc, given.as_slice(), &mut files, &mut out, &mut err);
     Ok(Outcome {
         status: finish.status,
+        spent: finish.spent,
+        records: finish.closing.map(|closing| closing.records.len()),
         out,
         err,
     })
@@ -121,6 +138,297 @@ fn each_file_has_its_report(rt: HostRuntime) -> Result<(), Fail> {
     Ok(())
 }
 
+// A group whose four clauses exclude all values of two variables: to see it, a clause has to be learnt.
+const FOUR: &str = "p gcnf 2 4 1\n{1} 1 2 0\n{1} 1 -2 0\n{1} -1 2 0\n{1} -1 -2 0\n";
+
+#[test]
+fn bounds_end_a_listing(rt: HostRuntime) -> Result<(), Fail> {
+    let first = "u 1 2 0\nu 1 3 4 0\nm 1 0\nm 2 3 0\nm 2 4 0\ne 2 3\n";
+    let rows: [(&str, &[&str], u8, &str, &str, &str, &str); 9] = [
+        (
+            "p gcnf 0 1 1\n{1} 0\n",
+            &["--conflicts", "0"],
+            0,
+            "p gmus 1\n",
+            "s COMPLETE\n",
+            "u 1 0\nm 1 0\ne 1 1\n",
+            "",
+        ),
+        (
+            FOUR,
+            &["--conflicts", "0"],
+            3,
+            "p gmus 1\n",
+            "s PARTIAL\n",
+            "e 0 0\n",
+            "gmus: budget of 0 conflicts spent\n",
+        ),
+        (
+            FOUR,
+            &["--conflicts=0"],
+            3,
+            "p gmus 1\n",
+            "s PARTIAL\n",
+            "e 0 0\n",
+            "gmus: budget of 0 conflicts spent\n",
+        ),
+        (
+            FOUR,
+            &["--conflicts", "18446744073709551615"],
+            0,
+            "p gmus 1\n",
+            "s COMPLETE\n",
+            "u 1 0\nm 1 0\ne 1 1\n",
+            "",
+        ),
+        (
+            FOUR,
+            &["--limit", "1000000000"],
+            0,
+            "p gmus 1\n",
+            "s COMPLETE\n",
+            "u 1 0\nm 1 0\ne 1 1\n",
+            "",
+        ),
+        (
+            FIRST,
+            &["--limit", "5"],
+            4,
+            "p gmus 4\n",
+            "s PARTIAL\n",
+            first,
+            "gmus: limit of 5 records reached\n",
+        ),
+        (
+            FIRST,
+            &["--limit", "6"],
+            0,
+            "p gmus 4\n",
+            "s COMPLETE\n",
+            first,
+            "",
+        ),
+        (
+            FIRST,
+            &["--limit=6"],
+            0,
+            "p gmus 4\n",
+            "s COMPLETE\n",
+            first,
+            "",
+        ),
+        (
+            "p gcnf 0 0 0\n",
+            &["--limit", "1"],
+            4,
+            "p gmus 0\n",
+            "s PARTIAL\n",
+            "m 0\ne 0 1\n",
+            "gmus: limit of 1 records reached\n",
+        ),
+    ];
+    for (text, options, status, head, state, sets, err) in rows {
+        let alloc = rt.alloc();
+        let mut words = Vec::new(alloc);
+        words.push("list")?;
+        words.push("f")?;
+        words.extend_from_slice(options)?;
+        let outcome = run_on(&rt, alloc, words.as_slice(), plain(text))?;
+        let wanted = format!(in alloc; "{head}{state}{sets}")?;
+        assert_eq!(rt; outcome.status, status, "{text} {options:?}");
+        assert_eq!(rt; outcome.out.got(), wanted.as_bytes(), "{text} {options:?}");
+        assert_eq!(rt; outcome.err.got(), err.as_bytes(), "{text} {options:?}");
+    }
+    Ok(())
+}
+
+#[test]
+fn budget_is_spent_to_the_last_clause(rt: HostRuntime) -> Result<(), Fail> {
+    let alloc = rt.alloc();
+    let text = chain(alloc)?;
+    let whole = run_on(&rt, alloc, &["list", "f"], plain(text.as_str()))?;
+    assert_eq!(rt; whole.records, Some(36));
+    let outcome = run_on(&rt, alloc, &["list", "f", "--conflicts", "1"], plain(FOUR))?;
+    assert_eq!(rt; outcome.status, 0);
+    assert_eq!(rt; outcome.spent, 1);
+    let limited = run_on(
+        &rt,
+        alloc,
+        &["list", "f", "--limit", "7"],
+        plain(text.as_str()),
+    )?;
+    assert_eq!(rt; limited.status, 4);
+    assert_eq!(rt; limited.records, Some(7));
+    Ok(())
+}
+
+#[test]
+fn small_problems_have_the_reports_of_a_plain_program(rt: HostRuntime) -> Result<(), Fail> {
+    let mut state = 20_261_127;
+    for _ in 0..200 {
+        let alloc = rt.alloc();
+        let small = draw_problem(alloc, &mut state)?;
+        let text = small.text(alloc)?;
+        let wanted = small.report(alloc)?;
+        let outcome = run_on(&rt, alloc, &["list", "f"], plain(text.as_str()))?;
+        assert_eq!(rt; outcome.status, 0, "{text}");
+        assert_eq!(rt; outcome.out.got(), wanted.as_bytes(), "{text}");
+    }
+    Ok(())
+}
+
+fn problem_of(alloc: Global, text: &str) -> Result<Problem, Fail> {
+    match read_gcnf(alloc, text.as_bytes()) {
+        Read::Problem(problem) => Ok(problem),
+        _ => Err(Fail::from("no problem")),
+    }
+}
+
+// A record that explores a set.
+fn record_for(
+    alloc: Global,
+    problem: &Problem,
+    oracle: &mut GroupOracle,
+    set: &GroupSet,
+) -> Result<Record, Fail>
+    requires problem { oracle.old.problem ≡ problem.now }
+    requires within { IsSubset set.now (all_groups problem.now.groups) }
+    ensures accepted { IfOk result (IsAccepted problem.now) }
+    ensures problem { oracle.new.problem ≡ problem.now }
+{
+    let mut purse = Purse { left: 1000 };
+    match explore(alloc, oracle, problem, set, 0, &mut purse)? {
+        Explored::Found(record) => Ok(record),
+        Explored::Dry(_) => Err(Fail::from("no record")),
+    }
+}
+
+// A conflict twice, and a correction.
+#[derive(Drop)]
+struct Posts {
+    conflict: Record,
+    again: Record,
+    other: Record,
+}
+
+fn records_to_post(alloc: Global, problem: &Problem) -> Result<Posts, Fail>
+    ensures conflict { IfOk result (λ posts. IsAccepted problem.now posts.conflict) }
+    ensures again { IfOk result (λ posts. IsAccepted problem.now posts.again) }
+    ensures other { IfOk result (λ posts. IsAccepted problem.now posts.other) }
+{
+    let mut oracle = GroupOracle::new(alloc, problem)?;
+    let none = GroupSet::new(alloc);
+    let all = none.complement(alloc, problem.groups())?;
+    let conflict = record_for(alloc, problem, &mut oracle, &all)?;
+    let again = record_for(alloc, problem, &mut oracle, conflict.set())?;
+    let other = record_for(alloc, problem, &mut oracle, &none)?;
+    Ok(Posts {
+        conflict,
+        again,
+        other,
+    })
+}
+
+// A core of two workers.
+fn core_of_two(
+    alloc: Global,
+    problem: &Problem,
+    budget: u64,
+    limit: u64,
+) -> Result<MapCore<PowerMap>, Fail>
+    ensures { IfOk result (λ core. core.opening.problem ≡ problem.now) }
+{
+    let map = PowerMap::new(alloc, problem.groups())?;
+    let records = Records::new(alloc);
+    let core = MapCore::start(alloc, problem, records, 2, budget, limit, map)?;
+    Ok(core)
+}
+
+fn is_job(taken: &Taken, number: u64, granted: u64) -> bool {
+    match taken {
+        Taken::Job { turn, grant, .. } => *turn == number && *grant == granted,
+        _ => false,
+    }
+}
+
+// The first calls of two workers, of which the second has the record that the first one posts.
+fn take_and_post(
+    rt: &impl Abort,
+    core: &mut MapCore<PowerMap>,
+    conflict: Record,
+    again: Record,
+) -> Result<(), Fail>
+    requires conflict { IsAccepted core.old.opening.problem conflict }
+    requires again { IsAccepted core.old.opening.problem again }
+    ensures same { core.new.opening ≡ core.old.opening }
+{
+    assert!(rt; core.may_call(0));
+    assert!(rt; is_job(&core.take(0, 0), 1, 10));
+    assert!(rt; core.may_call(1));
+    assert!(rt; is_job(&core.take(1, 0), 2, 0));
+    assert!(rt; core.may_call(0));
+    assert_eq!(rt; core.post(0, 0, conflict), Posted::New);
+    assert!(rt; core.may_call(1));
+    assert_eq!(rt; core.post(1, 0, again), Posted::Already);
+    Ok(())
+}
+
+// The calls that find as many records as were wanted.
+fn reach_the_limit(rt: &impl Abort, core: &mut MapCore<PowerMap>, other: Record)
+    requires { IsAccepted core.old.opening.problem other }
+{
+    assert!(rt; core.may_call(0));
+    assert!(rt; matches!(core.take(0, 0), Taken::Limit));
+    assert!(rt; core.may_call(1));
+    assert_eq!(rt; core.post(1, 0, other), Posted::Limit);
+}
+
+fn check_closing(rt: &impl Abort, core: MapCore<PowerMap>, verdict: Verdict, records: usize) {
+    assert!(rt; core.have_ended());
+    let (closing, _log) = core.closing();
+    assert!(rt; closing.verdict == verdict);
+    assert_eq!(rt; closing.records.len(), records);
+    assert!(rt; closing.proof.is_none());
+}
+
+#[test]
+fn core_grants_keeps_and_limits(rt: HostRuntime) -> Result<(), Fail> {
+    let alloc = rt.alloc();
+    let problem = problem_of(alloc, FIRST)?;
+    let Posts {
+        conflict,
+        again,
+        other,
+    } = records_to_post(alloc, &problem)?;
+    let mut core = core_of_two(alloc, &problem, 10, 1)?;
+    take_and_post(&rt, &mut core, conflict, again)?;
+    reach_the_limit(&rt, &mut core, other);
+    check_closing(&rt, core, Verdict::Limit, 1);
+    Ok(())
+}
+
+#[test]
+fn core_refills_within_what_is_available(rt: HostRuntime) -> Result<(), Fail> {
+    let alloc = rt.alloc();
+    let problem = problem_of(alloc, FIRST)?;
+    let mut core = core_of_two(alloc, &problem, 5000, 9)?;
+    assert!(rt; core.may_call(0));
+    assert!(rt; is_job(&core.take(0, 0), 1, 1000));
+    for grant in [2000, 4000, 5000] {
+        assert!(rt; core.may_call(0));
+        assert_eq!(rt;
+            core.refill(0, 0, GroupSet::new(alloc)),
+            Refilled::Grant(grant)
+        );
+    }
+    assert!(rt; core.may_call(1));
+    assert_eq!(rt; core.refill(1, 0, GroupSet::new(alloc)), Refilled::Dry);
+    assert!(rt; core.may_call(0));
+    core.retire(0, 0);
+    check_closing(&rt, core, Verdict::Memory, 0);
+    Ok(())
+}
+
 // The negations of five variables, a chain of implications from x1 to x30, and five clauses that are always true. Each
 // negation and the chain up to it are a minimal conflict. A minimal correction cuts the chain once and leaves out the
 // negations before the cut, or leaves out all negations.
@@ -153,7 +461,11 @@ fn listing_of_forty_groups_ends(rt: HostRuntime) -> Result<(), Fail> {
 
 #[test]
 fn other_words_are_refused(rt: HostRuntime) -> Result<(), Fail> {
-    let rows: [&[&str]; 10] = [
+    let rows: [&[&str]; 14] = [
+        &["list", "f", "--limit", "0"],
+        &["list", "f", "--limit", "1000000001"],
+        &["list", "f", "--conflicts", "-1"],
+        &["list", "f", "--conflicts", "18446744073709551616"],
         &[],
         &["list"],
         &["frob"],

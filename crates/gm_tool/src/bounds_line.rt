@@ -1,0 +1,28 @@
+//! The lines that tell which bound was reached.
+ghost use Rattle.std.specs.Prelude.{◌≡◌, IfOk};
+ghost use Rattle.gm_tool.specs.Lines.{budget_line, limit_line};
+
+use std::alloc::{AllocError, Global};
+use token_text::put_number;
+
+/// That the budget is spent.
+pub fn line_of_budget(alloc: Global, conflicts: u64) -> Result<Vec<u8>, AllocError>
+    ensures { IfOk result (λ line. line.items ≡ budget_line conflicts) }
+{
+    let mut line = Vec::new(alloc);
+    line.extend_from_slice(b"gmus: budget of ")?;
+    put_number(&mut line, i128::from(conflicts))?;
+    line.extend_from_slice(b" conflicts spent\n")?;
+    Ok(line)
+}
+
+/// That there are as many records as were wanted.
+pub fn line_of_limit(alloc: Global, limit: u64) -> Result<Vec<u8>, AllocError>
+    ensures { IfOk result (λ line. line.items ≡ limit_line limit) }
+{
+    let mut line = Vec::new(alloc);
+    line.extend_from_slice(b"gmus: limit of ")?;
+    put_number(&mut line, i128::from(limit))?;
+    line.extend_from_slice(b" records reached\n")?;
+    Ok(line)
+}
