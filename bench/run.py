@@ -1,0 +1,274 @@
+#!/usr/bin/env python3
+"""Runs gmus and the baselines on generated problems, and prints a table in Markdown.
+
+    bench/run.py [--gmus PROGRAM] [--time SECONDS] [--only WORD] [--repeat N] [--cpu] [--keep FOLDER]
+
+The programs run one at a time, on the same file, and are killed when the time is up. A problem with too many sets to
+list has a limit: each program then stops at so many sets, which need not be the same ones.
+
+Reports are compared: two complete ones have to be equal, and others have to fit (agree.py). Where they don't, or where
+a program fails, the run says so, keeps the files, and ends with 1.
+"""
+import argparse
+import datetime
+import os
+import platform
+import select
+import shutil
+import signal
+import subprocess
+import sys
+import tempfile
+import time
+from collections import namedtuple
+
+HERE = os.path.dirname(os.path.abspath(__file__))
+BASELINES = ["marco-minisat", "marco-cadical"]
+GRACE = 5   # seconds for its report that a baseline has, which stops by its own clock
+
+Problem = namedtuple("Problem", "kind family size seed limit")
+Result = namedtuple("Result", "status sets seconds megabytes")   # seconds of the clock, or of the processor
+Ending = namedtuple("Ending", "code wall cpu megabytes")         # the code is None where it was killed
+
+PROBLEMS = [Problem(*line.split()) for line in """
+small  chain          20    1  -
+small  chain          100   1  -
+small  chain          300   1  -
+small  random         12    1  -
+small  random         20    1  -
+small  random         30    1  -
+small  feature        40    1  -
+small  feature        300   1  -
+small  feature        600   1  -
+small  adder          20    1  -
+small  adder          200   2  -
+small  adder          400   1  -
+small  colour         20    1  -
+small  colour         40    1  -
+small  colour         60    1  -
+small  colour-vertex  20    1  -
+small  colour-vertex  100   1  -
+small  colour-vertex  300   1  -
+middle chain          1000  1  -
+middle chain          4000  1  1000
+middle chain          16000 1  20
+middle random         34    1  -
+middle random         40    1  -
+middle random         60    1  1000
+middle random         100   1  100
+middle feature        2000  2  -
+middle feature        4000  1  -
+middle feature        16000 1  200
+middle adder          600   2  -
+middle adder          2000  2  -
+middle adder          16000 1  -
+middle colour         70    1  -
+middle colour         300   1  1000
+middle colour         4000  1  200
+middle colour-vertex  1000  1  1000
+middle colour-vertex  4000  1  200
+""".strip().splitlines()]
+
+
+def build_baselines():
+    """The baselines that are there after `make`; says of each other one why not."""
+    found = {}
+    for name in BASELINES:
+        folder = os.path.join(HERE, "marco")
+        made = subprocess.run(["make", "-s", "-C", folder, name], text=True,
+                              stdout=subprocess.PIPE, stderr=subprocess.STDOUT)
+        if made.returncode == 0:
+            found[name] = os.path.join(folder, name)
+        else:
+            print(f"{name} is left out, since it can't be built (see marco/Makefile):\n{made.stdout}", file=sys.stderr)
+    return found
+
+
+def run(command, report, errors, seconds):
+    """Runs a command with its output in files, and kills it when the time is up."""
+    outputs = [(os.POSIX_SPAWN_OPEN, number, name, os.O_WRONLY | os.O_CREAT | os.O_TRUNC, 0o644)
+               for number, name in ((1, report), (2, errors))]
+    begin = time.perf_counter()
+    child = os.posix_spawnp(command[0], command, os.environ, file_actions=outputs, setpgroup=0)
+    ended = False
+    try:
+        handle = os.pidfd_open(child)
+        ends = select.poll()
+        ends.register(handle, select.POLLIN)
+        ended = bool(ends.poll(seconds * 1000))
+        os.close(handle)
+    finally:
+        if not ended:
+            os.killpg(child, signal.SIGKILL)
+        _, status, usage = os.wait4(child, 0)
+    wall = time.perf_counter() - begin
+    code = os.waitstatus_to_exitcode(status) if ended else None
+    return Ending(code, wall, usage.ru_utime + usage.ru_stime, usage.ru_maxrss / 1024)
+
+
+def read_ending(code, report, errors):
+    """How a program ended, in a word, and the counts of its report, or None where it has none."""
+    if code is None:
+        return "time", None
+    second, last = "", ""
+    with open(report, errors="replace") as lines:
+        for at, line in enumerate(lines):
+            second, last = (line.strip() if at == 1 else second), line
+    counts = last.split()
+    words = {(0, "s COMPLETE"): "complete", (3, "s PARTIAL"): "time", (4, "s PARTIAL"): "limit"}
+    if (code, second) in words and len(counts) == 3 and counts[0] == "e":
+        return words[code, second], f"{counts[1]}+{counts[2]}"
+    with open(errors, errors="replace") as lines:
+        return f"failed ({code}: {lines.readline().strip()})", None
+
+
+def seconds_text(seconds):
+    return f"{seconds:.3f}" if seconds < 1 else f"{seconds:.2f}" if seconds < 10 else f"{seconds:.1f}"
+
+
+def ratio(results):
+    """The seconds of gmus by those of the best baseline that did the same; a bound where only one came to an end."""
+    baselines = [result for name, result in results.items() if name != "gmus"]
+    if "gmus" not in results or not baselines:
+        return "-"
+    ours = results["gmus"]
+    same = [result.seconds for result in baselines if result.status == ours.status]
+    if ours.status in ("complete", "limit"):
+        if same:
+            return f"{ours.seconds / min(same):.2g}"
+        slow = [result.seconds for result in baselines if result.status == "time"]
+        return f"< {ours.seconds / min(slow):.2g}" if len(slow) == len(baselines) else "-"
+    ended = [result.seconds for result in baselines if result.status in ("complete", "limit")]
+    return f"> {ours.seconds / min(ended):.2g}" if ours.status == "time" and ended else "-"
+
+
+class Bench:
+    def __init__(self, given, folder):
+        self.given = given
+        self.folder = folder
+        self.faults = 0
+        self.programs = build_baselines()
+        if given.gmus:
+            self.programs = {"gmus": os.path.abspath(given.gmus), **self.programs}
+        # A child's peak begins with this script's own, so no figure can be below it.
+        self.floor = run(["true"], os.devnull, os.devnull, 10).megabytes
+        self.wall = self.cpu = 0.0   # of all runs
+
+    def cry(self, words):
+        self.faults += 1
+        print(f"!!! {words}", file=sys.stderr, flush=True)
+
+    def command(self, name, problem, file):
+        limit = [] if problem.limit == "-" else ["--limit", problem.limit]
+        if name == "gmus":
+            return [self.programs[name], "list", file, *limit]
+        return [self.programs[name], file, "--time", str(self.given.time), *limit]
+
+    def measure(self, name, problem, file):
+        """The quickest of the runs; a run that does not come to an end is the last one."""
+        report, errors = f"{file}.{name}", f"{file}.{name}.errors"
+        patience = self.given.time + (0 if name == "gmus" else GRACE)
+        best = None
+        for _ in range(self.given.repeat):
+            ending = run(self.command(name, problem, file), report, errors, patience)
+            self.wall += ending.wall
+            self.cpu += ending.cpu
+            seconds = ending.cpu if self.given.cpu else ending.wall
+            result = Result(*read_ending(ending.code, report, errors), seconds, ending.megabytes)
+            if result.status not in ("complete", "limit"):
+                best = result
+                break
+            best = result if best is None or seconds < best.seconds else best
+        if best.status.startswith("failed"):
+            self.cry(f"{name} {best.status} on {os.path.basename(file)}")
+        return best
+
+    def agree(self, file, results):
+        """Whether all reports can be right."""
+        before = self.faults
+        names = [name for name, result in results.items() if result.sets]
+        for at, one in enumerate(names):
+            for other in names[at + 1:]:
+                agree = [sys.executable, os.path.join(HERE, "agree.py"), f"{file}.{one}", f"{file}.{other}"]
+                check = subprocess.run(agree, stderr=subprocess.PIPE, text=True)
+                if check.returncode != 0:
+                    self.cry(f"REPORTS DIFFER: {one} and {other} on {os.path.basename(file)}: {check.stderr.strip()}")
+        return self.faults == before
+
+    def row(self, problem):
+        file = os.path.join(self.folder, f"{problem.family}-{problem.size}-{problem.seed}.gcnf")
+        with open(file, "w") as out:
+            generate = [sys.executable, os.path.join(HERE, "generate.py"), problem.family]
+            subprocess.run([*generate, "--size", problem.size, "--seed", problem.seed], stdout=out, check=True)
+        with open(file) as lines:
+            _, _, _, clauses, groups = lines.readline().split()
+        results = {name: self.measure(name, problem, file) for name in self.programs}
+        last = ratio(results) if self.agree(file, results) else "REPORTS DIFFER"
+        cells = [problem.kind, problem.family, problem.size, problem.seed, groups, clauses, problem.limit]
+        for result in results.values():
+            small = result.megabytes < 1.1 * self.floor
+            cells += [result.sets or "?", seconds_text(result.seconds),
+                      f"< {1.1 * self.floor:.0f}" if small else f"{result.megabytes:.0f}", result.status]
+        return cells + [last]
+
+    def table(self, problems):
+        heads = ["", "family", "size", "seed", "groups", "clauses", "limit"]
+        for name in self.programs:
+            heads += [f"{name}: sets", "s", "MB", "status"]
+        heads.append("gmus / best")
+        put_row(heads)
+        put_row(["---"] * len(heads))
+        for problem in problems:
+            put_row(self.row(problem))
+
+
+def put_row(cells):
+    print("| " + " | ".join(cells) + " |", flush=True)
+
+
+def machine():
+    """The processor, the system and the day, for the line above the table."""
+    model = platform.machine()
+    try:
+        with open("/proc/cpuinfo") as lines:
+            model = next((line.split(":", 1)[1].strip() for line in lines if line.startswith("model name")), model)
+    except OSError:
+        pass
+    load = os.getloadavg()[0]
+    return (f"{model}, {os.cpu_count()} processors, {platform.system()} {platform.release()}, "
+            f"{datetime.date.today()}, load {load:.1f} at the start")
+
+
+def main():
+    words = argparse.ArgumentParser(description=__doc__, formatter_class=argparse.RawDescriptionHelpFormatter)
+    words.add_argument("--gmus", metavar="PROGRAM", help="the program; without it the baselines run alone")
+    words.add_argument("--time", type=float, default=20, metavar="SECONDS", help="for a program and a problem (20)")
+    words.add_argument("--only", metavar="WORD", help="problems of this kind (small, middle) or family")
+    words.add_argument("--repeat", type=int, default=1, metavar="N", help="runs, of which the quickest counts (1)")
+    words.add_argument("--cpu", action="store_true", help="count seconds of the processor, not of the clock")
+    words.add_argument("--keep", metavar="FOLDER", help="where problems and reports are to stay")
+    given = words.parse_args()
+    problems = [problem for problem in PROBLEMS if given.only in (None, problem.kind, problem.family)]
+    if not problems or given.time <= 0 or given.repeat < 1:
+        words.error("nothing to run")
+    if given.gmus and not os.access(given.gmus, os.X_OK):
+        words.error(f"{given.gmus} can't be run")
+    folder = given.keep or tempfile.mkdtemp(prefix="gmus-bench-")
+    os.makedirs(folder, exist_ok=True)
+    bench = Bench(given, folder)
+    try:
+        if not bench.programs:
+            sys.exit("neither gmus nor a baseline is there")
+        print(f"{machine()}; {given.time:g} s for a program and a problem; "
+              f"{'processor' if given.cpu else 'wall'} seconds, the quickest of {given.repeat}.\n", flush=True)
+        bench.table(problems)
+        if bench.wall > 1.2 * bench.cpu + 1:
+            print(f"The machine was busy: {bench.cpu:.0f} s of work took {bench.wall:.0f} s.", file=sys.stderr)
+        if bench.faults:
+            sys.exit(f"{bench.faults} faults; the files are in {folder}")
+    finally:
+        if not given.keep and not bench.faults:
+            shutil.rmtree(folder)
+
+
+main()
