@@ -1,19 +1,20 @@
 -- What a listing that is over tells, by the status that it ends with.
 use Rattle.std.proofs.Common.{◌≡◌, ◌≢◌, ℕ, Bool, true, false, List, length, Some, refl, sym, ◌∙◌, ap, subst, arith}
+use Rattle.std.specs.Prelude.{if◌then◌else◌}
 use Rattle.std.proofs.lemmas.Bool.{false≢true, leb-true}
 use Rattle.gm_base.specs.Problem.{Problem}
 use Rattle.lrat_steps.specs.Log.{LogStep}
 use Rattle.map_core.specs.declared.closing.Verdict.{Verdict}
 use Rattle.map_core.specs.declared.closing.Verdict.TheVariants as verdict
 use Rattle.map_core.specs.declared.closing.Closing.{Closing}
-use Rattle.map_core.specs.Closings.{verdict_by, HoldsAll}
+use Rattle.map_core.specs.Closings.{verdict_by}
 use Rattle.gm_tool.specs.declared.listing.Bounds.{Bounds}
 use Rattle.gm_tool.specs.declared.list.Ending.{Ending}
 use Rattle.gm_tool.specs.declared.list.Prepared.{Prepared}
 use Rattle.gm_tool.specs.Closed.{IsClosedFor, IsBudgetSpent, AreDistinctMinimal, full_report, held_report, is_complete, learned_in}
 use Rattle.gm_tool.specs.Run.{IsPrepared, IsEndingOf, IsPartial, IsListingStatus, HasLimit, HasVerdict, status_of, status_by, line_of, error_line}
 use Rattle.gm_tool.proofs.HeldLemmas.{AreDistinctMinimal-from}
-use Rattle.gm_tool.proofs.OrderLemmas.{full_report-from}
+use Rattle.gm_tool.proofs.ReportLemmas.{of-problem}
 
 -- an ending has the status of its verdict
 pub status-by : (b : Bounds) (v : Verdict) (e : Ending) → IsEndingOf b v e → status_by v ≡ status_of e
@@ -69,24 +70,16 @@ limited-by false true c e = cc
 limited-by false false true e = refl
 limited-by false false false e = cc
 
--- the problem is the one that the enumeration was opened with
-of-problem : {p : Problem} {b : Bounds} {logs : List (List LogStep)} {c : Closing} (h : IsClosedFor p b logs c) → h.state.opening.problem ≡ p
-of-problem h = ap (λ o. o.problem) h.opening
-
 -- the text of a complete listing has all
 pub complete-text : (p : Problem) (b : Bounds) (x : Prepared) → IsPrepared p b x → status_of x.ending ≡ 0 → x.text.items ≡ full_report p
 complete-text p b x h zero =
     let v = complete_by x.closing.verdict (status-by b x.closing.verdict x.ending h.ending ∙ zero) in
-    let k = h.closed.closing_is in
-    let all : HoldsAll p x.closing.records =
-    subst (λ q. HoldsAll q x.closing.records) (of-problem h.closed)
-    (subst (HoldsAll h.closed.state.opening.problem) (sym k.records) (k.all v)) in
-    h.text ∙ ap (λ w. held_report p (is_complete w) x.closing.records) v ∙ full_report-from p x.closing.records all
+    h.text ∙ ap (λ w. if is_complete w then full_report p else held_report p x.closing.records) v
 
-pub partial-text : (p : Problem) (b : Bounds) (x : Prepared) → IsPrepared p b x → IsPartial (status_of x.ending) → x.text.items ≡ held_report p false x.closing.records
+pub partial-text : (p : Problem) (b : Bounds) (x : Prepared) → IsPrepared p b x → IsPartial (status_of x.ending) → x.text.items ≡ held_report p x.closing.records
 partial-text p b x h partial =
     h.text
-    ∙ ap (λ complete. held_report p complete x.closing.records)
+    ∙ ap (λ complete. if complete then full_report p else held_report p x.closing.records)
     (partial-not x.closing.verdict (status_of x.ending) (status-by b x.closing.verdict x.ending h.ending) partial)
 
 -- what is held is minimal

@@ -22,7 +22,7 @@ use Rattle.evidence_rec.specs.Records.{IsAccepted}
 use Rattle.map_core.specs.Core.{is_held}
 use Rattle.map_core.specs.Sound.{AreNew}
 use Rattle.map_core.specs.Closings.{HoldsAll}
-use Rattle.gm_tool.specs.Closed.{conflicts_in, corrections_in, held_report, full_report}
+use Rattle.gm_tool.specs.Closed.{conflicts_in, corrections_in, full_report}
 use Rattle.gm_tool.proofs.SetListLemmas.{one_if, times, SameSets, same-is, same-refl}
 use Rattle.gm_tool.proofs.HeldLemmas.{SameSets-held, all_conflicts, all_corrections}
 
@@ -264,11 +264,16 @@ Ascends-corrections : (p : Problem) → Ascends (corrections p)
 unfolding corrections
 Ascends-corrections p = Ascends-filter (is_correction p) (subsets p.groups) (Ascends-subsets p.groups)
 
+-- the report, whole or partial, of the minimal sets that the records hold
+abbrev pub records_report : Problem → Bool → List Record → List ℕ
+records_report p complete records =
+    report_text p.groups complete (filter (is_held records Conflict) (conflicts p)) (filter (is_held records Correction) (corrections p))
+
 -- the report of the sets of distinct accepted records is that of the minimal sets that are held
 pub held_report-from : (p : Problem) (complete : Bool) (records : List Record) (text : List ℕ) → IsProblem p
     → AllByRecursion (IsAccepted p) records → AreNew [] records
     → IsReportOf p.groups complete (conflicts_in records) (corrections_in records) text
-    → text ≡ held_report p complete records
+    → text ≡ records_report p complete records
 held_report-from p complete records text ok all new report =
     report.same
     ∙ ap (λ us. report_text p.groups complete us report.ms)
@@ -286,5 +291,5 @@ held_report-from p complete records text ok all new report =
 
 -- where all minimal sets are held, it is the whole report
 pub full_report-from : (p : Problem) (records : List Record) → HoldsAll p records
-    → held_report p true records ≡ full_report p
+    → records_report p true records ≡ full_report p
 full_report-from p records all = ap₂ (report_text p.groups true) (all_conflicts p records all) (all_corrections p records all)

@@ -1,5 +1,5 @@
 -- What is left of an enumeration by one worker, and what it says of the problem.
-use Rattle.std.specs.Prelude.{◌≡◌, ℕ, Bool, true, false, List, [], ◌∷◌, ◌++◌}
+use Rattle.std.specs.Prelude.{◌≡◌, ℕ, Bool, true, false, List, [], ◌∷◌, ◌++◌, if◌then◌else◌}
 use Rattle.std.specs.List.{filter, sum_by, AllByRecursion}
 use Rattle.gm_base.specs.Problem.{Problem}
 use Rattle.gm_base.specs.declared.kind.Kind.TheVariants.{Conflict, Correction}
@@ -67,10 +67,10 @@ corrections_in (record_of.Correction set witness proofs ∷ made) = set ∷ corr
 abbrev pub full_report : Problem → List ℕ
 full_report p = report_text p.groups true (conflicts p) (corrections p)
 
--- the report of those minimal conflicts and minimal corrections that the records hold, each list in its order
-abbrev pub held_report : Problem → Bool → List Record → List ℕ
-held_report p complete records =
-    report_text p.groups complete (filter (is_held records Conflict) (conflicts p)) (filter (is_held records Correction) (corrections p))
+-- the partial report: of those minimal conflicts and minimal corrections that the records hold, each list in its order
+abbrev pub held_report : Problem → List Record → List ℕ
+held_report p records =
+    report_text p.groups false (filter (is_held records Conflict) (conflicts p)) (filter (is_held records Correction) (corrections p))
 
 -- each record is of a minimal conflict or a minimal correction, and no two have one kind and one set
 pub record AreDistinctMinimal (p : Problem) (records : List Record) : Type 0 where
@@ -97,6 +97,6 @@ pub record IsBudgetSpent (p : Problem) (b : Bounds) (logs : List (List LogStep))
   pub map_undecided : last.call ≡ Take → Undecided (db_of map_log) []
   pub worker_undecided : (asked : List ℕ) → last.call ≡ Refill asked → Undecided (db_of worker_log) (selectors p asked)
 
--- the report of an enumeration that is over
+-- the report of an enumeration that is over: of all, where nothing is missing, else of what the records hold
 abbrev pub report_for : Problem → Closing → List ℕ
-report_for p closing = held_report p (is_complete closing.verdict) closing.records
+report_for p closing = if is_complete closing.verdict then full_report p else held_report p closing.records

@@ -114,7 +114,7 @@ fn list_problem<O: Sink>(alloc: Global, problem: &Problem, bounds: Bounds, out: 
     ensures complete { status_of result.ending ≡ 0 → ToldAppends (O.got out.old) (O.got out.new) (full_report problem.now) }
     ensures closed { IsLogging (status_of result.ending) → MatchOption result.closing ⊥ (IsClosedFor problem.now bounds result.logs) }
     ensures verdict { HasVerdict (status_of result.ending) result.closing }
-    ensures partial { IsPartial (status_of result.ending) → MatchOption result.closing ⊥ (λ c. AreDistinctMinimal problem.now c.records × ToldAppends (O.got out.old) (O.got out.new) (held_report problem.now false c.records)) }
+    ensures partial { IsPartial (status_of result.ending) → MatchOption result.closing ⊥ (λ c. AreDistinctMinimal problem.now c.records × ToldAppends (O.got out.old) (O.got out.new) (held_report problem.now c.records)) }
     ensures budget { status_of result.ending ≡ 3 → MatchOption result.closing ⊥ (IsBudgetSpent problem.now bounds result.logs) }
     ensures limit { status_of result.ending ≡ 4 → MatchOption result.closing ⊥ (HasLimit bounds) }
     ensures cut_off { status_of result.ending ≡ 7 → MatchOption result.closing ⊥ (λ c. ToldGrowsWithin (O.got out.old) (O.got out.new) (report_for problem.now c)) }
@@ -182,7 +182,7 @@ pub fn list_file<F: Files, O: Sink>(
     ensures complete { status_of result.ending ≡ 0 → OfFile ((F.state files.old).held name.now) (IsListed (O.got out.old) (O.got out.new)) }
     ensures closed { IsLogging (status_of result.ending) → OfFile ((F.state files.old).held name.now) (λ text. OfClosing text result.closing (λ p. IsClosedFor p bounds result.logs)) }
     ensures verdict { HasVerdict (status_of result.ending) result.closing }
-    ensures partial { IsPartial (status_of result.ending) → OfFile ((F.state files.old).held name.now) (λ text. OfClosing text result.closing (λ p c. AreDistinctMinimal p c.records × ToldAppends (O.got out.old) (O.got out.new) (held_report p false c.records))) }
+    ensures partial { IsPartial (status_of result.ending) → OfFile ((F.state files.old).held name.now) (λ text. OfClosing text result.closing (λ p c. AreDistinctMinimal p c.records × ToldAppends (O.got out.old) (O.got out.new) (held_report p c.records))) }
     ensures budget { status_of result.ending ≡ 3 → OfFile ((F.state files.old).held name.now) (λ text. OfClosing text result.closing (λ p. IsBudgetSpent p bounds result.logs)) }
     ensures limit { status_of result.ending ≡ 4 → MatchOption result.closing ⊥ (HasLimit bounds) }
     ensures cut_off { status_of result.ending ≡ 7 → OfFile ((F.state files.old).held name.now) (λ text. OfClosing text result.closing (λ p c. ToldGrowsWithin (O.got out.old) (O.got out.new) (report_for p c))) }

@@ -91,7 +91,7 @@ pub fn run<R: Threads + Wait + Sync, F: Files, O: Sink, E: Sink>(
     ensures listed { result.status ≡ 0 → OfNamed (words_read (map string_bytes words.now)) (F.state files.old) (IsListed (O.got out.old) (O.got out.new)) }
     ensures read_to_end { result.status ≡ 0 → IsReadToEnd (words_read (map string_bytes words.now)) (F.state files.old) (F.state files.new) }
     ensures partial { IsPartial result.status → OfNamed (words_read (map string_bytes words.now)) (F.state files.old) (λ text. OfClosing text result.closing
-        (λ p c. AreDistinctMinimal p c.records × ToldAppends (O.got out.old) (O.got out.new) (held_report p false c.records))) }
+        (λ p c. AreDistinctMinimal p c.records × ToldAppends (O.got out.old) (O.got out.new) (held_report p c.records))) }
     ensures budget { result.status ≡ 3 → OfNamed (words_read (map string_bytes words.now)) (F.state files.old) (λ text. OfClosing text result.closing
         (λ p. IsBudgetSpent p (bounds_of (words_read (map string_bytes words.now))) result.logs)) }
     ensures limit { result.status ≡ 4 → MatchOption result.closing ⊥ (HasLimit (bounds_of (words_read (map string_bytes words.now)))) }

@@ -1,4 +1,4 @@
-use Rattle.std.proofs.Common.{◌∙◌, map, subst, sym, ap, option_map, Option, false, List, ℕ}
+use Rattle.std.proofs.Common.{◌∙◌, map, subst, sym, ap, option_map, Option, List, ℕ}
 use Rattle.std.proofs.lemmas.Bool.{false≢true}
 use Rattle.std.specs.String.{string_bytes}
 use Rattle.gm_ports.specs.Told.{ToldAppends}
@@ -42,10 +42,10 @@ returns-clause-partial g c = λ partial.
           let r = w.list_file-outcome in
           let asked = sym (ap (option_map asked_by) w.in-Ok-Some.field-0-is) ∙ w.in-Ok-Some.ensures.asked in
           let h = r.ensures.partial (subst IsPartial (c.status_of.ensures ∙ ap (λ (o : Outcome). status_of o.ending) w.outcome-is) partial) in
-          subst (λ out. OfNamed words files (λ text. OfClosing text c.match-read_words.outcome.closing (λ p k. AreDistinctMinimal p k.records × ToldAppends got (g.O.Sink.got out) (held_report p false k.records)))) (sym w.out-is)
-          (subst (λ (o : Outcome). OfNamed words files (λ text. OfClosing text o.closing (λ p k. AreDistinctMinimal p k.records × ToldAppends got (g.O.Sink.got r.new.out) (held_report p false k.records)))) (sym w.outcome-is)
-          (subst (λ (a : Option Asked). OfNamed a files (λ text. OfClosing text r.result.closing (λ p k. AreDistinctMinimal p k.records × ToldAppends got (g.O.Sink.got r.new.out) (held_report p false k.records)))) asked
-          (subst (λ (name : List ℕ). OfFile (files.held name) (λ text. OfClosing text r.result.closing (λ p k. AreDistinctMinimal p k.records × ToldAppends got (g.O.Sink.got r.new.out) (held_report p false k.records)))) w.file_of.ensures h)))
+          subst (λ out. OfNamed words files (λ text. OfClosing text c.match-read_words.outcome.closing (λ p k. AreDistinctMinimal p k.records × ToldAppends got (g.O.Sink.got out) (held_report p k.records)))) (sym w.out-is)
+          (subst (λ (o : Outcome). OfNamed words files (λ text. OfClosing text o.closing (λ p k. AreDistinctMinimal p k.records × ToldAppends got (g.O.Sink.got r.new.out) (held_report p k.records)))) (sym w.outcome-is)
+          (subst (λ (a : Option Asked). OfNamed a files (λ text. OfClosing text r.result.closing (λ p k. AreDistinctMinimal p k.records × ToldAppends got (g.O.Sink.got r.new.out) (held_report p k.records)))) asked
+          (subst (λ (name : List ℕ). OfFile (files.held name) (λ text. OfClosing text r.result.closing (λ p k. AreDistinctMinimal p k.records × ToldAppends got (g.O.Sink.got r.new.out) (held_report p k.records)))) w.file_of.ensures h)))
       | in-Ok-None w ↦ absurd (false≢true (subst IsPartial (c.status_of.ensures ∙ ap (λ (o : Outcome). status_of o.ending) (w.outcome-is ∙ w.without_closing-outcome.ensures)) partial))
       | in-Err w ↦ absurd (false≢true (subst IsPartial (c.status_of.ensures ∙ ap (λ (o : Outcome). status_of o.ending) (w.outcome-is ∙ w.without_closing-outcome-in-Err.ensures)) partial))
     ]
