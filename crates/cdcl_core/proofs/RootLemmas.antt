@@ -1,8 +1,8 @@
 -- Level 0, where the assumed literals do not matter.
 use Rattle.std.proofs.Common.{◌≡◌, ℕ, true, List, [], ◌∷◌, ◌++◌, sym, ◌∙◌, ap, subst, arith}
 use Rattle.std.specs.Prelude.{ℤ}
-use Rattle.gm_base.specs.Literals.{AreLiterals}
-use Rattle.gm_base.specs.Database.{StoredClause}
+use Rattle.sat_base.specs.Literals.{AreLiterals}
+use Rattle.sat_base.specs.Database.{StoredClause}
 use Rattle.trail_book.specs.declared.entry.Entry.{Entry}
 use Rattle.trail_book.specs.Trail.{top, keep}
 use Rattle.trail_book.proofs.TrailLemmas.{top-keep, IsTrail-keep}

@@ -3,13 +3,13 @@ use Rattle.std.proofs.Common.{◌≡◌, ◌⊎◌, ℕ, ◌+◌, ◌-◌, ◌<�
 use Rattle.std.specs.Prelude.{ℤ, neg_ℤ, nat_le}
 use Rattle.std.proofs.lemmas.Bool.{cond-true, cond-false, cases_eq}
 use Rattle.std.proofs.lemmas.Bool.Decides.{leb_tells}
-use Rattle.gm_base.specs.Members.{In}
-use Rattle.gm_base.specs.Literals.{var_of}
-use Rattle.gm_base.specs.Derivation.{clause_of}
-use Rattle.gm_base.specs.Database.{StoredClause, known_of, IsLive}
-use Rattle.gm_base.specs.Units.{IsUnset, AllTrue, AllFalse, AllFalseBut, HasTwo, IsLoose, IsFixpoint, IsReason, IsConsequence}
-use Rattle.gm_base.proofs.Members.{In-append_cases, In-append_left}
-use Rattle.gm_base.proofs.DatabaseLemmas.{named_more}
+use Rattle.sat_base.specs.Members.{In}
+use Rattle.sat_base.specs.Literals.{var_of}
+use Rattle.sat_base.specs.Derivation.{clause_of}
+use Rattle.sat_base.specs.Database.{StoredClause, known_of, IsLive}
+use Rattle.sat_base.specs.Units.{IsUnset, AllTrue, AllFalse, AllFalseBut, HasTwo, IsLoose, IsFixpoint, IsReason, IsConsequence}
+use Rattle.sat_base.proofs.Members.{In-append_cases, In-append_left}
+use Rattle.sat_base.proofs.DatabaseLemmas.{named_more}
 use Rattle.trail_book.specs.declared.entry.Entry.{Entry}
 use Rattle.trail_book.specs.Trail.{trues, level_after, top, keep, IsTrail, with_unit}
 use Rattle.trail_book.proofs.TrailLemmas.{keep-whole, keep-skip, lit-keep_in, trail_consistent, level_after-at_least, same_var, In-trues, with_unit-same, with_unit-other, trues-with_unit, top-with_unit}

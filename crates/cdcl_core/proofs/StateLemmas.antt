@@ -6,12 +6,12 @@ use Rattle.std.specs.Option.{option_map}
 use Rattle.std.proofs.lemmas.Bool.{cases_lt, cond-true, cond-false, eq-eqb, ne_eqb}
 use Rattle.std.proofs.lemmas.Bool.Decides.{leb_tells}
 use Rattle.std.proofs.lemmas.List.{append-nil}
-use Rattle.gm_base.specs.Members.{In}
-use Rattle.gm_base.specs.Literals.{var_of, IsLiteral, AreLiterals, literal_true}
-use Rattle.gm_base.specs.Derivation.{numbered, clause_of, follows}
-use Rattle.gm_base.specs.Database.{StoredClause, known_of, IsLive, AreOver}
-use Rattle.gm_base.specs.Units.{IsUnset, HasValue, AllTrue, AllFalse, IsLoose, IsFixpoint, IsFalsified}
-use Rattle.gm_base.proofs.Members.{In-append_right, In-append_cases, any_at}
+use Rattle.sat_base.specs.Members.{In}
+use Rattle.sat_base.specs.Literals.{var_of, IsLiteral, AreLiterals, literal_true}
+use Rattle.sat_base.specs.Derivation.{numbered, clause_of, follows}
+use Rattle.sat_base.specs.Database.{StoredClause, known_of, IsLive, AreOver}
+use Rattle.sat_base.specs.Units.{IsUnset, HasValue, AllTrue, AllFalse, IsLoose, IsFixpoint, IsFalsified}
+use Rattle.sat_base.proofs.Members.{In-append_right, In-append_cases, any_at}
 use Rattle.trail_book.specs.declared.entry.Entry.{Entry}
 use Rattle.trail_book.specs.Trail.{trues, level_after, top, keep, IsTrail}
 use Rattle.trail_book.proofs.TrailLemmas.{keep-whole, keep-skip, top-keep_exact, lit-keep_more, IsTrail-keep, trail_consistent, level_after-at_least}

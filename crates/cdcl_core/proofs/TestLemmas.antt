@@ -1,9 +1,9 @@
 -- Literals that a test puts together.
 use Rattle.std.proofs.Common.{◌≡◌, ℕ, zero, suc, ◌+◌, ◌<◌, ◌≤◌, List, [], ◌∷◌, ◌++◌, sym, ◌∙◌, ap, inl, inr, arith}
 use Rattle.std.specs.Prelude.{ℤ, pos, negsuc, neg_ℤ}
-use Rattle.gm_base.specs.Members.{In}
-use Rattle.gm_base.specs.Literals.{var_of, IsLiteral, AreLiterals}
-use Rattle.gm_base.proofs.Members.{In-append_cases}
+use Rattle.sat_base.specs.Members.{In}
+use Rattle.sat_base.specs.Literals.{var_of, IsLiteral, AreLiterals}
+use Rattle.sat_base.proofs.Members.{In-append_cases}
 use Rattle.cdcl_core.specs.Answers.{IsConsistent}
 use Rattle.cdcl_core.proofs.StateLemmas.{abs_neg}
 

@@ -3,11 +3,11 @@ use Rattle.std.proofs.Common.{◌≡◌, ℕ, zero, suc, ◌-◌, false, List, [
 use Rattle.std.specs.Prelude.{ℤ, pos, negsuc, neg_ℤ, drop}
 use Rattle.std.proofs.Math.IntN.{neg_ℤ-neg_ℤ}
 use Rattle.std.proofs.lemmas.List.{length-map}
-use Rattle.gm_base.specs.Members.{In}
-use Rattle.gm_base.specs.Literals.{var_of}
-use Rattle.gm_base.specs.Derivation.{clause_of}
-use Rattle.gm_base.specs.Database.{StoredClause, known_of}
-use Rattle.gm_base.specs.Units.{HasValue}
+use Rattle.sat_base.specs.Members.{In}
+use Rattle.sat_base.specs.Literals.{var_of}
+use Rattle.sat_base.specs.Derivation.{clause_of}
+use Rattle.sat_base.specs.Database.{StoredClause, known_of}
+use Rattle.sat_base.specs.Units.{HasValue}
 use Rattle.trail_book.specs.declared.entry.Entry.{Entry}
 use Rattle.trail_book.specs.Trail.{trues, top, oldest, with_unit}
 use Rattle.trail_book.proofs.TrailLemmas.{In-trues, trues-with_unit, top-with_unit, IsTrail-with_unit}

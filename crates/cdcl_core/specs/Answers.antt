@@ -1,7 +1,7 @@
 -- What the answers of a solver mean (incremental SAT under assumed literals: Eén and Sörensson 2003).
 use Rattle.std.specs.Prelude.{◌≡◌, ℕ, ◌+◌, ◌-◌, ◌<◌, Bool, true, List, ◌++◌, ℤ, neg_ℤ, length, Some, slice_get}
-use Rattle.gm_base.specs.Members.{In}
-use Rattle.gm_base.specs.Literals.{literal_true, clause_true}
+use Rattle.sat_base.specs.Members.{In}
+use Rattle.sat_base.specs.Literals.{literal_true, clause_true}
 use Rattle.lrat_steps.specs.Log.{LogStep, Core, db_of, inputs_of, learned_count}
 use Rattle.lrat_steps.specs.Honest.{IsHonest}
 use Rattle.lrat_steps.specs.Undecided.{Undecided}

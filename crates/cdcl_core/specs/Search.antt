@@ -1,9 +1,9 @@
 -- What the steps of a search keep, and what each leads to.
 use Rattle.std.specs.Prelude.{◌≡◌, ◌⊎◌, ℕ, ◌<◌, false, List, [], ◌∷◌, ◌++◌, ℤ, neg_ℤ, length, take, Option, Some, None}
-use Rattle.gm_base.specs.Members.{In}
-use Rattle.gm_base.specs.Literals.{IsLiteral}
-use Rattle.gm_base.specs.Database.{StoredClause}
-use Rattle.gm_base.specs.Units.{AllTrue, IsUnset, HasValue}
+use Rattle.sat_base.specs.Members.{In}
+use Rattle.sat_base.specs.Literals.{IsLiteral}
+use Rattle.sat_base.specs.Database.{StoredClause}
+use Rattle.sat_base.specs.Units.{AllTrue, IsUnset, HasValue}
 use Rattle.trail_book.specs.declared.entry.Entry.{Entry}
 use Rattle.trail_book.specs.Trail.{trues}
 use Rattle.learn_step.specs.Learnt.{IsCore}

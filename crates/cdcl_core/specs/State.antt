@@ -1,9 +1,9 @@
 -- What a search keeps true from step to step (conflict-driven clause learning: Marques-Silva and Sakallah 1999; assumed
 -- literals as the first decisions: Eén and Sörensson 2003).
 use Rattle.std.specs.Prelude.{◌≡◌, ◌⊎◌, ℕ, ◌+◌, ◌<◌, ◌≤◌, List, [], ◌∷◌, ℤ, Option, Some, None}
-use Rattle.gm_base.specs.Members.{In}
-use Rattle.gm_base.specs.Database.{StoredClause, AreOver}
-use Rattle.gm_base.specs.Units.{AllTrue, IsFixpoint, IsReason, IsConsequence}
+use Rattle.sat_base.specs.Members.{In}
+use Rattle.sat_base.specs.Database.{StoredClause, AreOver}
+use Rattle.sat_base.specs.Units.{AllTrue, IsFixpoint, IsReason, IsConsequence}
 use Rattle.trail_book.specs.declared.entry.Entry.{Entry}
 use Rattle.trail_book.specs.Trail.{trues, top, IsTrail}
 use Rattle.learn_step.specs.Reasons.{HasUnit}

@@ -4,8 +4,8 @@
 //! clause is learnt from it, its unit is paid, and the trail goes back to the level where the learnt clause is unit, so
 //! that its first literal follows there. The step is logged before the unit is paid, and nothing after that can fail.
 ghost use Rattle.std.specs.Prelude.{◌≡◌, ◌⊎◌, ℕ, ◌+◌, ◌<◌, ◌≤◌, ℤ, neg_ℤ, IfOk, OnOk};
-ghost use Rattle.gm_base.specs.Members.{In};
-ghost use Rattle.gm_base.specs.Units.{IsFalsified};
+ghost use Rattle.sat_base.specs.Members.{In};
+ghost use Rattle.sat_base.specs.Units.{IsFalsified};
 ghost use Rattle.trail_book.specs.Trail.{trues, top};
 ghost use Rattle.learn_step.specs.Reasons.{IsFalse};
 ghost use Rattle.learn_step.specs.Learnt.{start_of};
@@ -15,9 +15,9 @@ ghost use Rattle.cdcl_core.specs.Search.{IsSearch, IsRound};
 use crate::search::Search;
 use crate::solved::Solved;
 use crate::steps::{add_step, log_core};
-use gm_base::{Lit, Purse};
 use learn_step::{Origin, learn};
 use lrat_steps::LogStep;
+use sat_base::{Lit, Purse};
 use std::alloc::{AllocError, Global};
 
 // How many assumed literals are known to be true after going back to a level. Below a choice they all are.

@@ -4,17 +4,17 @@
 //! value, in the order that the turn began. Which assumed literals are true is not asked again for each decision: the
 //! search remembers how far they all are, and forgets it only where it goes back below them.
 ghost use Rattle.std.specs.Prelude.{◌≡◌, ℕ, ℤ, length, take, true, IfOk, IfSome};
-ghost use Rattle.gm_base.specs.Members.{In};
-ghost use Rattle.gm_base.specs.Literals.{AreLiterals, IsLiteral, literal_true};
-ghost use Rattle.gm_base.specs.Units.{AllTrue, IsFixpoint, HasValue};
+ghost use Rattle.sat_base.specs.Members.{In};
+ghost use Rattle.sat_base.specs.Literals.{AreLiterals, IsLiteral, literal_true};
+ghost use Rattle.sat_base.specs.Units.{AllTrue, IsFixpoint, HasValue};
 ghost use Rattle.trail_book.specs.Trail.{trues};
 ghost use Rattle.cdcl_core.specs.Answers.{IsConsistent, IsPaid};
 ghost use Rattle.cdcl_core.specs.Search.{IsSearch, IsRound, IsNext};
 
 use crate::search::Search;
 use crate::solved::Solved;
-use gm_base::{Assign, Lit};
 use learn_step::Origin;
+use sat_base::{Assign, Lit};
 use std::alloc::{AllocError, Global};
 use trail_book::Trail;
 

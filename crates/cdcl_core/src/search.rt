@@ -20,7 +20,7 @@
 //!
 //! It ends, since each round pays a unit or gives one more variable a value.
 ghost use Rattle.std.specs.Prelude.{◌≡◌, ℕ, ◌≤◌, length, IfOk, OnOk};
-ghost use Rattle.gm_base.specs.Literals.{AreLiterals};
+ghost use Rattle.sat_base.specs.Literals.{AreLiterals};
 ghost use Rattle.trail_book.specs.Trail.{trues};
 ghost use Rattle.propagate.specs.Propagation as propagation;
 ghost use Rattle.cdcl_core.specs.Answers.{IsConsistent, IsPaid, Tells};
@@ -28,9 +28,9 @@ ghost use Rattle.cdcl_core.specs.Search.{IsSearch, IsAtRoot, IsRound, Ends};
 
 use crate::solved::Solved;
 use clause_store::Store;
-use gm_base::{Lit, Purse};
 use lrat_steps::Log;
 use propagate::{Propagated, propagate};
+use sat_base::{Lit, Purse};
 use std::alloc::{AllocError, Global};
 use trail_book::Trail;
 

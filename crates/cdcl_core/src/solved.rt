@@ -1,5 +1,5 @@
 //! The answers of the solver.
-use gm_base::Assign;
+use sat_base::Assign;
 
 /// What a search ended with.
 #[derive(Drop)]

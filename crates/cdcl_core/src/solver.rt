@@ -3,7 +3,7 @@
 //! Between calls the trail is at level 0. Where a search wanted memory, the log is honest still, but the rest may be
 //! amid a step: the solver is broken then, and takes no further clause or search.
 ghost use Rattle.std.specs.Prelude.{◌≡◌, ◌<◌, ◌^◌, ◌++◌, ◌∷◌, [], true, false, IfOk, OnOk, OnErr, IsErr};
-ghost use Rattle.gm_base.specs.Literals.{AreLiterals};
+ghost use Rattle.sat_base.specs.Literals.{AreLiterals};
 ghost use Rattle.lrat_steps.specs.Log.{Input};
 ghost use Rattle.lrat_steps.specs.Honest.{IsHonest};
 ghost use Rattle.cdcl_core.specs.Answers.{IsConsistent, IsPaid, Tells};
@@ -12,8 +12,8 @@ use crate::search::Search;
 use crate::solved::Solved;
 use crate::steps::add_step;
 use clause_store::Store;
-use gm_base::{Lit, Purse};
 use lrat_steps::{Log, LogStep};
+use sat_base::{Lit, Purse};
 use std::alloc::{AllocError, Global};
 use std::marker::Model;
 use trail_book::Trail;

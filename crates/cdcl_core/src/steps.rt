@@ -3,7 +3,7 @@
 //! The clauses of the store are those of the log's steps, in the same order. So a step has one id, which is its place,
 //! and the clauses are live or not as the step says.
 ghost use Rattle.std.specs.Prelude.{◌≡◌, ℕ, ◌++◌, ◌∷◌, [], length, IfOk, OnOk, OnErr};
-ghost use Rattle.gm_base.specs.Literals.{AreLiterals};
+ghost use Rattle.sat_base.specs.Literals.{AreLiterals};
 ghost use Rattle.lrat_steps.specs.Log.{step_of, lits_of, is_live, stored};
 ghost use Rattle.learn_step.specs.Reasons.{AreReasoned, IsFalse};
 ghost use Rattle.learn_step.specs.Learnt.{start_of};
@@ -12,9 +12,9 @@ ghost use Rattle.cdcl_core.specs.State.{IsRecorded};
 ghost use Rattle.cdcl_core.specs.Search.{IsCoreAdded};
 
 use clause_store::Store;
-use gm_base::Lit;
 use learn_step::{Origin, core_of};
 use lrat_steps::{Log, LogStep};
+use sat_base::Lit;
 use std::alloc::{AllocError, Global};
 use trail_book::Trail;
 

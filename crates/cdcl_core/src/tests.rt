@@ -1,9 +1,9 @@
 ghost use Rattle.std.specs.Prelude.{◌≡◌, ◌<◌, ◌^◌, IfOk};
-ghost use Rattle.gm_base.specs.Literals.{var_of, AreLiterals};
+ghost use Rattle.sat_base.specs.Literals.{var_of, AreLiterals};
 ghost use Rattle.cdcl_core.specs.Answers.{IsConsistent};
 
 use super::*;
-use gm_base::{Lit, Purse};
+use sat_base::{Lit, Purse};
 use std::alloc::{AllocError, Global};
 use std::test::Fail;
 

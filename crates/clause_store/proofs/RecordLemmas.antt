@@ -3,9 +3,9 @@ use Rattle.std.proofs.Common.{suc, refl, sym, ap, ap₂, ◌∙◌, arith, subst
 use Rattle.std.proofs.lemmas.List.{map_push}
 use Rattle.std.proofs.lemmas.List.Elements.{All-drop, All-take}
 use Rattle.std.specs.List.{AllByRecursion}
-use Rattle.gm_base.proofs.SpanLemmas.{range_before, range_at_end}
-use Rattle.gm_base.specs.Literals.{IsLiteral, AreLiterals}
-use Rattle.gm_base.specs.Database.{StoredClause, AreOver}
+use Rattle.sat_base.proofs.SpanLemmas.{range_before, range_at_end}
+use Rattle.sat_base.specs.Literals.{IsLiteral, AreLiterals}
+use Rattle.sat_base.specs.Database.{StoredClause, AreOver}
 use Rattle.clause_store.specs.Inner.{cut_by, IsWithin}
 use Rattle.clause_store.specs.declared.store.ClauseRecord.{ClauseRecord}
 

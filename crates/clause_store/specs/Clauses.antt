@@ -1,7 +1,7 @@
 -- What a clause store is to its callers: its clauses in the order in which they came, and how much it can take with no more
 -- memory.
 use Rattle.std.specs.Prelude.{ℕ, ◌-◌, ◌≤◌, ◌<◌, List, [], false, length, slice_index_or}
-use Rattle.gm_base.specs.Database.{StoredClause}
+use Rattle.sat_base.specs.Database.{StoredClause}
 
 pub record Clauses : Type 0 where
   pub vars : ℕ

@@ -1,7 +1,7 @@
 -- How a store lays its clauses out.
 use Rattle.std.specs.Prelude.{ℕ, ℤ, ◌-◌, ◌^◌, ◌<◌, ◌≤◌, List, map, All, vec_len, vec_capacity, slice_range, length, min}
-use Rattle.gm_base.specs.Literals.{IsLiteral}
-use Rattle.gm_base.specs.Database.{StoredClause}
+use Rattle.sat_base.specs.Literals.{IsLiteral}
+use Rattle.sat_base.specs.Database.{StoredClause}
 use Rattle.clause_store.specs.Clauses.{Clauses}
 use Rattle.clause_store.specs.declared.store.ClauseRecord.{ClauseRecord}
 use Rattle.clause_store.specs.declared.store.Store.TheInside.{Inside}

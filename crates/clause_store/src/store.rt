@@ -6,11 +6,11 @@
 //!
 //! Places in the list of literals are kept in 32 bits. A store that would outgrow them answers want of memory.
 ghost use Rattle.std.specs.Prelude.{◌≡◌, ◌+◌, ◌<◌, ◌≤◌, ◌^◌, ◌++◌, ◌∷◌, [], length, IfOk, OnOk, OnErr, IsOk};
-ghost use Rattle.gm_base.specs.Literals.{AreLiterals};
-ghost use Rattle.gm_base.specs.Database.{AreOver};
+ghost use Rattle.sat_base.specs.Literals.{AreLiterals};
+ghost use Rattle.sat_base.specs.Database.{AreOver};
 ghost use Rattle.clause_store.specs.Clauses.{clause_at, IsId, HasRoomFor};
 
-use gm_base::Lit;
+use sat_base::Lit;
 use std::alloc::{AllocError, Global};
 use std::marker::Model;
 

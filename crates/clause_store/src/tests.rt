@@ -1,6 +1,6 @@
 //! Clauses come back as they were added.
 use crate::Store;
-use gm_base::Lit;
+use sat_base::Lit;
 use std::alloc::AllocError;
 
 #[test]

@@ -5,7 +5,7 @@ use Rattle.std.proofs.lemmas.List.{take-take, take-append-le, take_all, length-t
 use Rattle.std.proofs.lemmas.Option.{slice_get_within, get_or_from_slice_get}
 use Rattle.gm_base.specs.declared.clause.Clause.{Clause}
 use Rattle.gm_base.specs.Problem.{Problem}
-use Rattle.gm_base.specs.Derivation.{numbered}
+use Rattle.sat_base.specs.Derivation.{numbered}
 use Rattle.gm_base.specs.Evidence.{with_selector, selector_form}
 use Rattle.lrat_check.specs.State.{State}
 use Rattle.lrat_check.proofs.KnownLemmas.{length-numbered, numbered_next}

@@ -4,7 +4,7 @@ use Rattle.std.specs.Prelude.{ℤ, pos, negsuc, neg_ℤ}
 use Rattle.std.specs.Ordering.{int_eq}
 use Rattle.std.specs.List.{list_any, range_with_len}
 use Rattle.std.proofs.lemmas.Bool.{eq-eqb, ne_eqb, cases_eq, or_left, or_right}
-use Rattle.gm_base.specs.Literals.{var_of}
+use Rattle.sat_base.specs.Literals.{var_of}
 use Rattle.gm_base.specs.Sets.{has, all_groups, without}
 use Rattle.gm_base.specs.Problem.{Problem}
 use Rattle.gm_base.specs.Evidence.{left_out}

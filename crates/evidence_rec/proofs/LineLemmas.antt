@@ -6,7 +6,7 @@ use Rattle.std.proofs.lemmas.List.{append-nil, drop_more, take_more, map-append}
 use Rattle.std.proofs.lemmas.Option.{slice_get_within, get_or_from_slice_get}
 use Rattle.gm_base.specs.Sets.{without, complement}
 use Rattle.gm_base.specs.Problem.{Problem}
-use Rattle.gm_base.specs.Derivation.{Step, Derivation}
+use Rattle.sat_base.specs.Derivation.{Step, Derivation}
 use Rattle.lrat_check.specs.declared.why.Why.{Why}
 use Rattle.lrat_check.specs.Refusal.{step_refusal}
 use Rattle.lrat_check.specs.State.{State}

@@ -5,11 +5,11 @@ use Rattle.std.specs.Ordering.{int_eq}
 use Rattle.std.specs.List.{list_any, list_all}
 use Rattle.std.specs.Option.{option_map_or}
 use Rattle.std.proofs.lemmas.Bool.{and_parts, and_from, false≢true, eqb-true, eq-eqb}
-use Rattle.gm_base.specs.Derivation.{Derivation, is_derivation, derives_within, clause_of, all_known}
+use Rattle.sat_base.specs.Derivation.{Derivation, is_derivation, derives_within, clause_of, all_known}
 use Rattle.gm_base.specs.Sets.{IsSubset}
 use Rattle.gm_base.specs.Problem.{Problem}
 use Rattle.gm_base.specs.Evidence.{left_out, selector_form, refutes}
-use Rattle.gm_base.proofs.Members.{all_at, all_from, any_at, any_from}
+use Rattle.sat_base.proofs.Members.{all_at, all_from, any_at, any_from}
 
 all_wider : (f g : ℤ → Bool) → ((l : ℤ) → f l ≡ true → g l ≡ true) → (o : Option (List ℤ))
     → option_map_or (λ c. list_all f c) o false ≡ true → option_map_or (λ c. list_all g c) o false ≡ true

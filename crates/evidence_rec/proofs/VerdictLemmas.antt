@@ -6,7 +6,7 @@ use Rattle.std.specs.Option.{option_map_or, option_or}
 use Rattle.std.proofs.lemmas.Bool.{and_parts, and_from, lt-ltb, ltb-true}
 use Rattle.gm_base.specs.Sets.{IsGroupSet, without, complement}
 use Rattle.gm_base.specs.Problem.{Problem, IsProblem}
-use Rattle.gm_base.specs.Derivation.{Step, Derivation, numbered, clause_of, all_known, is_step_clause, follows, steps_follow, is_derivation}
+use Rattle.sat_base.specs.Derivation.{Step, Derivation, numbered, clause_of, all_known, is_step_clause, follows, steps_follow, is_derivation}
 use Rattle.gm_base.specs.Evidence.{selector_form, refutes, is_witness, each_passes}
 use Rattle.lrat_check.specs.declared.why.Why.{Why}
 use Rattle.lrat_check.specs.declared.why.Why.TheVariants.{UnknownClause, NotRefuting, WitnessFails}

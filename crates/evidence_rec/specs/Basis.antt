@@ -2,7 +2,7 @@
 use Rattle.std.specs.Prelude.{◌≡◌, ℕ, ◌+◌, ◌≤◌, List, length, take, ℤ, Option, Some, None}
 use Rattle.gm_base.specs.Sets.{without, complement}
 use Rattle.gm_base.specs.Problem.{Problem}
-use Rattle.gm_base.specs.Derivation.{numbered}
+use Rattle.sat_base.specs.Derivation.{numbered}
 use Rattle.gm_base.specs.Evidence.{selector_form}
 use Rattle.lrat_check.specs.State.{State}
 

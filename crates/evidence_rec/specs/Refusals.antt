@@ -10,7 +10,7 @@ use Rattle.std.specs.List.{list_any, list_all}
 use Rattle.std.specs.Option.{option_map, option_map_or, option_or}
 use Rattle.gm_base.specs.Sets.{without, complement}
 use Rattle.gm_base.specs.Problem.{Problem}
-use Rattle.gm_base.specs.Derivation.{Step, Derivation, numbered, clause_of, all_known}
+use Rattle.sat_base.specs.Derivation.{Step, Derivation, numbered, clause_of, all_known}
 use Rattle.gm_base.specs.Evidence.{left_out, selector_form, is_witness}
 use Rattle.lrat_check.specs.declared.why.Why.{Why}
 use Rattle.lrat_check.specs.declared.why.Why.TheVariants.{UnknownClause, NotRefuting, WitnessFails}

@@ -2,7 +2,7 @@
 -- out by hand: "x", "not x", "x implies y" and "not y", where the selectors of the groups are the variables 3 to 6.
 use Rattle.std.specs.Prelude.{◌≡◌, ℕ, true, false, List, [], ◌∷◌, negsuc, Some, None}
 use Rattle.std.proofs.Common.{refl}
-use Rattle.gm_base.specs.Derivation.{Derivation}
+use Rattle.sat_base.specs.Derivation.{Derivation}
 use Rattle.gm_base.specs.Rows.{four_clauses}
 use Rattle.gm_base.specs.EvidenceRows.{one_step, first_proof, second_proof}
 use Rattle.lrat_check.specs.declared.why.Why.TheVariants.{UnknownHint, NotUnit, NotFalse, HintsLeft, IdNotRising, BadLiteral, UnknownClause, NotRefuting, WitnessFails}

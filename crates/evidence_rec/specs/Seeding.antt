@@ -1,9 +1,9 @@
 -- What a map engine tells, and what its answers say (MARCO: Liffiton, Previti, Malik and Marques-Silva 2016).
 use Rattle.std.specs.Prelude.{◌≡◌, ◌↔◌, ℕ, ◌+◌, Bool, true, false, List, [], ◌∷◌, ◌++◌, length, map, ℤ}
 use Rattle.std.specs.List.{list_all}
-use Rattle.gm_base.specs.Literals.{clause_true}
+use Rattle.sat_base.specs.Literals.{clause_true}
 use Rattle.gm_base.specs.Explored.{Found, is_explored, block_clause, groups_true, IsUnexplored, AllExplored}
-use Rattle.gm_base.specs.Derivation.{Derivation, derives_within}
+use Rattle.sat_base.specs.Derivation.{Derivation, derives_within}
 use Rattle.lrat_steps.specs.Log.{LogStep, Input, db_of, inputs_of, learned_count}
 use Rattle.lrat_steps.specs.Honest.{IsHonest}
 use Rattle.lrat_steps.specs.Undecided.{Undecided}

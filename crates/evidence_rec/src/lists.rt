@@ -68,7 +68,7 @@ pub struct Proofs {
 
 impl Model for Proofs {
     ghost use Rattle.std.specs.Prelude.{List};
-    ghost use Rattle.gm_base.specs.Derivation.{Derivation};
+    ghost use Rattle.sat_base.specs.Derivation.{Derivation};
 
     ghost Value = { List Derivation };
 

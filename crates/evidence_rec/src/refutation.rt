@@ -4,7 +4,7 @@
 //! one that it refuses is the answer; where all are taken, the goal has to name a clause of the right literals.
 ghost use Rattle.std.specs.Prelude.{◌≡◌, ◌+◌, ◌++◌, ◌≤◌, IfOk, None, length, map};
 ghost use Rattle.gm_base.specs.Sets.{IsGroupSet};
-ghost use Rattle.gm_base.specs.Derivation.{Step};
+ghost use Rattle.sat_base.specs.Derivation.{Step};
 ghost use Rattle.evidence_rec.specs.Basis.{Begins, basis_of, given_to, refuted_set};
 ghost use Rattle.evidence_rec.specs.Refusals.{steps_refusal, goal_refusal, refutation_refusal, refutations_refusal};
 ghost use Rattle.evidence_rec.specs.Verdicts.{refusal_by};

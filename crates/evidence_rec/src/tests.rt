@@ -1,6 +1,6 @@
 //! Records about x, not x, x implies y and not y, whose selectors are the variables 3 to 6: what each is refused for.
 ghost use Rattle.std.specs.Prelude.{◌≡◌, ◌≤◌, All, IsTrue, List, Bool, length};
-ghost use Rattle.gm_base.specs.Derivation.{max_id};
+ghost use Rattle.sat_base.specs.Derivation.{max_id};
 ghost use Rattle.evidence_rec.specs.Records.{IsShaped};
 
 use super::*;

@@ -9,7 +9,7 @@ use Rattle.std.specs.List.{flat_map, AllByRecursion}
 use Rattle.token_text.specs.Kinds.{Kind, Word, Number, OpenBrace, CloseBrace}
 use Rattle.token_text.specs.Tokens.{Token, Place, end_of, tokens_of}
 use Rattle.gm_base.specs.declared.clause.Clause.{Clause}
-use Rattle.gm_base.specs.Literals.{IsLiteral, AreLiterals}
+use Rattle.sat_base.specs.Literals.{IsLiteral, AreLiterals}
 use Rattle.gm_base.specs.Problem.{Problem, IsProblem, IsClause}
 use Rattle.gcnf_text.specs.Grammar.{IsWithinLimits, Reads, clause_kinds, kinds_of, literal_count, max_bytes, max_literals, problem_kinds}
 use Rattle.gcnf_text.specs.Table as table

@@ -4,7 +4,7 @@ use Rattle.std.proofs.lemmas.List.{append_assoc}
 use Rattle.std.specs.List.{flat_map, AllByRecursion}
 use Rattle.token_text.specs.Kinds.{Kind, Number, OpenBrace, CloseBrace}
 use Rattle.gm_base.specs.declared.clause.Clause.{Clause}
-use Rattle.gm_base.specs.Literals.{IsLiteral, AreLiterals, var_of}
+use Rattle.sat_base.specs.Literals.{IsLiteral, AreLiterals, var_of}
 use Rattle.gm_base.specs.Problem.{Problem, IsClause}
 use Rattle.gcnf_text.specs.Grammar.{Reads, clause_kinds}
 

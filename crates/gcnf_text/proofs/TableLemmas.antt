@@ -10,7 +10,7 @@ use Rattle.std.specs.List.{flat_map, AllByRecursion}
 use Rattle.std.specs.Str.{bytes_eq}
 use Rattle.token_text.specs.Kinds.{Kind, Word, Number, OpenBrace, CloseBrace}
 use Rattle.gm_base.specs.declared.clause.Clause.{Clause}
-use Rattle.gm_base.specs.Literals.{IsLiteral, AreLiterals}
+use Rattle.sat_base.specs.Literals.{IsLiteral, AreLiterals}
 use Rattle.gm_base.specs.Problem.{Problem, IsClause}
 use Rattle.gcnf_text.specs.declared.offence.Limit.{Limit}
 use Rattle.gcnf_text.specs.declared.offence.Limit.TheVariants as limit

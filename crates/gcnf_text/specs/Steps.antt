@@ -7,7 +7,7 @@ use Rattle.token_text.specs.Left.{Left}
 use Rattle.token_text.specs.declared.answer.Found.{Found}
 use Rattle.token_text.specs.declared.answer.Found.TheVariants as found
 use Rattle.gm_base.specs.declared.clause.Clause.{Clause}
-use Rattle.gm_base.specs.Literals.{IsLiteral}
+use Rattle.sat_base.specs.Literals.{IsLiteral}
 use Rattle.gm_base.specs.Problem.{Problem, IsClause}
 use Rattle.gcnf_text.specs.declared.offence.Limit.{Limit}
 use Rattle.gcnf_text.specs.declared.offence.Offence.{Offence}

@@ -5,7 +5,7 @@
 //! and are then copied into a list of just their size.
 ghost use Rattle.std.specs.Prelude.{◌≡◌, ◌≤◌, ◌<◌, ◌^◌, ℕ, [], ◌∷◌, pos, IfOk};
 ghost use Rattle.token_text.specs.Kinds.{Number, OpenBrace, CloseBrace};
-ghost use Rattle.gm_base.specs.Literals.{AreLiterals};
+ghost use Rattle.sat_base.specs.Literals.{AreLiterals};
 ghost use Rattle.gm_base.specs.Problem.{IsClause};
 ghost use Rattle.gcnf_text.specs.Grammar.{clause_kinds, max_literals};
 ghost use Rattle.gcnf_text.specs.Table as table;

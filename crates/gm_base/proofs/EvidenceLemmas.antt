@@ -11,16 +11,16 @@ use Rattle.std.proofs.lemmas.List.FromFn.{get_or-map-range_with_len}
 use Rattle.std.proofs.lemmas.List.Folds.{list_any-append}
 use Rattle.gm_base.specs.declared.clause.Clause.{Clause}
 use Rattle.gm_base.specs.Sets.{IsGroupSet, has, all_groups, without, complement}
-use Rattle.gm_base.specs.Literals.{IsLiteral, literal_true, clause_true}
+use Rattle.sat_base.specs.Literals.{IsLiteral, literal_true, clause_true}
 use Rattle.gm_base.specs.Problem.{Problem, IsProblem, IsClause, Sat, satisfies, is_present}
 use Rattle.gm_base.specs.Minimal.{IsConflict, IsCorrection}
-use Rattle.gm_base.specs.Derivation.{Derivation, numbered}
+use Rattle.sat_base.specs.Derivation.{Derivation, numbered}
 use Rattle.gm_base.specs.Evidence.{left_out, with_selector, selector_form, refutes, is_witness, each_passes, AcceptsConflict, AcceptsCorrection}
-use Rattle.gm_base.specs.Members.{In}
-use Rattle.gm_base.proofs.Members.{In-append_cases, any_at, any_from}
+use Rattle.sat_base.specs.Members.{In}
+use Rattle.sat_base.proofs.Members.{In-append_cases, any_at, any_from}
 use Rattle.gm_base.proofs.SetLemmas.{IsGroupSet-complement, AscendsAbove-has}
 use Rattle.gm_base.proofs.Singles.{IsConflict-from_singles, IsCorrection-from_singles}
-use Rattle.gm_base.proofs.Soundness.{Good, AllGood, derives-sound}
+use Rattle.sat_base.proofs.Soundness.{Good, AllGood, derives-sound}
 
 -- more values at the end change no literal over the first variables
 literal_kept : (a more : List Bool) (vars : ℕ) (l : ℤ) → length a ≡ vars → IsLiteral vars l → literal_true (a ++ more) l ≡ literal_true a l

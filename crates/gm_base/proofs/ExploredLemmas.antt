@@ -8,8 +8,8 @@ use Rattle.std.proofs.lemmas.List.FromFn.{length-map-range_with_len, get_or-map-
 use Rattle.gm_base.specs.declared.kind.Kind.{Kind}
 use Rattle.gm_base.specs.declared.kind.Kind.TheVariants.{Conflict, Correction}
 use Rattle.gm_base.specs.Sets.{has, all_groups, IsGroupSet, IsSubset}
-use Rattle.gm_base.specs.Literals.{literal_true, clause_true}
-use Rattle.gm_base.specs.Members.{In}
+use Rattle.sat_base.specs.Literals.{literal_true, clause_true}
+use Rattle.sat_base.specs.Members.{In}
 use Rattle.gm_base.specs.Explored.{Found, explores, is_explored, block_clause, IsUnexplored, AllExplored, groups_true, is_model}
 use Rattle.gm_base.proofs.SetLemmas.{AscendsAbove-filter, AscendsAbove-range, AscendsAbove-same, has-filter, has-head, all_groups-has}
 

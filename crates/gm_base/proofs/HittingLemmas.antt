@@ -9,7 +9,7 @@ use Rattle.gm_base.specs.Sets.{has, IsSubset, IsProperSubset, IsGroupSet, withou
 use Rattle.gm_base.specs.Problem.{Problem}
 use Rattle.gm_base.specs.Minimal.{IsConflict, IsCorrection, is_sat}
 use Rattle.gm_base.specs.Laws.{IsSetOf, AreDisjoint, HitsConflicts, HitsCorrections, IsMinimalHitting}
-use Rattle.gm_base.proofs.Members.{any_at, any_from}
+use Rattle.sat_base.proofs.Members.{any_at, any_from}
 use Rattle.gm_base.proofs.SetLemmas.{AscendsAbove-filter, AscendsAbove-range, IsGroupSet-complement, has-filter, has-without, has-complement-parts, has-complement-from, IsSubset-complement_twice, complement_twice-IsSubset}
 use Rattle.gm_base.proofs.SatLemmas.{Sat-subset, Sat-from_test, test-from_Sat, unsat-from_test, test-from_unsat}
 use Rattle.gm_base.proofs.Singles.{IsSubset-without, IsSubset-complement}

@@ -12,10 +12,10 @@ use Rattle.gm_base.specs.declared.index.Placed.{Placed}
 use Rattle.gm_base.specs.Index.{IsOfGroup, IsIndex, ArePlaces, group_true}
 use Rattle.std.proofs.lemmas.List.{take_all}
 use Rattle.gm_base.specs.Sets.{has}
-use Rattle.gm_base.specs.Literals.{clause_true}
+use Rattle.sat_base.specs.Literals.{clause_true}
 use Rattle.gm_base.specs.Problem.{Problem, satisfies, is_present}
-use Rattle.gm_base.specs.Members.{In}
-use Rattle.gm_base.proofs.Members.{all_at, all_from, any_from}
+use Rattle.sat_base.specs.Members.{In}
+use Rattle.sat_base.proofs.Members.{all_at, all_from, any_from}
 
 -- what stands in the part that the two searches leave is of the group
 pub stretch-of_group : (index : List Placed) (group from count : ℕ)

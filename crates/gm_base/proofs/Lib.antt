@@ -1,14 +1,8 @@
-pub mod Members
 pub mod SetLemmas
 pub mod SatLemmas
 pub mod IndexLemmas
 pub mod Singles
 pub mod TestLemmas
-pub mod DatabaseLemmas
-pub mod WorkLemmas
-pub mod SpanLemmas
-pub mod FollowsLemmas
-pub mod Soundness
 pub mod EvidenceLemmas
 pub mod ExploredLemmas
 pub mod HittingLemmas

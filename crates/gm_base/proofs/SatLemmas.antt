@@ -3,11 +3,11 @@ use Rattle.std.proofs.Common.{◌≡◌, ℕ, zero, suc, Bool, true, false, not,
 use Rattle.std.proofs.lemmas.Bool.{or_cases, or_left, or_right, false≢true, cases_Bool, false_from_ne_true}
 use Rattle.gm_base.specs.declared.clause.Clause.{Clause}
 use Rattle.gm_base.specs.Sets.{has, IsSubset}
-use Rattle.gm_base.specs.Literals.{clause_true}
+use Rattle.sat_base.specs.Literals.{clause_true}
 use Rattle.gm_base.specs.Problem.{Problem, Sat, satisfies, is_present}
 use Rattle.gm_base.specs.Minimal.{assignments, is_sat}
-use Rattle.gm_base.specs.Members.{In}
-use Rattle.gm_base.proofs.Members.{In-append_left, In-append_right, In-append_cases, In-map, In-from_map, all_at, all_from, any_at, any_from}
+use Rattle.sat_base.specs.Members.{In}
+use Rattle.sat_base.proofs.Members.{In-append_left, In-append_right, In-append_cases, In-map, In-from_map, all_at, all_from, any_at, any_from}
 
 is_present-subset : (small large : List ℕ) (c : Clause) → IsSubset small large → is_present small c ≡ true → is_present large c ≡ true
 is_present-subset small large c sub h =

@@ -11,7 +11,7 @@ use Rattle.std.specs.Ordering.{nat_cmp}
 use Rattle.std.specs.Prelude.{Result, Ok, Err, is_ok, MatchResult}
 use Rattle.std.proofs.lemmas.Map.Views.{any-filter_same}
 use Rattle.gm_base.specs.Sets.{AscendsAbove, IsGroupSet, has, IsSubset, without, with_group, all_groups, complement}
-use Rattle.gm_base.proofs.Members.{all_at, any_from}
+use Rattle.sat_base.proofs.Members.{all_at, any_from}
 
 pub AscendsAbove-from : (low bound : ℕ) (gs : List ℕ) → low ≤ bound → AscendsAbove bound gs → AscendsAbove low gs
 AscendsAbove-from low bound [] le h = tt

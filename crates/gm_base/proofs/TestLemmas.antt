@@ -5,8 +5,8 @@ use Rattle.std.proofs.lemmas.Bool.{or_cases, or_left, or_right, false≢true, ca
 use Rattle.gm_base.specs.Sets.{has, IsSubset, IsProperSubset, without, complement, AscendsAbove, IsGroupSet, sublists, nonempty_sublists, proper_sublists}
 use Rattle.gm_base.specs.Problem.{Problem}
 use Rattle.gm_base.specs.Minimal.{IsConflict, IsCorrection, is_conflict, is_correction, is_sat}
-use Rattle.gm_base.specs.Members.{In}
-use Rattle.gm_base.proofs.Members.{In-append_left, In-append_right, In-append_cases, In-map, In-from_map, all_at, all_from}
+use Rattle.sat_base.specs.Members.{In}
+use Rattle.sat_base.proofs.Members.{In-append_left, In-append_right, In-append_cases, In-map, In-from_map, all_at, all_from}
 use Rattle.gm_base.proofs.SetLemmas.{not_has-bound}
 use Rattle.gm_base.proofs.SatLemmas.{Sat-from_test, test-from_Sat, unsat-from_test, test-from_unsat}
 use Rattle.gm_base.proofs.Singles.{IsConflict-from_singles, IsCorrection-from_singles}

@@ -6,7 +6,7 @@ use Rattle.std.specs.List.{list_any}
 use Rattle.gm_base.specs.declared.clause.Clause.{Clause}
 use Rattle.gm_base.specs.Sets.{IsGroupSet, without, complement}
 use Rattle.gm_base.specs.Problem.{Problem, satisfies}
-use Rattle.gm_base.specs.Derivation.{Derivation, derives_within}
+use Rattle.sat_base.specs.Derivation.{Derivation, derives_within}
 
 -- the selector of a group is a variable of its own, behind those of the problem; this literal says that it is off
 abbrev pub left_out : Problem → ℕ → ℤ

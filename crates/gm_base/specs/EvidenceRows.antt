@@ -1,7 +1,7 @@
 -- Worked evidence for the four clauses of `Rows`, checked by computation.
 use Rattle.std.specs.Prelude.{◌≡◌, ℕ, Bool, true, false, List, [], ◌∷◌, take, pos, negsuc, ℤ}
 use Rattle.std.proofs.Common.{refl}
-use Rattle.gm_base.specs.Derivation.{Derivation, derives_within}
+use Rattle.sat_base.specs.Derivation.{Derivation, derives_within}
 use Rattle.gm_base.specs.Evidence.{selector_form, refutes, AcceptsConflict, AcceptsCorrection}
 use Rattle.gm_base.specs.declared.kind.Kind.TheVariants.{Conflict, Correction}
 use Rattle.gm_base.specs.Explored.{Found, block_clause, is_explored, groups_true, is_model}

@@ -3,7 +3,7 @@
 use Rattle.std.specs.Prelude.{◌≡◌, ℕ, ◌-◌, Bool, true, false, not, List, length, map, ℤ, pos, neg_ℤ, slice_index_or}
 use Rattle.std.specs.List.{list_any, list_all, filter}
 use Rattle.gm_base.specs.Sets.{has, all_groups, IsGroupSet, IsSubset}
-use Rattle.gm_base.specs.Literals.{clause_true}
+use Rattle.sat_base.specs.Literals.{clause_true}
 use Rattle.gm_base.specs.declared.kind.Kind.{Kind}
 use Rattle.gm_base.specs.declared.kind.Kind.TheVariants.{Conflict, Correction}
 use Rattle.gm_base.specs.declared.kind.Side.{Side}

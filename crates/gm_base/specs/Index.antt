@@ -4,7 +4,7 @@ use Rattle.std.specs.List.{list_all}
 use Rattle.std.specs.List.Sorted.{IsNonDecreasingBy}
 use Rattle.gm_base.specs.declared.clause.Clause.{Clause}
 use Rattle.gm_base.specs.declared.index.Placed.{Placed}
-use Rattle.gm_base.specs.Literals.{clause_true}
+use Rattle.sat_base.specs.Literals.{clause_true}
 
 -- the clause at this place is of this group
 abbrev pub IsOfGroup : List Clause → ℕ → ℕ → Type 0

@@ -2,9 +2,9 @@
 use Rattle.std.specs.Prelude.{◌≡◌, ◌⊎◌, ◌↔◌, ℕ, Bool, true, false, List, ◌++◌, length}
 use Rattle.gm_base.specs.declared.clause.Clause.{Clause}
 use Rattle.gm_base.specs.Sets.{has, IsSubset, IsProperSubset, IsGroupSet, all_groups, without, complement}
-use Rattle.gm_base.specs.Members.{In}
+use Rattle.sat_base.specs.Members.{In}
 use Rattle.gm_base.specs.Problem.{Problem, IsProblem, Sat}
-use Rattle.gm_base.specs.Derivation.{Derivation}
+use Rattle.sat_base.specs.Derivation.{Derivation}
 use Rattle.gm_base.specs.Evidence.{AcceptsConflict, AcceptsCorrection}
 use Rattle.gm_base.specs.Explored.{Found, is_explored, is_model, groups_true}
 use Rattle.gm_base.specs.Minimal.{IsConflict, IsCorrection, is_conflict, is_correction, is_sat}

@@ -1,16 +1,9 @@
-pub mod Members
 pub mod Sets
-pub mod Literals
 pub mod Problem
 pub mod Minimal
 pub mod Report
 pub mod Laws
 pub mod Index
-pub mod Derivation
-pub mod Database
-pub mod Units
-pub mod Work
-pub mod Spans
 pub mod Evidence
 pub mod Explored
 pub mod Rows

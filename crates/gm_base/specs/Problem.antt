@@ -3,7 +3,7 @@ use Rattle.std.specs.Prelude.{◌≡◌, ℕ, ◌≤◌, Bool, true, not, ◌==�
 use Rattle.std.specs.List.{list_all, AllByRecursion}
 use Rattle.gm_base.specs.declared.clause.Clause.{Clause}
 use Rattle.gm_base.specs.Sets.{has}
-use Rattle.gm_base.specs.Literals.{AreLiterals, clause_true}
+use Rattle.sat_base.specs.Literals.{AreLiterals, clause_true}
 
 -- clauses in groups from 0 to groups, over the variables 1 to vars
 pub record Problem : Type 0 where

@@ -1,7 +1,7 @@
 //! Clauses in groups, and lists of them.
 ghost use Rattle.std.specs.Prelude.{◌≡◌, ◌↔◌, [], ◌∷◌, ◌++◌, IsTrue, OnOk, OnErr, length};
 
-use crate::lit::Lits;
+use sat_base::Lits;
 use std::alloc::{AllocError, Global};
 use std::marker::Model;
 

@@ -10,8 +10,7 @@
 //! if problem.holds(&set, &assign) { .. }
 //! ```
 //!
-//! For those who search, a [`Derivation`] is the steps by which a clause follows from others, a [`WorkList`] hands out
-//! numbers from the greatest down, and a [`Purse`] says how many clauses may still be learnt. For those who enumerate, a
+//! Literals, assignments and derivations are those of `sat_base`, and can be had from here too. For those who enumerate, a
 //! [`Kind`] says whether a minimal set is a conflict or a correction, a [`Side`] which sets it takes out of the map, and
 //! `specs/Explored.antt` which sets all that was found has explored.
 //!
@@ -20,29 +19,20 @@
 //! proved of the definitions alone. Nothing here searches: how the sets are found is for the crates above.
 #![tactic(auto)]
 
-mod assign;
 mod clause;
-mod derivation;
 mod group_set;
 mod index;
 mod kind;
 pub mod laws;
-mod lit;
 mod problem;
-mod purse;
 mod sets;
 #[cfg(test)]
 mod tests;
-mod worklist;
 
-pub use assign::Assign;
 pub use clause::{Clause, Clauses};
-pub use derivation::{Derivation, Step};
 pub use group_set::GroupSet;
 pub use index::Placed;
 pub use kind::{Kind, Side};
-pub use lit::{Lit, Lits};
 pub use problem::{Problem, clause_fits};
-pub use purse::Purse;
+pub use sat_base::{Assign, Derivation, Lit, Lits, Purse, Step};
 pub use sets::Sets;
-pub use worklist::WorkList;

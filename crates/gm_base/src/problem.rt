@@ -6,11 +6,10 @@ ghost use Rattle.std.specs.Prelude.{◌≡◌, ◌<◌, ◌+◌, ◌^◌, ◌↔
 ghost use Rattle.gm_base.specs.Problem.{IsClause, IsProblem, satisfies};
 ghost use Rattle.gm_base.specs.Index.{ArePlaces, group_true};
 
-use crate::assign::Assign;
 use crate::clause::{Clause, Clauses};
 use crate::group_set::GroupSet;
 use crate::index::{Placed, index_of, stretch};
-use crate::lit::Lits;
+use sat_base::{Assign, Lits};
 use std::alloc::{AllocError, Global};
 use std::marker::Model;
 

@@ -4,7 +4,7 @@ use Rattle.std.specs.List.{filter, AllByRecursion}
 use Rattle.std.proofs.lemmas.List.{take_more}
 use Rattle.std.proofs.lemmas.Bool.{false≢true, or_cases, or_left, or_right}
 use Rattle.gm_base.specs.Sets.{subsets}
-use Rattle.gm_base.specs.Members.{In}
+use Rattle.sat_base.specs.Members.{In}
 use Rattle.gm_base.specs.Problem.{Problem, IsProblem}
 use Rattle.gm_base.specs.Minimal.{is_conflict, is_correction, conflicts, corrections}
 use Rattle.gm_base.specs.declared.kind.Kind.{Kind}

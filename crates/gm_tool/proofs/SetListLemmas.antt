@@ -5,8 +5,8 @@ use Rattle.std.specs.List.{filter, range_with_len}
 use Rattle.std.specs.Cmp.Lexicographic.{pointwise}
 use Rattle.std.proofs.lemmas.Bool.{or_cases, or_left, or_right, and_parts, and_from, false≢true, cases_Bool, eqb-true, eq-eqb, ne_eqb, eqb-false, cases_order, cond-true, cond-false}
 use Rattle.gm_base.specs.Sets.{AscendsAbove, IsGroupSet, has, IsSubset, all_groups, sublists, nonempty_sublists, subsets}
-use Rattle.gm_base.specs.Members.{In}
-use Rattle.gm_base.proofs.Members.{In-append_left, In-append_right, In-append_cases, In-map, In-from_map}
+use Rattle.sat_base.specs.Members.{In}
+use Rattle.sat_base.proofs.Members.{In-append_left, In-append_right, In-append_cases, In-map, In-from_map}
 use Rattle.gm_base.proofs.SetLemmas.{AscendsAbove-from, AscendsAbove-range}
 use Rattle.gm_base.proofs.TestLemmas.{IsSubset-from_sublists}
 

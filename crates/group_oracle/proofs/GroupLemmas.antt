@@ -8,11 +8,11 @@ use Rattle.std.proofs.Math.Bool.{or-false}
 use Rattle.std.proofs.lemmas.List.{take_all}
 use Rattle.std.proofs.lemmas.List.Folds.{list_any-append, list_any_more}
 use Rattle.std.proofs.lemmas.List.Sorted.{list_any-IsPermutation}
-use Rattle.gm_base.specs.Members.{In}
-use Rattle.gm_base.specs.Literals.{var_of}
+use Rattle.sat_base.specs.Members.{In}
+use Rattle.sat_base.specs.Literals.{var_of}
 use Rattle.gm_base.specs.Sets.{has, AscendsAbove, IsGroupSet}
-use Rattle.gm_base.proofs.Members.{In-map, In-from_map, any_at, any_from}
-use Rattle.gm_base.proofs.DatabaseLemmas.{get_in}
+use Rattle.sat_base.proofs.Members.{In-map, In-from_map, any_at, any_from}
+use Rattle.sat_base.proofs.DatabaseLemmas.{get_in}
 use Rattle.group_oracle.specs.Selectors.{off, IsOff, AreOff, AreGroupsOf, IsSetOf}
 
 pub in_has : (set : List ℕ) (g : ℕ) → In g set → has set g ≡ true

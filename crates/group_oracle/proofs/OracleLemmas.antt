@@ -4,11 +4,11 @@ use Rattle.std.specs.Prelude.{ℤ, Result, IfOk, IfSome}
 use Rattle.std.specs.Option.{option_map}
 use Rattle.std.proofs.lemmas.Result.{IfOk-weaker}
 use Rattle.gm_base.specs.declared.clause.Clause.{Clause}
-use Rattle.gm_base.specs.Literals.{AreLiterals}
+use Rattle.sat_base.specs.Literals.{AreLiterals}
 use Rattle.gm_base.specs.Sets.{IsSubset, IsGroupSet, all_groups}
 use Rattle.gm_base.specs.Problem.{Problem, IsProblem, Sat}
-use Rattle.gm_base.specs.Derivation.{Derivation, clause_of}
-use Rattle.gm_base.specs.Database.{known_of}
+use Rattle.sat_base.specs.Derivation.{Derivation, clause_of}
+use Rattle.sat_base.specs.Database.{known_of}
 use Rattle.gm_base.specs.Evidence.{is_witness, refutes}
 use Rattle.lrat_steps.specs.Log.{LogStep, lits_of, step_at, inputs_of, db_of}
 use Rattle.lrat_steps.specs.Honest.{IsHonest}

@@ -7,16 +7,16 @@ use Rattle.std.specs.Option.{option_map_or}
 use Rattle.std.proofs.lemmas.Bool.{false≢true, and_from}
 use Rattle.std.proofs.lemmas.Bool.Decides.{Decides-int_eq}
 use Rattle.std.proofs.lemmas.List.{length-map, get_or-map}
-use Rattle.gm_base.specs.Members.{In}
-use Rattle.gm_base.specs.Literals.{AreLiterals, literal_true, clause_true}
+use Rattle.sat_base.specs.Members.{In}
+use Rattle.sat_base.specs.Literals.{AreLiterals, literal_true, clause_true}
 use Rattle.gm_base.specs.Sets.{has, IsSubset, IsGroupSet, all_groups}
 use Rattle.gm_base.specs.Problem.{Problem, IsProblem, Sat}
-use Rattle.gm_base.specs.Derivation.{Derivation, clause_of, all_known, is_derivation}
-use Rattle.gm_base.specs.Database.{StoredClause, known_of}
+use Rattle.sat_base.specs.Derivation.{Derivation, clause_of, all_known, is_derivation}
+use Rattle.sat_base.specs.Database.{StoredClause, known_of}
 use Rattle.gm_base.specs.Evidence.{left_out, selector_form, refutes}
-use Rattle.gm_base.proofs.Members.{In-from_map, all_from, any_at, any_from}
-use Rattle.gm_base.proofs.DatabaseLemmas.{get_in, named_at}
-use Rattle.gm_base.proofs.FollowsLemmas.{Holds}
+use Rattle.sat_base.proofs.Members.{In-from_map, all_from, any_at, any_from}
+use Rattle.sat_base.proofs.DatabaseLemmas.{get_in, named_at}
+use Rattle.sat_base.proofs.FollowsLemmas.{Holds}
 use Rattle.lrat_steps.specs.Log.{LogStep, Input, Core, lits_of, step_at, stored, inputs_of, db_of}
 use Rattle.lrat_steps.specs.Honest.{IsHonest}
 use Rattle.lrat_steps.specs.Trimmed.{IsTrimmed}

@@ -5,15 +5,15 @@ use Rattle.std.specs.List.{filter, range_with_len, AllByRecursion}
 use Rattle.std.proofs.lemmas.Bool.{or_cases, cases_Bool, false≢true, cond-true, cond-false, le-leb, lt-leb, eqb-true, eqb-false}
 use Rattle.std.proofs.lemmas.List.{map_more, map_push}
 use Rattle.gm_base.specs.declared.clause.Clause.{Clause}
-use Rattle.gm_base.specs.Members.{In}
-use Rattle.gm_base.specs.Literals.{var_of, IsLiteral, AreLiterals}
+use Rattle.sat_base.specs.Members.{In}
+use Rattle.sat_base.specs.Literals.{var_of, IsLiteral, AreLiterals}
 use Rattle.gm_base.specs.Sets.{has, IsSubset, all_groups}
 use Rattle.gm_base.specs.Problem.{Problem, IsClause, IsProblem}
 use Rattle.gm_base.specs.Evidence.{with_selector, selector_form}
-use Rattle.gm_base.proofs.Members.{In-from_map}
+use Rattle.sat_base.proofs.Members.{In-from_map}
 use Rattle.lrat_steps.specs.Log.{LogStep, Input, inputs_of, learned_count}
 use Rattle.lrat_steps.specs.Honest.{HonestFrom, IsHonest}
-use Rattle.gm_base.specs.Database.{StoredClause}
+use Rattle.sat_base.specs.Database.{StoredClause}
 use Rattle.lrat_steps.specs.Log.{stored}
 use Rattle.cdcl_core.specs.Answers.{IsConsistent}
 use Rattle.evidence_rec.specs.Asking.{IsHonestOver}

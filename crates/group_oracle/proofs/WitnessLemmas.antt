@@ -7,13 +7,13 @@ use Rattle.std.proofs.lemmas.List.{length-take, take-append-drop, get_or_append_
 use Rattle.std.proofs.lemmas.List.FromFn.{get_or-map-range_with_len}
 use Rattle.std.proofs.lemmas.List.Folds.{list_any-append}
 use Rattle.gm_base.specs.declared.clause.Clause.{Clause}
-use Rattle.gm_base.specs.Members.{In}
-use Rattle.gm_base.specs.Literals.{var_of, IsLiteral, AreLiterals, literal_true, clause_true}
+use Rattle.sat_base.specs.Members.{In}
+use Rattle.sat_base.specs.Literals.{var_of, IsLiteral, AreLiterals, literal_true, clause_true}
 use Rattle.gm_base.specs.Sets.{has, IsSubset, all_groups}
 use Rattle.gm_base.specs.Problem.{Problem, IsClause, IsProblem, is_present, satisfies}
 use Rattle.gm_base.specs.Evidence.{with_selector, selector_form, is_witness}
-use Rattle.gm_base.proofs.Members.{In-map, In-from_map, In-append_cases, all_at, all_from}
-use Rattle.gm_base.proofs.FollowsLemmas.{Holds, literal_true-neg}
+use Rattle.sat_base.proofs.Members.{In-map, In-from_map, In-append_cases, all_at, all_from}
+use Rattle.sat_base.proofs.FollowsLemmas.{Holds, literal_true-neg}
 use Rattle.cdcl_core.specs.Answers.{IsModel}
 use Rattle.group_oracle.specs.Selectors.{on, off}
 use Rattle.group_oracle.proofs.GroupLemmas.{abs_neg, has_in}

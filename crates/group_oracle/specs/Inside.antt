@@ -1,7 +1,7 @@
 -- What an oracle keeps between questions.
 use Rattle.std.specs.Prelude.{◌≡◌, ℕ, ◌+◌, ◌-◌, ◌<◌, ◌^◌, true, List, ℤ, Some, IfSome, slice_get}
 use Rattle.std.specs.Option.{option_map}
-use Rattle.gm_base.specs.Members.{In}
+use Rattle.sat_base.specs.Members.{In}
 use Rattle.gm_base.specs.Sets.{has}
 use Rattle.gm_base.specs.Problem.{IsProblem}
 use Rattle.lrat_steps.specs.Log.{LogStep, Core}

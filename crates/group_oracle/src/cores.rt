@@ -4,7 +4,7 @@
 //! groups are the core. Its literals come in any order, and may be repeated, so their groups are sorted and taken once.
 ghost use Rattle.std.specs.Prelude.{◌≡◌, ◌<◌, ◌-◌, map, IfOk, All};
 ghost use Rattle.std.specs.List.Sorted.{IsNonDecreasingBy};
-ghost use Rattle.gm_base.specs.Literals.{var_of};
+ghost use Rattle.sat_base.specs.Literals.{var_of};
 ghost use Rattle.group_oracle.specs.Selectors.{AreOff, AreGroupsOf, IsSetOf};
 
 use gm_base::{GroupSet, Lit};

@@ -6,14 +6,14 @@ use Rattle.std.proofs.Math.IntN.{neg_ℤ-neg_ℤ}
 use Rattle.std.proofs.lemmas.Bool.{false_from_ne_true, cases_lt, cases_eq}
 use Rattle.std.proofs.lemmas.Bool.Decides.{Decides-int_eq}
 use Rattle.std.proofs.lemmas.List.{reverse-append}
-use Rattle.gm_base.specs.Members.{In}
-use Rattle.gm_base.specs.Literals.{var_of}
-use Rattle.gm_base.specs.Derivation.{clause_of, contains_lit, follows}
-use Rattle.gm_base.specs.Database.{StoredClause, known_of}
-use Rattle.gm_base.specs.Units.{AllFalse, IsReason, IsUnset}
-use Rattle.gm_base.specs.Work.{TakesGreatest}
-use Rattle.gm_base.proofs.Members.{any_at, any_from, In-append_left, In-append_right, In-append_cases}
-use Rattle.gm_base.proofs.DatabaseLemmas.{get_in, named_range, named_is}
+use Rattle.sat_base.specs.Members.{In}
+use Rattle.sat_base.specs.Literals.{var_of}
+use Rattle.sat_base.specs.Derivation.{clause_of, contains_lit, follows}
+use Rattle.sat_base.specs.Database.{StoredClause, known_of}
+use Rattle.sat_base.specs.Units.{AllFalse, IsReason, IsUnset}
+use Rattle.sat_base.specs.Work.{TakesGreatest}
+use Rattle.sat_base.proofs.Members.{any_at, any_from, In-append_left, In-append_right, In-append_cases}
+use Rattle.sat_base.proofs.DatabaseLemmas.{get_in, named_range, named_is}
 use Rattle.clause_store.specs.Clauses.{no_clause, clause_at, IsId}
 use Rattle.trail_book.specs.declared.entry.Entry.{Entry}
 use Rattle.trail_book.specs.Trail.{trues, oldest, IsTrail}

@@ -6,10 +6,10 @@ use Rattle.std.specs.List.{list_all}
 use Rattle.std.specs.Option.{option_map_or}
 use Rattle.std.proofs.lemmas.Bool.{or_cases, or_left, or_right, false≢true, false_from_ne_true, cond-true, cond-false}
 use Rattle.std.proofs.lemmas.Bool.Decides.{Decides-int_eq}
-use Rattle.gm_base.specs.Derivation.{clause_of, contains_lit, open_lits, only_lit, is_nil, follows}
-use Rattle.gm_base.specs.Members.{In}
+use Rattle.sat_base.specs.Derivation.{clause_of, contains_lit, open_lits, only_lit, is_nil, follows}
+use Rattle.sat_base.specs.Members.{In}
 use Rattle.learn_step.specs.Leading.{AllAmong, AllAmongBut, Leads}
-use Rattle.gm_base.proofs.Members.{all_from}
+use Rattle.sat_base.proofs.Members.{all_from}
 
 -- each of these literals is among the others, by the test that `follows` makes
 abbrev pub Within : List ℤ → List ℤ → Type 0

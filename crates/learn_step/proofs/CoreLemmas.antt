@@ -2,11 +2,11 @@
 use Rattle.std.proofs.Common.{◌≡◌, ◌⊎◌, ℕ, ◌+◌, ◌<◌, List, [], ◌∷◌, ◌++◌, length, Some, None, refl, sym, ◌∙◌, ap, subst, inl, inr, arith, append_assoc}
 use Rattle.std.specs.Prelude.{ℤ, neg_ℤ, reverse}
 use Rattle.std.proofs.Math.IntN.{neg_ℤ-neg_ℤ}
-use Rattle.gm_base.specs.Members.{In}
-use Rattle.gm_base.specs.Literals.{var_of}
-use Rattle.gm_base.specs.Database.{StoredClause}
-use Rattle.gm_base.specs.Work.{TakesGreatest}
-use Rattle.gm_base.proofs.Members.{In-append_cases}
+use Rattle.sat_base.specs.Members.{In}
+use Rattle.sat_base.specs.Literals.{var_of}
+use Rattle.sat_base.specs.Database.{StoredClause}
+use Rattle.sat_base.specs.Work.{TakesGreatest}
+use Rattle.sat_base.proofs.Members.{In-append_cases}
 use Rattle.trail_book.specs.declared.entry.Entry.{Entry}
 use Rattle.trail_book.specs.Trail.{trues, oldest, IsTrail, IsPlace}
 use Rattle.trail_book.proofs.TrailLemmas.{trail_consistent, In-trues}

@@ -3,11 +3,11 @@ use Rattle.std.proofs.Common.{◌≡◌, ◌⊎◌, ℕ, ◌+◌, ◌-◌, ◌<�
 use Rattle.std.specs.Prelude.{ℤ, neg_ℤ, reverse}
 use Rattle.std.proofs.Math.IntN.{neg_ℤ-neg_ℤ}
 use Rattle.std.proofs.lemmas.Bool.{cases_lt}
-use Rattle.gm_base.specs.Members.{In}
-use Rattle.gm_base.specs.Database.{StoredClause}
-use Rattle.gm_base.specs.Units.{AllFalse}
-use Rattle.gm_base.specs.Work.{TakesGreatest}
-use Rattle.gm_base.proofs.Members.{In-append_left, In-append_right, In-append_cases}
+use Rattle.sat_base.specs.Members.{In}
+use Rattle.sat_base.specs.Database.{StoredClause}
+use Rattle.sat_base.specs.Units.{AllFalse}
+use Rattle.sat_base.specs.Work.{TakesGreatest}
+use Rattle.sat_base.proofs.Members.{In-append_left, In-append_right, In-append_cases}
 use Rattle.trail_book.specs.declared.entry.Entry.{Entry}
 use Rattle.trail_book.specs.Trail.{trues, level_after, top, keep, oldest, IsTrail}
 use Rattle.trail_book.proofs.TrailLemmas.{lit-keep_in, lit-keep_more, trail_consistent}

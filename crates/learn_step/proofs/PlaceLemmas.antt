@@ -4,13 +4,13 @@ use Rattle.std.specs.Prelude.{ℤ, pos, negsuc, neg_ℤ}
 use Rattle.std.proofs.Math.IntN.{neg_ℤ-neg_ℤ}
 use Rattle.std.proofs.lemmas.Bool.{cases_lt}
 use Rattle.std.proofs.lemmas.List.{take-append-drop, take_all}
-use Rattle.gm_base.specs.Members.{In}
-use Rattle.gm_base.specs.Literals.{var_of}
-use Rattle.gm_base.specs.Units.{IsUnset, HasValue}
-use Rattle.gm_base.specs.Work.{IsGreatest, HasMore}
-use Rattle.gm_base.specs.Database.{StoredClause}
-use Rattle.gm_base.proofs.Members.{In-append_left, In-append_right, In-append_cases, In-map, In-from_map}
-use Rattle.gm_base.proofs.DatabaseLemmas.{In-take_more, In-take_old, In-take_new}
+use Rattle.sat_base.specs.Members.{In}
+use Rattle.sat_base.specs.Literals.{var_of}
+use Rattle.sat_base.specs.Units.{IsUnset, HasValue}
+use Rattle.sat_base.specs.Work.{IsGreatest, HasMore}
+use Rattle.sat_base.specs.Database.{StoredClause}
+use Rattle.sat_base.proofs.Members.{In-append_left, In-append_right, In-append_cases, In-map, In-from_map}
+use Rattle.sat_base.proofs.DatabaseLemmas.{In-take_more, In-take_old, In-take_new}
 use Rattle.trail_book.specs.declared.entry.Entry.{Entry}
 use Rattle.trail_book.specs.Trail.{trues, top, keep, oldest, IsTrail, IsPlace}
 use Rattle.trail_book.proofs.TrailLemmas.{level_after-at_least, keep-over, keep-under, In-trues, lit-keep_in, trail_consistent, same_var}

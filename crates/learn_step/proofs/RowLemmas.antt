@@ -5,10 +5,10 @@ use Rattle.std.specs.Ordering.{int_eq}
 use Rattle.std.specs.List.{list_any, list_all}
 use Rattle.std.proofs.lemmas.Bool.{and_parts, or_cases, false≢true, cases_eq}
 use Rattle.std.proofs.lemmas.Bool.Decides.{Decides-int_eq}
-use Rattle.gm_base.specs.Derivation.{clause_of, contains_lit}
-use Rattle.gm_base.specs.Database.{StoredClause, known_of}
-use Rattle.gm_base.specs.Units.{IsReason}
-use Rattle.gm_base.proofs.Members.{all_at, any_from}
+use Rattle.sat_base.specs.Derivation.{clause_of, contains_lit}
+use Rattle.sat_base.specs.Database.{StoredClause, known_of}
+use Rattle.sat_base.specs.Units.{IsReason}
+use Rattle.sat_base.proofs.Members.{all_at, any_from}
 use Rattle.clause_store.specs.Clauses.{Clauses}
 use Rattle.trail_book.specs.declared.entry.Entry.{Entry}
 use Rattle.trail_book.specs.Trail.{Trail, trues, top}

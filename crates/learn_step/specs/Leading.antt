@@ -1,8 +1,8 @@
 -- Hints that lead from false literals to a false clause, built from the last to the first (LRAT: Cruz-Filipe and others
 -- 2017).
 use Rattle.std.specs.Prelude.{◌≡◌, ◌⊎◌, ℕ, true, List, [], ◌∷◌, ℤ, neg_ℤ, Some}
-use Rattle.gm_base.specs.Members.{In}
-use Rattle.gm_base.specs.Derivation.{clause_of, contains_lit}
+use Rattle.sat_base.specs.Members.{In}
+use Rattle.sat_base.specs.Derivation.{clause_of, contains_lit}
 
 -- each literal of the clause is among these
 abbrev pub AllAmong : List ℤ → List ℤ → Type 0

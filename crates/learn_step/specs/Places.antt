@@ -1,8 +1,8 @@
 -- Places on the trail, the oldest at 0, and the literals that the values there make false.
 use Rattle.std.specs.Prelude.{◌≡◌, ◌⊎◌, ℕ, ◌+◌, ◌<◌, ◌≤◌, List, [], ◌∷◌, ◌++◌, map, ℤ, pos, neg_ℤ, Option, Some, None}
-use Rattle.gm_base.specs.Members.{In}
-use Rattle.gm_base.specs.Literals.{var_of}
-use Rattle.gm_base.specs.Units.{HasValue}
+use Rattle.sat_base.specs.Members.{In}
+use Rattle.sat_base.specs.Literals.{var_of}
+use Rattle.sat_base.specs.Units.{HasValue}
 use Rattle.trail_book.specs.declared.entry.Entry.{Entry}
 use Rattle.trail_book.specs.Trail.{top, oldest, IsPlace}
 

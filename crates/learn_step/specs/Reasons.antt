@@ -1,9 +1,9 @@
 -- What conflict analysis needs of a trail.
 use Rattle.std.specs.Prelude.{◌≡◌, ℕ, ◌-◌, List, [], ◌∷◌, ℤ, neg_ℤ, Option, Some, None}
-use Rattle.gm_base.specs.Members.{In}
-use Rattle.gm_base.specs.Derivation.{clause_of}
-use Rattle.gm_base.specs.Database.{StoredClause, known_of}
-use Rattle.gm_base.specs.Units.{AllFalse, IsReason}
+use Rattle.sat_base.specs.Members.{In}
+use Rattle.sat_base.specs.Derivation.{clause_of}
+use Rattle.sat_base.specs.Database.{StoredClause, known_of}
+use Rattle.sat_base.specs.Units.{AllFalse, IsReason}
 use Rattle.trail_book.specs.declared.entry.Entry.{Entry}
 use Rattle.trail_book.specs.Trail.{trues, top, keep}
 use Rattle.learn_step.specs.declared.origin.Origin.{Origin}

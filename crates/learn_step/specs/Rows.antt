@@ -1,6 +1,6 @@
 -- A worked example: a trail on which the clauses 8 to 11 are falsified.
 use Rattle.std.specs.Prelude.{◌≡◌, ℕ, ◌<◌, ◌≤◌, true, false, List, [], ◌∷◌, ℤ, pos, neg_ℤ, Option, Some, None}
-use Rattle.gm_base.specs.Database.{StoredClause}
+use Rattle.sat_base.specs.Database.{StoredClause}
 use Rattle.clause_store.specs.Clauses.{Clauses}
 use Rattle.trail_book.specs.declared.entry.Entry.{Entry}
 use Rattle.trail_book.specs.Trail.{Trail, top}

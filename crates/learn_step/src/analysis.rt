@@ -10,7 +10,7 @@
 //! The clauses were used from the last to the first of a propagation that finds the clause at hand false: turned, their
 //! ids are the hints.
 ghost use Rattle.std.specs.Prelude.{◌≡◌, ◌<◌, ◌≤◌, List, [], ◌∷◌, ◌++◌, length, IfOk, OnOk, ℕ, reverse};
-ghost use Rattle.gm_base.specs.Work.{TakesGreatest};
+ghost use Rattle.sat_base.specs.Work.{TakesGreatest};
 ghost use Rattle.clause_store.specs.Clauses.{IsId, clause_at};
 ghost use Rattle.trail_book.specs.Trail.{trues};
 ghost use Rattle.learn_step.specs.Places.{AreBelow, HaveValues, HasPlaces, hint_of, IsHighest};
@@ -18,7 +18,7 @@ ghost use Rattle.learn_step.specs.Analysis.{IsBroughtIn};
 
 use crate::learnt::Learnt;
 use clause_store::Store;
-use gm_base::{Lit, WorkList};
+use sat_base::{Lit, WorkList};
 use smallvec::SmallVec;
 use std::alloc::{AllocError, Global};
 use trail_book::{Entry, Trail};

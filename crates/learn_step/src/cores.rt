@@ -3,7 +3,7 @@
 //! What is false under assumptions is made false by decisions: each other value has a clause that forced it, and that
 //! is resolved away. What is left is a clause of negated decisions (MiniSat's final conflict: Eén and Sörensson 2003).
 ghost use Rattle.std.specs.Prelude.{◌≡◌, ◌<◌, ◌≤◌, length, [], ◌∷◌, neg_ℤ, IfOk, OnOk};
-ghost use Rattle.gm_base.specs.Members.{In};
+ghost use Rattle.sat_base.specs.Members.{In};
 ghost use Rattle.trail_book.specs.Trail.{trues};
 ghost use Rattle.learn_step.specs.Reasons.{AreReasoned, IsFalse, IsFalseClause, IsDecision};
 ghost use Rattle.learn_step.specs.Learnt.{IsCore, start_of};
@@ -13,7 +13,7 @@ use crate::analysis::{Analysis, hint};
 use crate::learnt::Learnt;
 use crate::origin::Origin;
 use clause_store::Store;
-use gm_base::Lit;
+use sat_base::Lit;
 use std::alloc::{AllocError, Global};
 use trail_book::Trail;
 

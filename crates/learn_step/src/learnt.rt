@@ -1,5 +1,5 @@
 //! What conflict analysis gives.
-use gm_base::Lit;
+use sat_base::Lit;
 use smallvec::SmallVec;
 
 /// A clause, and the hints by which it follows by unit propagation.

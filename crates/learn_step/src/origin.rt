@@ -1,5 +1,5 @@
 //! What a core begins with.
-use gm_base::Lit;
+use sat_base::Lit;
 
 /// What was found false under assumptions.
 #[derive(Clone, Copy, Debug)]

@@ -1,15 +1,15 @@
 //! What is learnt from worked conflicts. The wanted clauses, hints and levels were worked out by hand.
 ghost use Rattle.std.specs.Prelude.{◌≡◌, ◌≤◌, [], ◌∷◌, IsTrue, IfSome, IfOk, None};
-ghost use Rattle.gm_base.specs.Literals.{IsLiteral};
-ghost use Rattle.gm_base.specs.Members.{In};
-ghost use Rattle.gm_base.specs.Units.{IsUnset};
+ghost use Rattle.sat_base.specs.Literals.{IsLiteral};
+ghost use Rattle.sat_base.specs.Members.{In};
+ghost use Rattle.sat_base.specs.Units.{IsUnset};
 ghost use Rattle.trail_book.specs.Trail.{trues};
 ghost use Rattle.learn_step.specs.Reasons.{IsDecision, IsFalse};
 ghost use Rattle.learn_step.specs.Rows.{IsExample, example_clauses, example_entries};
 
 use super::{Origin, core_of, learn};
 use clause_store::Store;
-use gm_base::Lit;
+use sat_base::Lit;
 use std::alloc::{AllocError, Global};
 use std::test::Fail;
 use trail_book::Trail;

@@ -4,9 +4,9 @@ use Rattle.std.proofs.Common.{◌≡◌, ℕ, Bool, true, false, not, ◌&&◌, 
 use Rattle.std.specs.Prelude.{ℤ, neg_ℤ, nat_lt, nat_le}
 use Rattle.std.specs.List.{list_any, list_all}
 use Rattle.std.proofs.lemmas.Bool.{and_parts, and_from, lt-ltb, le-leb, ltb-true, leb-true, true≢false}
-use Rattle.gm_base.specs.Literals.{var_of, IsLiteral, AreLiterals}
-use Rattle.gm_base.specs.Derivation.{contains_lit, is_step_clause}
-use Rattle.gm_base.proofs.Members.{all_at, any_from}
+use Rattle.sat_base.specs.Literals.{var_of, IsLiteral, AreLiterals}
+use Rattle.sat_base.specs.Derivation.{contains_lit, is_step_clause}
+use Rattle.sat_base.proofs.Members.{all_at, any_from}
 use Rattle.lrat_check.specs.Marks.{is_marked, AreMarked}
 
 abbrev fits : ℕ → List ℤ → ℤ → Bool

@@ -11,9 +11,9 @@ use Rattle.std.proofs.lemmas.Cmp.{ranked}
 use Rattle.std.proofs.lemmas.List.{map_push, length-map, get_or-map}
 use Rattle.std.proofs.lemmas.List.Elements.{All-drop, All-take}
 use Rattle.std.proofs.lemmas.List.Quantifiers.{all_pairs_push}
-use Rattle.gm_base.specs.Literals.{IsLiteral, AreLiterals}
-use Rattle.gm_base.specs.Derivation.{clause_of}
-use Rattle.gm_base.proofs.SpanLemmas.{range_before, range_at_end}
+use Rattle.sat_base.specs.Literals.{IsLiteral, AreLiterals}
+use Rattle.sat_base.specs.Derivation.{clause_of}
+use Rattle.sat_base.proofs.SpanLemmas.{range_before, range_at_end}
 use Rattle.std.proofs.lemmas.List.Elements.{recursion_from_All}
 use Rattle.lrat_check.specs.Refusal.{last_id}
 use Rattle.lrat_check.specs.Ids.{cut_by, IsWithin, Ascend, IsAt, HasNoId}

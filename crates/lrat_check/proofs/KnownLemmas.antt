@@ -3,7 +3,7 @@ use Rattle.std.proofs.Common.{◌≡◌, ℕ, zero, suc, ◌+◌, ◌-◌, ◌<�
 use Rattle.std.specs.Prelude.{ℤ}
 use Rattle.std.specs.Prelude.{nat_lt}
 use Rattle.std.proofs.lemmas.Bool.{and_from, lt-ltb, ltb-true}
-use Rattle.gm_base.specs.Derivation.{Step, numbered, is_step_clause, follows, steps_follow}
+use Rattle.sat_base.specs.Derivation.{Step, numbered, is_step_clause, follows, steps_follow}
 use Rattle.lrat_check.specs.Refusal.{last_id, IsStep}
 
 pub length-numbered : (i from : ℕ) (cs : List (List ℤ)) → i ≤ length cs → length (numbered from (take i cs)) ≡ i

@@ -3,7 +3,7 @@ use Rattle.std.proofs.Common.{◌≡◌, ℕ, ◌+◌, ◌-◌, ◌<◌, ◌≤�
 use Rattle.std.specs.Prelude.{ℤ}
 use Rattle.std.proofs.lemmas.List.{take-map, take-append-drop, take-append-le}
 use Rattle.std.proofs.lemmas.List.Elements.{All-push, All-append, All-from_recursion}
-use Rattle.gm_base.specs.Literals.{IsLiteral, AreLiterals}
+use Rattle.sat_base.specs.Literals.{IsLiteral, AreLiterals}
 use Rattle.lrat_check.specs.Refusal.{last_id}
 use Rattle.lrat_check.specs.Ids.{cut_by, IsWithin}
 use Rattle.lrat_check.specs.Inner.{AreLaidOut}

@@ -7,8 +7,8 @@ use Rattle.std.proofs.lemmas.Bool.Decides.{Decides-int_eq}
 use Rattle.std.proofs.lemmas.List.{get_or-set_same, get_or-set_other, take_more, get_or_default}
 use Rattle.std.proofs.lemmas.List.Folds.{list_any-append}
 use Rattle.std.proofs.lemmas.List.Elements.{All-append, All-take, All-from_recursion}
-use Rattle.gm_base.specs.Literals.{IsLiteral, AreLiterals}
-use Rattle.gm_base.specs.Derivation.{contains_lit, open_lits}
+use Rattle.sat_base.specs.Literals.{IsLiteral, AreLiterals}
+use Rattle.sat_base.specs.Derivation.{contains_lit, open_lits}
 use Rattle.lrat_check.specs.Marks.{place_of, is_marked, unmarked, HasPlaces, HavePlaces, AreMarked}
 
 pub int_eq-same : (l m : ℤ) → l ≡ m → int_eq l m ≡ true

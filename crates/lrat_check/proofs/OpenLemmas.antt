@@ -6,10 +6,10 @@ use Rattle.std.specs.List.{list_all}
 use Rattle.std.proofs.lemmas.Bool.{cond-true}
 use Rattle.std.proofs.lemmas.List.{take_all, take_more, take-append-drop}
 use Rattle.std.proofs.lemmas.List.Elements.{filter-append}
-use Rattle.gm_base.specs.Members.{In}
-use Rattle.gm_base.specs.Literals.{IsLiteral, AreLiterals}
-use Rattle.gm_base.specs.Derivation.{only_lit, is_nil}
-use Rattle.gm_base.proofs.Members.{In-append_left, In-append_right, In-append_cases, all_at, all_from}
+use Rattle.sat_base.specs.Members.{In}
+use Rattle.sat_base.specs.Literals.{IsLiteral, AreLiterals}
+use Rattle.sat_base.specs.Derivation.{only_lit, is_nil}
+use Rattle.sat_base.proofs.Members.{In-append_left, In-append_right, In-append_cases, all_at, all_from}
 use Rattle.lrat_check.specs.Marks.{is_marked, unmarked}
 use Rattle.lrat_check.proofs.MarkLemmas.{int_eq-same, int_eq-from}
 

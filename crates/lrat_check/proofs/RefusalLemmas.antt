@@ -4,7 +4,7 @@ use Rattle.std.specs.Prelude.{ℤ, neg_ℤ, nat_lt, if◌then◌else◌}
 use Rattle.std.specs.Option.{option_map_or}
 use Rattle.std.proofs.lemmas.Bool.{cond-false, true≢false, ltb-true, lt-ltb}
 use Rattle.std.proofs.Math.Seq.{drop-cons, drop-length}
-use Rattle.gm_base.specs.Derivation.{clause_of, open_lits, only_lit, is_nil, is_step_clause, follows}
+use Rattle.sat_base.specs.Derivation.{clause_of, open_lits, only_lit, is_nil, is_step_clause, follows}
 use Rattle.lrat_check.specs.declared.why.Why.{Why}
 use Rattle.lrat_check.specs.declared.why.Why.TheVariants.{UnknownHint, NotUnit, NotFalse, HintsLeft, IdNotRising, BadLiteral}
 use Rattle.lrat_check.specs.Refusal.{last_id, hints_refusal, step_refusal, IsStep}

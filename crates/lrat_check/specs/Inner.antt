@@ -1,6 +1,6 @@
 -- How a list of clauses lays them out, and what a checker keeps beside it.
 use Rattle.std.specs.Prelude.{◌≡◌, ℕ, ◌+◌, ◌-◌, ◌^◌, ◌<◌, ◌≤◌, List, map, take, length, All, ℤ, slice_index_or, vec_len, vec_capacity}
-use Rattle.gm_base.specs.Literals.{IsLiteral}
+use Rattle.sat_base.specs.Literals.{IsLiteral}
 use Rattle.lrat_check.specs.State.{State}
 use Rattle.lrat_check.specs.Ids.{cut_by, IsWithin, Ascend}
 use Rattle.lrat_check.specs.declared.clauses.ClauseRecord.{ClauseRecord}

@@ -1,7 +1,7 @@
 -- Literals marked in a table.
 use Rattle.std.specs.Prelude.{◌≡◌, ℕ, ◌+◌, ◌*◌, ◌<◌, Bool, false, not, List, length, All, ℤ, pos, negsuc, neg_ℤ, slice_index_or}
 use Rattle.std.specs.List.{filter}
-use Rattle.gm_base.specs.Derivation.{contains_lit}
+use Rattle.sat_base.specs.Derivation.{contains_lit}
 
 -- each variable has two places
 abbrev pub place_of : ℤ → ℕ

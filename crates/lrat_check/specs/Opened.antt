@@ -1,6 +1,6 @@
 -- What a look at a clause for literals that are not false answers.
 use Rattle.std.specs.Prelude.{◌≡◌, false, List, [], ℤ, Some, None}
-use Rattle.gm_base.specs.Derivation.{only_lit, is_nil}
+use Rattle.sat_base.specs.Derivation.{only_lit, is_nil}
 use Rattle.lrat_check.specs.declared.follow.Opened.{Opened}
 use Rattle.lrat_check.specs.declared.follow.Opened.TheVariants.{Nothing, One, Many}
 

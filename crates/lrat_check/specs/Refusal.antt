@@ -2,7 +2,7 @@
 -- with a reason for each refusal.
 use Rattle.std.specs.Prelude.{◌≡◌, ℕ, ◌-◌, ◌<◌, true, List, [], ◌∷◌, length, ℤ, neg_ℤ, nat_lt, Option, Some, None, if◌then◌else◌, slice_index_or}
 use Rattle.std.specs.Option.{option_map_or}
-use Rattle.gm_base.specs.Derivation.{clause_of, open_lits, only_lit, is_nil, is_step_clause, follows}
+use Rattle.sat_base.specs.Derivation.{clause_of, open_lits, only_lit, is_nil, is_step_clause, follows}
 use Rattle.lrat_check.specs.declared.why.Why.{Why}
 use Rattle.lrat_check.specs.declared.why.Why.TheVariants.{UnknownHint, NotUnit, NotFalse, HintsLeft, IdNotRising, BadLiteral}
 

@@ -6,14 +6,14 @@
 ghost use Rattle.std.specs.Prelude.{◌≡◌, ◌↔◌, ◌+◌, ◌<◌, ◌≤◌, ◌^◌, [], ◌∷◌, ◌++◌, length, take, None, IfOk, OnOk, OnErr, IsOk, IfSome, IsSome};
 ghost use Rattle.std.specs.List.{AllByRecursion};
 ghost use Rattle.std.specs.Option.{option_copied};
-ghost use Rattle.gm_base.specs.Literals.{AreLiterals};
-ghost use Rattle.gm_base.specs.Derivation.{clause_of, numbered};
+ghost use Rattle.sat_base.specs.Literals.{AreLiterals};
+ghost use Rattle.sat_base.specs.Derivation.{clause_of, numbered};
 
 use crate::clauses::ClauseList;
 use crate::follow::clause_refusal;
 use crate::marks::Marks;
 use crate::why::Why;
-use gm_base::{Lit, Lits};
+use sat_base::{Lit, Lits};
 use std::alloc::{AllocError, Global};
 use std::marker::Model;
 

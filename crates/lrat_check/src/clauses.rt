@@ -5,13 +5,13 @@
 //! left out, and else by halving.
 ghost use Rattle.std.specs.Prelude.{◌≡◌, ℕ, ◌+◌, ◌<◌, ◌≤◌, ◌^◌, [], ◌∷◌, ◌++◌, length, take, IfOk, IfSome, IfNone, OnOk, OnErr, IsOk};
 ghost use Rattle.std.specs.Option.{option_copied};
-ghost use Rattle.gm_base.specs.Literals.{AreLiterals};
-ghost use Rattle.gm_base.specs.Derivation.{clause_of};
+ghost use Rattle.sat_base.specs.Literals.{AreLiterals};
+ghost use Rattle.sat_base.specs.Derivation.{clause_of};
 ghost use Rattle.lrat_check.specs.Refusal.{last_id};
 ghost use Rattle.lrat_check.specs.State.{HasRoomFor};
 ghost use Rattle.lrat_check.specs.Ids.{Ascend, IsAt, HasNoId};
 
-use gm_base::Lit;
+use sat_base::Lit;
 use std::alloc::{AllocError, Global};
 use std::marker::Model;
 

@@ -5,8 +5,8 @@
 //! clause and is made true again, which changes nothing.
 ghost use Rattle.std.specs.Prelude.{◌≡◌, ◌↔◌, [], IsTrue, length, neg_ℤ};
 ghost use Rattle.std.specs.List.{list_any};
-ghost use Rattle.gm_base.specs.Literals.{AreLiterals};
-ghost use Rattle.gm_base.specs.Derivation.{contains_lit};
+ghost use Rattle.sat_base.specs.Literals.{AreLiterals};
+ghost use Rattle.sat_base.specs.Derivation.{contains_lit};
 ghost use Rattle.lrat_check.specs.Refusal.{hints_refusal, clause_refusal};
 ghost use Rattle.lrat_check.specs.Marks.{HasPlaces, HavePlaces, AreMarked, unmarked, is_marked};
 ghost use Rattle.lrat_check.specs.Opened.{IsOpened};
@@ -14,7 +14,7 @@ ghost use Rattle.lrat_check.specs.Opened.{IsOpened};
 use crate::clauses::ClauseList;
 use crate::marks::Marks;
 use crate::why::Why;
-use gm_base::Lit;
+use sat_base::Lit;
 
 /// Why a clause does not follow along the hints, with no literal marked at first. Marks stay behind.
 pub fn clause_refusal(

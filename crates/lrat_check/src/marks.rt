@@ -6,7 +6,7 @@
 ghost use Rattle.std.specs.Prelude.{◌≡◌, ◌<◌, ◌^◌, [], IfOk, length, true, set, EachIndex, slice_index};
 ghost use Rattle.lrat_check.specs.Marks.{place_of, is_marked, HasPlaces, AreMarked};
 
-use gm_base::Lit;
+use sat_base::Lit;
 use std::alloc::{AllocError, Global};
 use std::marker::Model;
 

@@ -1,6 +1,6 @@
 //! Steps over "1 or not 3" and "not 1 or not 4": what each is refused for, and what is kept.
 use crate::{Checked, Checker, Counts, Mismatch, Why};
-use gm_base::{Lit, Lits};
+use sat_base::{Lit, Lits};
 use std::alloc::{AllocError, Global};
 use std::test::Fail;
 

@@ -3,10 +3,10 @@ use Rattle.std.proofs.Common.{◌≡◌, ◌⊎◌, ℕ, ◌+◌, ◌<◌, ◌�
 use Rattle.std.proofs.Math.Nat.{le-max_left, le-max_right, max-le}
 use Rattle.std.proofs.lemmas.Bool.{cases_eq, cases_Bool, false≢true}
 use Rattle.std.proofs.lemmas.List.{take_more}
-use Rattle.gm_base.specs.Members.{In}
-use Rattle.gm_base.specs.Work.{HasMore, IsGreatest, LosesCopies}
-use Rattle.gm_base.proofs.Members.{In-append_cases, In-append_left, In-append_right}
-use Rattle.gm_base.proofs.DatabaseLemmas.{get_in}
+use Rattle.sat_base.specs.Members.{In}
+use Rattle.sat_base.specs.Work.{HasMore, IsGreatest, LosesCopies}
+use Rattle.sat_base.proofs.Members.{In-append_cases, In-append_left, In-append_right}
+use Rattle.sat_base.proofs.DatabaseLemmas.{get_in}
 use Rattle.lrat_steps.specs.Log.{LogStep}
 use Rattle.lrat_steps.specs.Cone.{is_input_at, hints_at, IsBackward, IsDerivedId, PutsDerived, IsReached, AreNeededIds, AreDerivedIds, IsCone}
 

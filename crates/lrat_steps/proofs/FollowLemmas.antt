@@ -4,10 +4,10 @@ use Rattle.std.specs.Prelude.{ℤ, neg_ℤ}
 use Rattle.std.specs.Option.{option_map_or}
 use Rattle.std.proofs.lemmas.Bool.{cases_Bool, false≢true}
 use Rattle.std.proofs.lemmas.List.{append-nil, length-take}
-use Rattle.gm_base.specs.Members.{In}
-use Rattle.gm_base.specs.Derivation.{clause_of, open_lits, only_lit, is_nil, follows}
-use Rattle.gm_base.specs.Database.{StoredClause, known_of}
-use Rattle.gm_base.proofs.DatabaseLemmas.{named_range}
+use Rattle.sat_base.specs.Members.{In}
+use Rattle.sat_base.specs.Derivation.{clause_of, open_lits, only_lit, is_nil, follows}
+use Rattle.sat_base.specs.Database.{StoredClause, known_of}
+use Rattle.sat_base.proofs.DatabaseLemmas.{named_range}
 use Rattle.lrat_steps.specs.Log.{LogStep, Input, Learned, Core, lits_of, hints_of, step_at, stored, db_of, inputs_of}
 use Rattle.lrat_steps.specs.Honest.{IsDerived, IsHonestStep, HonestFrom, IsHonest}
 use Rattle.lrat_steps.specs.Cone.{is_input, lits_at, hints_at, is_input_at, IsBackward, IsDerivedId}

@@ -4,7 +4,7 @@ use Rattle.std.specs.Prelude.{ℤ, slice_range}
 use Rattle.std.proofs.lemmas.Bool.{cases_lt}
 use Rattle.std.proofs.lemmas.List.{map_push, length-map, length-append, length_push, take-append-le, take_all, get_or_append_left, get_or_push}
 use Rattle.std.proofs.lemmas.List.Elements.{All-push}
-use Rattle.gm_base.proofs.SpanLemmas.{range_before, range_at_end}
+use Rattle.sat_base.proofs.SpanLemmas.{range_before, range_at_end}
 use Rattle.lrat_steps.specs.declared.step.StepKind.{StepKind}
 use Rattle.lrat_steps.specs.declared.step.StepKind.TheVariants as step_kind
 use Rattle.lrat_steps.specs.declared.log.StepRecord.{StepRecord}

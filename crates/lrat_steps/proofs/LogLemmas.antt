@@ -2,12 +2,12 @@
 use Rattle.std.proofs.Common.{◌≡◌, ℕ, ◌+◌, true, List, [], ◌∷◌, ◌++◌, refl, sym, ◌∙◌, ap, subst, inl, inr, append_assoc}
 use Rattle.std.specs.Prelude.{ℤ}
 use Rattle.std.proofs.lemmas.List.{append-nil}
-use Rattle.gm_base.specs.Literals.{var_of}
-use Rattle.gm_base.specs.Database.{StoredClause, IsLive}
-use Rattle.gm_base.specs.Members.{In}
+use Rattle.sat_base.specs.Literals.{var_of}
+use Rattle.sat_base.specs.Database.{StoredClause, IsLive}
+use Rattle.sat_base.specs.Members.{In}
 use Rattle.lrat_steps.specs.Log.{LogStep, Input, Learned, Core, inputs_of, learned_count, stored, db_of}
 use Rattle.lrat_steps.specs.Honest.{HasVar, IsHonestStep, HonestFrom, IsHonest}
-use Rattle.gm_base.proofs.Members.{In-append_left}
+use Rattle.sat_base.proofs.Members.{In-append_left}
 
 pub db_of-push : (log : List LogStep) (s : LogStep) → db_of (log ++ s ∷ []) ≡ db_of log ++ stored s ∷ []
 db_of-push [] s = refl

@@ -4,9 +4,9 @@ use Rattle.std.specs.Ordering.{nat_cmp}
 use Rattle.std.specs.List.Sorted.{IsBinarySearchResult}
 use Rattle.std.proofs.lemmas.Bool.{cases_eq, cases_lt, cond-true, cond-false, eq-eqb, ne_eqb}
 use Rattle.std.proofs.lemmas.List.Sorted.{searched}
-use Rattle.gm_base.specs.Members.{In}
-use Rattle.gm_base.proofs.Members.{In-append_cases}
-use Rattle.gm_base.proofs.DatabaseLemmas.{get_in}
+use Rattle.sat_base.specs.Members.{In}
+use Rattle.sat_base.proofs.Members.{In-append_cases}
+use Rattle.sat_base.proofs.DatabaseLemmas.{get_in}
 use Rattle.lrat_steps.specs.Cone.{Ascends, place_in}
 
 place-here : (x n : ℕ) (xs : List ℕ) → x ≡ n → place_in (x ∷ xs) n ≡ 0

@@ -1,11 +1,11 @@
 -- The clauses of an honest log are true wherever its inputs are.
 use Rattle.std.proofs.Common.{ℕ, ◌-◌, ◌<◌, ◌≤◌, Bool, true, List, [], ◌∷◌, ◌++◌, length, get_or, refl, sym, subst, inl, inr, arith}
 use Rattle.std.specs.Prelude.{ℤ}
-use Rattle.gm_base.specs.Members.{In}
-use Rattle.gm_base.specs.Database.{StoredClause, known_of}
-use Rattle.gm_base.proofs.Members.{In-append_cases}
-use Rattle.gm_base.proofs.DatabaseLemmas.{get_in, named_is, named_range}
-use Rattle.gm_base.proofs.FollowsLemmas.{Holds, KnownHold, follows-true}
+use Rattle.sat_base.specs.Members.{In}
+use Rattle.sat_base.specs.Database.{StoredClause, known_of}
+use Rattle.sat_base.proofs.Members.{In-append_cases}
+use Rattle.sat_base.proofs.DatabaseLemmas.{get_in, named_is, named_range}
+use Rattle.sat_base.proofs.FollowsLemmas.{Holds, KnownHold, follows-true}
 use Rattle.lrat_steps.specs.Log.{LogStep, Input, Learned, Core, lits_of, stored, inputs_of}
 use Rattle.lrat_steps.specs.Honest.{IsDerived, IsHonestStep, HonestFrom, IsHonest}
 

@@ -6,12 +6,12 @@ use Rattle.std.specs.Ordering.{int_eq}
 use Rattle.std.proofs.lemmas.Bool.{cond-true, cond-false, false≢true, and_from, lt-ltb, le-leb, false_from_ne_true}
 use Rattle.std.proofs.lemmas.Bool.Decides.{Decides-int_eq}
 use Rattle.std.proofs.lemmas.List.{append-nil, length-map, length-append, get_or-map, get_or_append_left, get_or-append-add, get_or_at, take-append-drop, map_push}
-use Rattle.gm_base.specs.Members.{In}
-use Rattle.gm_base.specs.Literals.{var_of, IsLiteral, AreLiterals}
-use Rattle.gm_base.specs.Derivation.{Step, numbered, clause_of, contains_lit, follows, is_step_clause, steps_follow, all_known}
-use Rattle.gm_base.specs.Database.{StoredClause, known_of}
-use Rattle.gm_base.proofs.Members.{In-map, In-append_right, all_from, any_from}
-use Rattle.gm_base.proofs.DatabaseLemmas.{named_at, named_is, named_more, named_range}
+use Rattle.sat_base.specs.Members.{In}
+use Rattle.sat_base.specs.Literals.{var_of, IsLiteral, AreLiterals}
+use Rattle.sat_base.specs.Derivation.{Step, numbered, clause_of, contains_lit, follows, is_step_clause, steps_follow, all_known}
+use Rattle.sat_base.specs.Database.{StoredClause, known_of}
+use Rattle.sat_base.proofs.Members.{In-map, In-append_right, all_from, any_from}
+use Rattle.sat_base.proofs.DatabaseLemmas.{named_at, named_is, named_more, named_range}
 use Rattle.lrat_steps.specs.Log.{LogStep, Input, Learned, Core, lits_of, stored, db_of, inputs_of}
 use Rattle.lrat_steps.specs.Honest.{IsProper, IsHonest}
 use Rattle.lrat_steps.specs.Trimmed.{AreNeeded, IsTrimmed}

@@ -1,7 +1,7 @@
 -- The steps that the clause of a step needs, and their numbers in a derivation of it.
 use Rattle.std.specs.Prelude.{◌≡◌, ◌⊎◌, ◌↔◌, ℕ, ◌+◌, ◌<◌, ◌≤◌, ◌==◌, Bool, true, false, List, [], ◌∷◌, map, length, take, ℤ, if◌then◌else◌}
-use Rattle.gm_base.specs.Members.{In}
-use Rattle.gm_base.specs.Derivation.{Step, Derivation}
+use Rattle.sat_base.specs.Members.{In}
+use Rattle.sat_base.specs.Derivation.{Step, Derivation}
 use Rattle.lrat_steps.specs.Log.{LogStep, Input, Learned, Core, lits_of, hints_of, step_at, inputs_of}
 
 abbrev pub is_input : LogStep → Bool

@@ -1,9 +1,9 @@
 -- Honest logs: each derived clause follows by its hints, and each learnt clause is new.
 use Rattle.std.specs.Prelude.{◌≡◌, ℕ, true, List, [], ◌∷◌, ◌++◌, ℤ, neg_ℤ}
-use Rattle.gm_base.specs.Literals.{var_of}
-use Rattle.gm_base.specs.Members.{In}
-use Rattle.gm_base.specs.Derivation.{follows}
-use Rattle.gm_base.specs.Database.{StoredClause, known_of, IsLive}
+use Rattle.sat_base.specs.Literals.{var_of}
+use Rattle.sat_base.specs.Members.{In}
+use Rattle.sat_base.specs.Derivation.{follows}
+use Rattle.sat_base.specs.Database.{StoredClause, known_of, IsLive}
 use Rattle.lrat_steps.specs.Log.{LogStep, Input, Learned, Core, stored, inputs_of}
 
 -- each literal of the first clause is in the second

@@ -1,7 +1,7 @@
 -- The log of a solver: the clauses that it was given, and the steps by which it derived others. The id of a step is its
 -- place, from 1 (LRAT: Cruz-Filipe, Heule, Hunt, Kaufmann and Schneider-Kamp 2017).
 use Rattle.std.specs.Prelude.{ℕ, ◌+◌, ◌-◌, Bool, true, false, List, [], ◌∷◌, map, ℤ, slice_index_or}
-use Rattle.gm_base.specs.Database.{StoredClause}
+use Rattle.sat_base.specs.Database.{StoredClause}
 use Rattle.lrat_steps.specs.declared.step.LogStep.TheVariants as log_step
 use Rattle.lrat_steps.specs.declared.step.LogStep as declared
 use Rattle.lrat_steps.specs.declared.step.StepKind.{StepKind}

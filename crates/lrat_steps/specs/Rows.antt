@@ -2,10 +2,10 @@
 -- case by case.
 use Rattle.std.specs.Prelude.{◌≡◌, ◌≢◌, true, List, [], ◌∷◌, take, pos, negsuc, neg_ℤ, ℤ}
 use Rattle.std.proofs.Common.{refl, sym, ap, subst, inl, inr}
-use Rattle.gm_base.specs.Literals.{var_of}
-use Rattle.gm_base.specs.Members.{In}
-use Rattle.gm_base.specs.Database.{StoredClause}
-use Rattle.gm_base.specs.Units.{IsLoose, IsFixpoint}
+use Rattle.sat_base.specs.Literals.{var_of}
+use Rattle.sat_base.specs.Members.{In}
+use Rattle.sat_base.specs.Database.{StoredClause}
+use Rattle.sat_base.specs.Units.{IsLoose, IsFixpoint}
 use Rattle.lrat_steps.specs.Log.{LogStep, Input, Learned, Core, db_of, inputs_of, learned_count}
 use Rattle.lrat_steps.specs.Honest.{HasVar, IsProper, IsDerived, IsNew, IsHonest, Subsumes}
 use Rattle.lrat_steps.specs.Undecided.{Choice, Consequence, Undecided}

@@ -1,9 +1,9 @@
 -- Derivations that hold only what their goal needs.
 use Rattle.std.specs.Prelude.{◌≡◌, ◌⊎◌, ℕ, ◌+◌, true, List, [], ◌∷◌, map, length, ℤ, Some}
 use Rattle.std.specs.List.{range_with_len}
-use Rattle.gm_base.specs.Members.{In}
-use Rattle.gm_base.specs.Literals.{AreLiterals}
-use Rattle.gm_base.specs.Derivation.{Step, Derivation, is_derivation, clause_of, all_known}
+use Rattle.sat_base.specs.Members.{In}
+use Rattle.sat_base.specs.Literals.{AreLiterals}
+use Rattle.sat_base.specs.Derivation.{Step, Derivation, is_derivation, clause_of, all_known}
 use Rattle.lrat_steps.specs.Log.{LogStep, inputs_of}
 
 -- the step is the goal, or a hint of a later one

@@ -1,9 +1,9 @@
 -- Clauses of which propagation, under some literals and some choices, has not yet told whether they can hold together: a
 -- search that stops here has a conflict before it from which it would learn.
 use Rattle.std.specs.Prelude.{List, [], ◌∷◌, map, ℤ, neg_ℤ}
-use Rattle.gm_base.specs.Members.{In}
-use Rattle.gm_base.specs.Database.{StoredClause, IsLive}
-use Rattle.gm_base.specs.Units.{AllTrue, AllFalse, IsConsequence, IsFixpoint}
+use Rattle.sat_base.specs.Members.{In}
+use Rattle.sat_base.specs.Database.{StoredClause, IsLive}
+use Rattle.sat_base.specs.Units.{AllTrue, AllFalse, IsConsequence, IsFixpoint}
 
 -- how a literal came onto a list
 pub data Mark : Type 0 where

@@ -4,13 +4,13 @@
 //! Each hint is below the id of its step, so handling ids from the greatest down meets each id after all that need it,
 //! and once. Inputs need nothing and are not followed. This costs what the cone costs, however long the log is.
 ghost use Rattle.std.specs.Prelude.{◌≡◌, ◌<◌, ◌≤◌, ◌∷◌, [], length, IfOk, OnOk};
-ghost use Rattle.gm_base.specs.Members.{In};
+ghost use Rattle.sat_base.specs.Members.{In};
 ghost use Rattle.lrat_steps.specs.Log.{kind_of, step_at};
 ghost use Rattle.lrat_steps.specs.Cone.{is_input_at, hints_at, IsBackward, IsDerivedId, PutsDerived, IsCone};
 
 use crate::log::Log;
 use crate::step::StepKind;
-use gm_base::WorkList;
+use sat_base::WorkList;
 use std::alloc::{AllocError, Global};
 
 /// The ids of the derived steps that a goal needs, ascending.

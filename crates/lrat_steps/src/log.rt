@@ -6,8 +6,8 @@
 //! record of where its own begin and end. Each record counts the inputs up to its step: so the number of an input
 //! among the inputs, which a derivation goes by, is read off in one step, wherever the input stands in the log.
 ghost use Rattle.std.specs.Prelude.{◌≡◌, ◌<◌, ◌≤◌, ◌++◌, ◌∷◌, [], length, IfOk, OnOk, OnErr, Some, List, ℤ};
-ghost use Rattle.gm_base.specs.Derivation.{clause_of};
-ghost use Rattle.gm_base.specs.Database.{known_of};
+ghost use Rattle.sat_base.specs.Derivation.{clause_of};
+ghost use Rattle.sat_base.specs.Database.{known_of};
 ghost use Rattle.lrat_steps.specs.Log.{step_of, step_at, lits_of, hints_of, kind_of, learned_count, inputs_of, db_of};
 ghost use Rattle.lrat_steps.specs.Cone.{inputs_up_to};
 ghost use Rattle.lrat_steps.specs.Honest.{IsHonest};
@@ -17,7 +17,7 @@ use crate::arena::{end_of, push_hints};
 use crate::cone::cone_of;
 use crate::renumber::derivation_of;
 use crate::step::{LogStep, StepKind, counts_of, parts_of};
-use gm_base::{Derivation, Lit};
+use sat_base::{Derivation, Lit};
 use std::alloc::{AllocError, Global};
 use std::marker::Model;
 

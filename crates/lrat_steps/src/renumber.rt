@@ -3,13 +3,13 @@
 //! A derivation numbers its clauses anew: the inputs from 1, in the order of the log, and the steps on from there. So
 //! an input gets its number among the inputs, and a derived step its place among those that the goal needs.
 ghost use Rattle.std.specs.Prelude.{◌≡◌, ℕ, ◌<◌, ◌≤◌, length, map, All, IfOk, OnOk};
-ghost use Rattle.gm_base.specs.Derivation.{max_id};
+ghost use Rattle.sat_base.specs.Derivation.{max_id};
 ghost use Rattle.lrat_steps.specs.Cone.{IsBackward, IsCone, AreDerivedIds, IsReached, Ascends, place_in, number_in, hints_at, trimmed};
-ghost use Rattle.gm_base.specs.Members.{In};
+ghost use Rattle.sat_base.specs.Members.{In};
 
 use crate::cone::is_input;
 use crate::log::Log;
-use gm_base::Derivation;
+use sat_base::Derivation;
 use std::alloc::{AllocError, Global};
 
 /// The derivation of a goal's clause by the steps of its cone.

@@ -3,7 +3,7 @@ ghost use Rattle.std.specs.Prelude.{◌≡◌, ◌+◌, ◌≤◌, length};
 ghost use Rattle.lrat_steps.specs.Log.{step_of};
 ghost use Rattle.lrat_steps.specs.Parts.{step_with, inputs_in, learned_in};
 
-use gm_base::Lit;
+use sat_base::Lit;
 
 /// A step, as it is handed to a log.
 #[derive(Clone, Copy)]

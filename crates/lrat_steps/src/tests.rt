@@ -2,7 +2,7 @@ ghost use Rattle.std.specs.Prelude.{◌≡◌, IfOk};
 ghost use Rattle.lrat_steps.specs.Rows.{worked_log};
 
 use super::*;
-use gm_base::{Derivation, Lit};
+use sat_base::{Derivation, Lit};
 use std::alloc::{AllocError, Global};
 use std::test::Fail;
 

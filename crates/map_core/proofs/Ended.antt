@@ -5,7 +5,7 @@ use Rattle.std.specs.List.{list_any, AllByRecursion}
 use Rattle.std.proofs.lemmas.Bool.{false≢true, true≢false, or_from, cases_Bool, ltb-true, ltb-false}
 use Rattle.std.proofs.lemmas.List.Sums.{sum_by-cons}
 use Rattle.lrat_steps.specs.Log.{LogStep}
-use Rattle.gm_base.specs.Derivation.{Derivation}
+use Rattle.sat_base.specs.Derivation.{Derivation}
 use Rattle.gm_base.specs.Explored.{Found}
 use Rattle.evidence_rec.specs.Seeding.{shows_all_explored}
 use Rattle.map_core.specs.declared.entry.Entry.{Entry}

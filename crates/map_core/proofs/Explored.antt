@@ -4,13 +4,13 @@ use Rattle.std.specs.List.{list_all, AllByRecursion}
 use Rattle.std.specs.Cmp.Lexicographic.{bytes_decides}
 use Rattle.std.proofs.lemmas.Bool.{false≢true, true≢false, or_cases, or_left, or_right, and_parts, and_from, eqb-true, eq-eqb, cases_Bool, cases_lt, false_from_ne_true}
 use Rattle.gm_base.specs.Sets.{AscendsAbove, IsGroupSet, has, IsSubset, IsProperSubset, all_groups, complement}
-use Rattle.gm_base.specs.Members.{In}
+use Rattle.sat_base.specs.Members.{In}
 use Rattle.gm_base.specs.Problem.{Problem, IsProblem, Sat}
 use Rattle.gm_base.specs.Minimal.{IsConflict, IsCorrection}
 use Rattle.gm_base.specs.Explored.{explores, is_explored, AllExplored}
 use Rattle.gm_base.specs.declared.kind.Kind.{Kind}
 use Rattle.gm_base.specs.declared.kind.Kind.TheVariants.{Conflict as OfConflict, Correction as OfCorrection}
-use Rattle.gm_base.proofs.Members.{In-from_map, all_at, any_at, any_from}
+use Rattle.sat_base.proofs.Members.{In-from_map, all_at, any_at, any_from}
 use Rattle.gm_base.proofs.SetLemmas.{has-complement, IsSubset-from_all, IsGroupSet-complement, not_has-bound}
 use Rattle.gm_base.proofs.SatLemmas.{Sat-subset}
 use Rattle.evidence_rec.specs.declared.record.Record.{Record}

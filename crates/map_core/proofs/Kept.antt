@@ -5,7 +5,7 @@ use Rattle.std.proofs.lemmas.List.{get_or_default, length-set, take-append-le}
 use Rattle.std.proofs.lemmas.List.Sums.{sum_by-set, sum_by_push, get_or-le-sum_by, count_by-le-length}
 use Rattle.gm_base.specs.Problem.{Problem}
 use Rattle.gm_base.specs.Explored.{Found}
-use Rattle.gm_base.specs.Derivation.{Derivation}
+use Rattle.sat_base.specs.Derivation.{Derivation}
 use Rattle.lrat_steps.specs.Log.{db_of, learned_count}
 use Rattle.lrat_steps.specs.Undecided.{Undecided}
 use Rattle.evidence_rec.specs.Seeding.{EngineState, IsHonestMap, shows_all_explored}

@@ -1,7 +1,7 @@
 -- What a take decides before it is written down.
 use Rattle.std.specs.Prelude.{◌≡◌, ℕ, ◌+◌, ◌<◌, ◌^◌, Bool, true, false, List, Option, MatchOption}
 use Rattle.gm_base.specs.Explored.{Found}
-use Rattle.gm_base.specs.Derivation.{Derivation}
+use Rattle.sat_base.specs.Derivation.{Derivation}
 use Rattle.evidence_rec.specs.Seeding.{EngineState, shows_all_explored}
 use Rattle.map_core.specs.declared.turn.Turn.{Turn}
 use Rattle.map_core.specs.declared.ask.TakeAnswer.{TakeAnswer}

@@ -8,13 +8,13 @@ use Rattle.std.proofs.lemmas.List.Elements.{filter-append}
 use Rattle.std.proofs.lemmas.List.Folds.{list_any-append}
 use Rattle.gm_base.specs.declared.clause.Clause.{Clause}
 use Rattle.gm_base.specs.Sets.{AscendsAbove, IsGroupSet, has, IsSubset, without, all_groups, complement}
-use Rattle.gm_base.specs.Derivation.{Derivation}
-use Rattle.gm_base.specs.Literals.{clause_true}
+use Rattle.sat_base.specs.Derivation.{Derivation}
+use Rattle.sat_base.specs.Literals.{clause_true}
 use Rattle.gm_base.specs.Problem.{Problem, satisfies, is_present}
 use Rattle.gm_base.specs.Index.{group_true}
-use Rattle.gm_base.specs.Members.{In}
+use Rattle.sat_base.specs.Members.{In}
 use Rattle.gm_base.specs.Evidence.{refutes, is_witness, each_passes, AcceptsCorrection}
-use Rattle.gm_base.proofs.Members.{all_at, all_from}
+use Rattle.sat_base.proofs.Members.{all_at, all_from}
 use Rattle.gm_base.proofs.SetLemmas.{has-without, has-filter, has-complement, complement_more, IsGroupSet-complement, AscendsAbove-above}
 use Rattle.evidence_rec.proofs.EvidenceLemmas.{is_witness-subset, each_passes-push, length-each_passes}
 use Rattle.evidence_rec.proofs.RefutesLemmas.{refutes-subset}

@@ -5,7 +5,7 @@ use Rattle.std.specs.List.{filter, AllByRecursion}
 use Rattle.std.proofs.lemmas.Bool.{false≢true, and_parts, and_from, cond-true, cond-false, cases_Bool, cases_lt, eqb-true, eq-eqb, false_from_ne_true}
 use Rattle.std.proofs.lemmas.List.Elements.{filter-append, All-from_recursion}
 use Rattle.gm_base.specs.Sets.{AscendsAbove, IsGroupSet, has, IsSubset, without}
-use Rattle.gm_base.specs.Derivation.{Derivation}
+use Rattle.sat_base.specs.Derivation.{Derivation}
 use Rattle.gm_base.specs.Problem.{Problem, Sat, satisfies}
 use Rattle.gm_base.specs.Evidence.{refutes, is_witness, each_passes, AcceptsConflict}
 use Rattle.gm_base.proofs.SetLemmas.{has-without, has-filter, AscendsAbove-filter}

@@ -6,11 +6,11 @@ use Rattle.gm_base.specs.declared.kind.Kind.{Kind}
 use Rattle.gm_base.specs.declared.kind.Kind.TheVariants.{Conflict, Correction}
 use Rattle.gm_base.specs.declared.kind.Side.{Side}
 use Rattle.gm_base.specs.declared.kind.Side.TheVariants.{Up, Down}
-use Rattle.gm_base.specs.Members.{In}
-use Rattle.gm_base.specs.Literals.{var_of, IsLiteral, AreLiterals}
+use Rattle.sat_base.specs.Members.{In}
+use Rattle.sat_base.specs.Literals.{var_of, IsLiteral, AreLiterals}
 use Rattle.gm_base.specs.Sets.{has, IsSubset, all_groups}
 use Rattle.gm_base.specs.Explored.{Found, block_of, block_clause}
-use Rattle.gm_base.proofs.Members.{In-from_map, any_at}
+use Rattle.sat_base.proofs.Members.{In-from_map, any_at}
 use Rattle.gm_base.proofs.SetLemmas.{all_groups-has}
 use Rattle.power_map.specs.Blocks.{block_lit, blocks_of}
 

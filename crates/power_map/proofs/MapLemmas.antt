@@ -8,16 +8,16 @@ use Rattle.std.proofs.lemmas.List.{length-map, get_or-map, get_or_append_left, l
 use Rattle.std.proofs.lemmas.Option.{slice_get_within, get_or_from_slice_get, slice_get-get_or}
 use Rattle.gm_base.specs.declared.kind.Side.{Side}
 use Rattle.gm_base.specs.declared.kind.Side.TheVariants.{Up, Down}
-use Rattle.gm_base.specs.Members.{In}
-use Rattle.gm_base.specs.Literals.{literal_true, clause_true, AreLiterals}
+use Rattle.sat_base.specs.Members.{In}
+use Rattle.sat_base.specs.Literals.{literal_true, clause_true, AreLiterals}
 use Rattle.gm_base.specs.Sets.{IsSubset, all_groups}
 use Rattle.gm_base.specs.Explored.{Found, block_of, block_clause, groups_true, is_model, IsUnexplored, AllExplored}
-use Rattle.gm_base.specs.Derivation.{Derivation, clause_of, all_known, is_derivation}
-use Rattle.gm_base.specs.Database.{StoredClause, known_of}
-use Rattle.gm_base.proofs.Members.{In-append_cases, In-from_map, all_at, all_from, any_from}
-use Rattle.gm_base.proofs.DatabaseLemmas.{get_in, named_at}
+use Rattle.sat_base.specs.Derivation.{Derivation, clause_of, all_known, is_derivation}
+use Rattle.sat_base.specs.Database.{StoredClause, known_of}
+use Rattle.sat_base.proofs.Members.{In-append_cases, In-from_map, all_at, all_from, any_from}
+use Rattle.sat_base.proofs.DatabaseLemmas.{get_in, named_at}
 use Rattle.gm_base.proofs.ExploredLemmas.{AreWithin, models-unexplored, IsUnexplored-from_model, all_explored-no_model}
-use Rattle.gm_base.proofs.FollowsLemmas.{Holds}
+use Rattle.sat_base.proofs.FollowsLemmas.{Holds}
 use Rattle.lrat_steps.specs.Log.{LogStep, Input, Core, lits_of, stored, inputs_of, db_of}
 use Rattle.lrat_steps.specs.Trimmed.{IsTrimmed}
 use Rattle.lrat_steps.proofs.LogLemmas.{inputs-push_input, honest-input}

@@ -3,7 +3,7 @@ use Rattle.std.proofs.Common.{◌≡◌, ℕ, suc, ◌+◌, ◌-◌, Bool, true,
 use Rattle.std.specs.Prelude.{ℤ, pos}
 use Rattle.std.specs.List.{filter, range_with_len}
 use Rattle.std.proofs.lemmas.List.Elements.{filter-append}
-use Rattle.gm_base.specs.Literals.{literal_true}
+use Rattle.sat_base.specs.Literals.{literal_true}
 use Rattle.gm_base.specs.Sets.{IsGroupSet}
 use Rattle.gm_base.proofs.SetLemmas.{AscendsAbove-filter, AscendsAbove-range, range_with_len_more}
 

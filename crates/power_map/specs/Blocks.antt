@@ -2,7 +2,7 @@
 use Rattle.std.specs.Prelude.{ℕ, List, [], ◌∷◌, map, ℤ, pos, neg_ℤ}
 use Rattle.gm_base.specs.declared.kind.Side.{Side}
 use Rattle.gm_base.specs.declared.kind.Side.TheVariants.{Up, Down}
-use Rattle.gm_base.specs.Literals.{var_of}
+use Rattle.sat_base.specs.Literals.{var_of}
 use Rattle.gm_base.specs.Explored.{Found, block_of}
 
 -- the literal of a group in the clause of a block on this side

@@ -1,7 +1,7 @@
 -- What a map keeps between calls.
 use Rattle.std.specs.Prelude.{◌≡◌, ℕ, ◌<◌, ◌^◌, Bool, true, false, List, [], length, Option, Some, None, IfSome}
 use Rattle.gm_base.specs.declared.kind.Side.{Side}
-use Rattle.gm_base.specs.Members.{In}
+use Rattle.sat_base.specs.Members.{In}
 use Rattle.gm_base.specs.Sets.{IsSubset, all_groups}
 use Rattle.gm_base.specs.Explored.{Found}
 use Rattle.lrat_steps.specs.Log.{LogStep, inputs_of}

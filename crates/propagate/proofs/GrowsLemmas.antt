@@ -1,9 +1,9 @@
 -- How trails grow by propagation.
 use Rattle.std.proofs.Common.{◌≡◌, ℕ, ◌≤◌, List, [], ◌∷◌, length, refl, sym, ap, subst, inl, inr, arith}
 use Rattle.std.specs.Prelude.{ℤ}
-use Rattle.gm_base.specs.Members.{In}
-use Rattle.gm_base.specs.Literals.{IsLiteral, AreLiterals}
-use Rattle.gm_base.specs.Database.{StoredClause}
+use Rattle.sat_base.specs.Members.{In}
+use Rattle.sat_base.specs.Literals.{IsLiteral, AreLiterals}
+use Rattle.sat_base.specs.Database.{StoredClause}
 use Rattle.trail_book.specs.declared.entry.Entry.{Entry}
 use Rattle.propagate.specs.Propagation.{Grows}
 

@@ -2,10 +2,10 @@
 use Rattle.std.proofs.Common.{◌≡◌, ◌≢◌, ℕ, zero, suc, ◌+◌, ◌<◌, ◌≤◌, true, List, [], ◌∷◌, length, take, get_or, sym, ◌∙◌, ap, subst, inl, inr}
 use Rattle.std.specs.Prelude.{ℤ, neg_ℤ}
 use Rattle.std.proofs.lemmas.List.{take_all}
-use Rattle.gm_base.specs.Members.{In}
-use Rattle.gm_base.specs.Database.{StoredClause}
-use Rattle.gm_base.specs.Units.{IsUnset, AllFalse, IsLoose, IsFixpoint, IsReason, IsConsequence, IsFalsified}
-use Rattle.gm_base.proofs.DatabaseLemmas.{get_in, In-take_more, In-take_old, In-take_new, named_at, live_at}
+use Rattle.sat_base.specs.Members.{In}
+use Rattle.sat_base.specs.Database.{StoredClause}
+use Rattle.sat_base.specs.Units.{IsUnset, AllFalse, IsLoose, IsFixpoint, IsReason, IsConsequence, IsFalsified}
+use Rattle.sat_base.proofs.DatabaseLemmas.{get_in, In-take_more, In-take_old, In-take_new, named_at, live_at}
 use Rattle.clause_store.specs.Clauses.{no_clause, clause_at, IsId}
 use Rattle.propagate.specs.Propagation.{IsForcing}
 

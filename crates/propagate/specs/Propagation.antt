@@ -1,8 +1,8 @@
 -- What propagation adds to the trail, and what its answer says.
 use Rattle.std.specs.Prelude.{◌≡◌, ◌⊎◌, ℕ, Bool, true, false, List, [], ◌∷◌, length, ℤ, Option, Some, None}
-use Rattle.gm_base.specs.Database.{StoredClause}
-use Rattle.gm_base.specs.Members.{In}
-use Rattle.gm_base.specs.Units.{AllFalse, AllFalseBut, IsUnset, IsLoose, IsReason, IsConsequence, IsFixpoint, IsFalsified}
+use Rattle.sat_base.specs.Database.{StoredClause}
+use Rattle.sat_base.specs.Members.{In}
+use Rattle.sat_base.specs.Units.{AllFalse, AllFalseBut, IsUnset, IsLoose, IsReason, IsConsequence, IsFixpoint, IsFalsified}
 use Rattle.clause_store.specs.Clauses.{clause_at}
 use Rattle.trail_book.specs.declared.entry.Entry.{Entry}
 use Rattle.trail_book.specs.Trail.{trues}

@@ -4,14 +4,14 @@
 //! it. When a round has added nothing, it has seen every live clause under the values that stand now, and found none
 //! falsified and none unit. Each other round has added a value, so there are no more rounds than variables, and one.
 ghost use Rattle.std.specs.Prelude.{◌≡◌, ◌↔◌, ◌<◌, IsTrue};
-ghost use Rattle.gm_base.specs.Literals.{AreLiterals};
+ghost use Rattle.sat_base.specs.Literals.{AreLiterals};
 ghost use Rattle.trail_book.specs.Trail.{trues, IsTrail};
 ghost use Rattle.clause_store.specs.Clauses.{IsId};
 ghost use Rattle.propagate.specs.Propagation.{Grows, Tells, IsSeen, TellsRound, TellsVisit};
 
 use crate::propagated::Propagated;
 use clause_store::Store;
-use gm_base::Lit;
+use sat_base::Lit;
 use trail_book::Trail;
 
 /// Makes each literal true that a live clause forces, until a clause is falsified or none forces one.

@@ -1,7 +1,7 @@
 //! What is forced, by which clause, and which clause is falsified.
 use crate::{Propagated, propagate};
 use clause_store::Store;
-use gm_base::Lit;
+use sat_base::Lit;
 use std::alloc::AllocError;
 use trail_book::Trail;
 

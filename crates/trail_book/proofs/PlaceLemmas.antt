@@ -1,9 +1,9 @@
 -- The places of entries on a trail.
 use Rattle.std.proofs.Common.{◌≡◌, ℕ, ◌+◌, ◌-◌, ◌<◌, ◌≤◌, List, [], ◌∷◌, length, drop, refl, sym, ◌∙◌, ap, subst, inl, inr, arith, zero, suc}
 use Rattle.std.specs.Prelude.{ℤ, pos, neg_ℤ}
-use Rattle.gm_base.specs.Literals.{var_of, IsLiteral}
-use Rattle.gm_base.specs.Members.{In}
-use Rattle.gm_base.specs.Units.{IsUnset, HasValue}
+use Rattle.sat_base.specs.Literals.{var_of, IsLiteral}
+use Rattle.sat_base.specs.Members.{In}
+use Rattle.sat_base.specs.Units.{IsUnset, HasValue}
 use Rattle.trail_book.specs.declared.entry.Entry.{Entry}
 use Rattle.trail_book.specs.Trail.{trues, oldest, IsTrail, IsPlace}
 use Rattle.trail_book.proofs.TrailLemmas.{In-from_trues, trail_vars, same_var}

@@ -3,9 +3,9 @@ use Rattle.std.proofs.Common.{◌≡◌, ℕ, ◌+◌, ◌-◌, ◌<◌, ◌≤�
 use Rattle.std.specs.Prelude.{ℤ, pos, reverse, slice_index_or, ◌==◌, None}
 use Rattle.std.proofs.lemmas.List.{reverse-append, length-reverse, take-append-drop, take_more, drop_at, length-map, map-append, take-set-le, drop-set-lt}
 use Rattle.std.proofs.lemmas.Bool.{cases_lt, cond-false, ne_eqb}
-use Rattle.gm_base.specs.Literals.{var_of, IsLiteral}
-use Rattle.gm_base.specs.Members.{In}
-use Rattle.gm_base.specs.Units.{IsUnset, HasValue}
+use Rattle.sat_base.specs.Literals.{var_of, IsLiteral}
+use Rattle.sat_base.specs.Members.{In}
+use Rattle.sat_base.specs.Units.{IsUnset, HasValue}
 use Rattle.trail_book.specs.declared.entry.Entry.{Entry}
 use Rattle.trail_book.specs.declared.slot.Slot.{Slot}
 use Rattle.trail_book.specs.Trail.{trues, level_after, top, oldest, IsTrail, IsPlace, with_unit}

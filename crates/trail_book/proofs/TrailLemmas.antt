@@ -6,10 +6,10 @@ use Rattle.std.proofs.lemmas.Bool.{eq-eqb, ne_eqb, cond-true, cond-false, cases_
 use Rattle.std.proofs.lemmas.Bool.Decides.{leb_tells}
 use Rattle.std.proofs.lemmas.List.{length-map}
 use Rattle.std.proofs.Math.IntN.{neg_ℤ-neg_ℤ}
-use Rattle.gm_base.specs.Literals.{var_of, IsLiteral}
-use Rattle.gm_base.specs.Members.{In}
-use Rattle.gm_base.specs.Units.{IsUnset}
-use Rattle.gm_base.proofs.Members.{In-append_right, In-map, In-from_map}
+use Rattle.sat_base.specs.Literals.{var_of, IsLiteral}
+use Rattle.sat_base.specs.Members.{In}
+use Rattle.sat_base.specs.Units.{IsUnset}
+use Rattle.sat_base.proofs.Members.{In-append_right, In-map, In-from_map}
 use Rattle.trail_book.specs.declared.entry.Entry.{Entry}
 use Rattle.trail_book.specs.Trail.{trues, level_after, top, keep, oldest, IsTrail, with_unit}
 

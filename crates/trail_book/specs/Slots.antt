@@ -1,6 +1,6 @@
 -- How a trail keeps its entries: a table of slots, which stand here the newest first.
 use Rattle.std.specs.Prelude.{◌≡◌, ℕ, ◌-◌, List, [], ◌∷◌, length, map, Option, Some, None, ◌==◌, if◌then◌else◌, slice_index_or}
-use Rattle.gm_base.specs.Literals.{var_of}
+use Rattle.sat_base.specs.Literals.{var_of}
 use Rattle.trail_book.specs.declared.entry.Entry.{Entry}
 use Rattle.trail_book.specs.declared.slot.Slot.{Slot}
 use Rattle.trail_book.specs.Trail.{top}

@@ -1,7 +1,7 @@
 -- The trail: the literals that are true, the newest first, each with what made it true (MiniSat: Eén and Sörensson 2003).
 use Rattle.std.specs.Prelude.{◌≡◌, ℕ, ◌+◌, ◌-◌, ◌<◌, List, [], ◌∷◌, length, map, drop, ℤ, Option, Some, None, ◌==◌, nat_le, if◌then◌else◌}
-use Rattle.gm_base.specs.Literals.{var_of, IsLiteral}
-use Rattle.gm_base.specs.Units.{IsUnset}
+use Rattle.sat_base.specs.Literals.{var_of, IsLiteral}
+use Rattle.sat_base.specs.Units.{IsUnset}
 use Rattle.trail_book.specs.declared.entry.Entry.{Entry}
 
 -- what a trail is to its callers

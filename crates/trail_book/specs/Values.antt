@@ -1,6 +1,6 @@
 -- The values of variables, against the literals that are true.
 use Rattle.std.specs.Prelude.{ℕ, ◌+◌, ◌<◌, List, true, false, ℤ, pos, negsuc, Bool, Option, Some, None, slice_index_or}
-use Rattle.gm_base.specs.Units.{IsValue}
+use Rattle.sat_base.specs.Units.{IsValue}
 use Rattle.trail_book.specs.declared.value.Value.{Value}
 use Rattle.trail_book.specs.declared.value.Value.TheVariants.{Unset, True, False}
 

@@ -1,5 +1,5 @@
 //! Entries of the trail.
-use gm_base::Lit;
+use sat_base::Lit;
 
 /// A literal that is true, and what a derivation names for it.
 #[derive(Clone, Copy, Debug)]

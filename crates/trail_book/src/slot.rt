@@ -3,7 +3,7 @@ ghost use Rattle.std.specs.Prelude.{◌≡◌};
 ghost use Rattle.trail_book.specs.Slots.{id_of, entry_of};
 
 use crate::entry::Entry;
-use gm_base::Lit;
+use sat_base::Lit;
 
 /// A literal that is true, its level, and two ids, where 0 stands for none.
 #[derive(Clone, Copy, Debug)]

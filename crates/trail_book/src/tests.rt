@@ -1,10 +1,10 @@
 ghost use Rattle.std.specs.Prelude.{IfSome};
-ghost use Rattle.gm_base.specs.Literals.{IsLiteral};
-ghost use Rattle.gm_base.specs.Units.{IsUnset};
+ghost use Rattle.sat_base.specs.Literals.{IsLiteral};
+ghost use Rattle.sat_base.specs.Units.{IsUnset};
 ghost use Rattle.trail_book.specs.Trail.{trues};
 
 use super::*;
-use gm_base::Lit;
+use sat_base::Lit;
 use std::alloc::{AllocError, Global};
 use std::test::Fail;
 

@@ -6,9 +6,9 @@
 //! and backtracking takes slots from the end while theirs is too high. Room for one slot a variable is taken at the
 //! start, and no variable stands twice, so nothing that comes later can want memory.
 ghost use Rattle.std.specs.Prelude.{◌≡◌, ℕ, ◌+◌, ◌-◌, ◌<◌, ◌≤◌, ◌^◌, ◌∷◌, [], length, map, drop, ℤ, pos, IfOk, Some, None, IfSome, IfNone, neg_ℤ};
-ghost use Rattle.gm_base.specs.Literals.{var_of, IsLiteral};
-ghost use Rattle.gm_base.specs.Members.{In};
-ghost use Rattle.gm_base.specs.Units.{IsUnset, HasValue, IsValue};
+ghost use Rattle.sat_base.specs.Literals.{var_of, IsLiteral};
+ghost use Rattle.sat_base.specs.Members.{In};
+ghost use Rattle.sat_base.specs.Units.{IsUnset, HasValue, IsValue};
 ghost use Rattle.trail_book.specs.declared.entry.Entry.{Entry};
 ghost use Rattle.trail_book.specs.Slots.{entry_of};
 ghost use Rattle.trail_book.specs.Trail.{trues, top, keep, oldest, IsTrail, IsPlace, with_unit};
@@ -17,7 +17,7 @@ use crate::entry::Entry;
 use crate::order::{first_unset, index_at, position_of};
 use crate::slot::{Slot, id};
 use crate::value::Value;
-use gm_base::Lit;
+use sat_base::Lit;
 use std::alloc::{AllocError, Global};
 use std::marker::Model;
 

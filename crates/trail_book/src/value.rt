@@ -2,7 +2,7 @@
 ghost use Rattle.std.specs.Prelude.{◌≡◌};
 ghost use Rattle.trail_book.specs.Values.{value_by};
 
-use gm_base::Lit;
+use sat_base::Lit;
 
 /// What the trail makes of a variable.
 #[derive(Clone, Copy, PartialEq, Eq, Debug)]

@@ -1,6 +1,6 @@
 use Rattle.std.proofs.Common.{◌≡◌, ◌-◌, ℕ, List, true, set, subst, sym, ap, ◌∙◌, arith}
 use Rattle.std.specs.Prelude.{Bool}
-use Rattle.gm_base.specs.Literals.{literal_true, var_of}
+use Rattle.sat_base.specs.Literals.{literal_true, var_of}
 use Rattle.cdcl_core.proofs.AssignLemmas.{placed, values_step}
 use Rattle.cdcl_core.proofs.decisions.assignment.Goals as goal
 

@@ -1,6 +1,6 @@
 use Rattle.std.proofs.Common.{◌≡◌, ℤ, length, true}
-use Rattle.gm_base.specs.Members.{In}
-use Rattle.gm_base.specs.Literals.{literal_true}
+use Rattle.sat_base.specs.Members.{In}
+use Rattle.sat_base.specs.Literals.{literal_true}
 use Rattle.trail_book.specs.Trail.{trues, oldest}
 use Rattle.cdcl_core.proofs.decisions.assignment.Given as goal
 

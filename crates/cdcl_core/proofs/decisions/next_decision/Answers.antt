@@ -1,9 +1,9 @@
 use Rattle.std.proofs.Common.{◌≡◌, arith, subst, sym, ◌∙◌, inl, inr, Some}
 use Rattle.std.specs.Prelude.{true, false}
 use Rattle.std.proofs.lemmas.List.{take_all}
-use Rattle.gm_base.specs.Members.{In}
-use Rattle.gm_base.specs.Units.{AllTrue, IsValue}
-use Rattle.gm_base.proofs.DatabaseLemmas.{get_in, In-take_more}
+use Rattle.sat_base.specs.Members.{In}
+use Rattle.sat_base.specs.Units.{AllTrue, IsValue}
+use Rattle.sat_base.proofs.DatabaseLemmas.{get_in, In-take_more}
 use Rattle.trail_book.specs.Trail.{trues}
 use Rattle.cdcl_core.proofs.decisions.next_decision.Goals as goal
 

@@ -1,5 +1,5 @@
 use Rattle.std.proofs.Common.{◌-◌, length, take}
-use Rattle.gm_base.specs.Units.{AllTrue}
+use Rattle.sat_base.specs.Units.{AllTrue}
 use Rattle.trail_book.specs.Trail.{trues}
 use Rattle.cdcl_core.proofs.decisions.next_decision.Given as goal
 

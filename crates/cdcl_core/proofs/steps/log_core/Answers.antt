@@ -1,7 +1,7 @@
 use Rattle.std.proofs.Common.{◌≡◌, ◌∷◌, [], ◌++◌, List, ℕ, subst, sym, ap, ◌∙◌}
 use Rattle.std.specs.Prelude.{ℤ}
-use Rattle.gm_base.specs.Members.{In}
-use Rattle.gm_base.specs.Literals.{IsLiteral, AreLiterals}
+use Rattle.sat_base.specs.Members.{In}
+use Rattle.sat_base.specs.Literals.{IsLiteral, AreLiterals}
 use Rattle.learn_step.specs.Learnt.{start_of}
 use Rattle.lrat_steps.specs.Log.{LogStep, Core}
 use Rattle.cdcl_core.specs.Answers.{IsPaid}

@@ -1,5 +1,5 @@
 use Rattle.std.proofs.Common.{◌≡◌}
-use Rattle.gm_base.specs.Literals.{AreLiterals}
+use Rattle.sat_base.specs.Literals.{AreLiterals}
 use Rattle.cdcl_core.proofs.tests.add_all.Given as goal
 
 abbrev pub invariant-loop-number : goal.invariant-loop-number

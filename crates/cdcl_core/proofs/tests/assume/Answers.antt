@@ -1,5 +1,5 @@
 use Rattle.std.proofs.Common.{◌+◌, subst, sym, arith}
-use Rattle.gm_base.specs.Literals.{AreLiterals}
+use Rattle.sat_base.specs.Literals.{AreLiterals}
 use Rattle.cdcl_core.specs.Answers.{IsConsistent}
 use Rattle.cdcl_core.proofs.TestLemmas.{AreUpTo, literals_push, up_to_push, consistent_push}
 use Rattle.cdcl_core.proofs.tests.assume.Goals as goal

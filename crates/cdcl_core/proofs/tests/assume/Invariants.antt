@@ -1,4 +1,4 @@
-use Rattle.gm_base.specs.Literals.{AreLiterals}
+use Rattle.sat_base.specs.Literals.{AreLiterals}
 use Rattle.cdcl_core.specs.Answers.{IsConsistent}
 use Rattle.cdcl_core.proofs.TestLemmas.{AreUpTo}
 use Rattle.cdcl_core.proofs.tests.assume.Given as goal

@@ -1,5 +1,5 @@
 use Rattle.std.proofs.Common.{◌≤◌, subst, sym, arith}
-use Rattle.gm_base.specs.Literals.{AreLiterals}
+use Rattle.sat_base.specs.Literals.{AreLiterals}
 use Rattle.cdcl_core.specs.Answers.{IsConsistent}
 use Rattle.cdcl_core.proofs.TestLemmas.{literals_more}
 use Rattle.cdcl_core.proofs.tests.solve_under.Goals as goal

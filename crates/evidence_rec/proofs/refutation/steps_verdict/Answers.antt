@@ -1,5 +1,5 @@
 use Rattle.std.proofs.Common.{◌∙◌, ap, sym, ℕ, Some}
-use Rattle.gm_base.specs.Derivation.{Step}
+use Rattle.sat_base.specs.Derivation.{Step}
 use Rattle.lrat_check.specs.State.{refusal_of, known_after}
 use Rattle.lrat_check.specs.declared.checker.Checked.{Checked}
 use Rattle.evidence_rec.proofs.LineLemmas.{taken-next, taken-refused}

@@ -1,5 +1,5 @@
 use Rattle.std.proofs.Common.{◌<◌, ◌≤◌, ◌-◌, ◌∙◌, ℕ, ap₂, sym, arith}
-use Rattle.gm_base.specs.Literals.{var_of}
+use Rattle.sat_base.specs.Literals.{var_of}
 use Rattle.gm_base.specs.Sets.{has}
 use Rattle.evidence_rec.specs.Basis.{refuted_set}
 use Rattle.evidence_rec.proofs.LeftOutLemmas.{leaves_out-positive, leaves_out-below, leaves_out-has}

@@ -1,5 +1,5 @@
 use Rattle.std.proofs.Common.{◌≡◌, ◌+◌, take}
-use Rattle.gm_base.specs.Derivation.{numbered}
+use Rattle.sat_base.specs.Derivation.{numbered}
 use Rattle.gm_base.specs.Evidence.{selector_form}
 use Rattle.evidence_rec.proofs.selectors.selector_checker.Given as goal
 

@@ -2,7 +2,7 @@ use Rattle.std.proofs.Common.{◌≤◌, ℕ, arith, subst, get_or}
 use Rattle.std.specs.Prelude.{All}
 use Rattle.std.proofs.lemmas.List.{take_all}
 use Rattle.std.proofs.lemmas.List.Elements.{All-more}
-use Rattle.gm_base.specs.Derivation.{max_id}
+use Rattle.sat_base.specs.Derivation.{max_id}
 use Rattle.evidence_rec.proofs.tests.are_ids.Goals as goal
 
 pub loop-number-preserved : goal.loop-number-preserved

@@ -1,6 +1,6 @@
 use Rattle.std.proofs.Common.{◌≤◌, take}
 use Rattle.std.specs.Prelude.{All}
-use Rattle.gm_base.specs.Derivation.{max_id}
+use Rattle.sat_base.specs.Derivation.{max_id}
 use Rattle.evidence_rec.proofs.tests.are_ids.Given as goal
 
 -- the numbers so far can be ids

@@ -1,6 +1,6 @@
 use Rattle.std.proofs.Common.{◌≡◌, ◌+◌, ◌≤◌, map, length}
 use Rattle.token_text.specs.Kinds.{Number}
-use Rattle.gm_base.specs.Literals.{AreLiterals}
+use Rattle.sat_base.specs.Literals.{AreLiterals}
 use Rattle.gcnf_text.specs.Grammar.{max_literals}
 use Rattle.gcnf_text.specs.Table.{Literals}
 use Rattle.gcnf_text.specs.Steps.{Leads, sofar}

@@ -2,7 +2,7 @@ use Rattle.std.proofs.Common.{◌≤◌, arith, subst, ◌∙◌, refl, sym}
 use Rattle.std.specs.Prelude.{All}
 use Rattle.std.proofs.lemmas.List.{take_all}
 use Rattle.std.proofs.lemmas.List.Elements.{All-more, All-from_recursion, recursion_from_All, All-get_or}
-use Rattle.gm_base.specs.Literals.{IsLiteral, var_of}
+use Rattle.sat_base.specs.Literals.{IsLiteral, var_of}
 use Rattle.gm_base.proofs.problem.clause_fits.Goals as goal
 
 pub loop-lit-preserved : goal.loop-lit-preserved

@@ -1,7 +1,7 @@
 use Rattle.std.proofs.Common.{◌≡◌, ◌<◌, true, get_or, sym, subst, arith}
 use Rattle.gm_base.specs.Sets.{has, IsGroupSet}
 use Rattle.gm_base.proofs.SetLemmas.{AscendsAbove-at}
-use Rattle.gm_base.proofs.DatabaseLemmas.{get_in}
+use Rattle.sat_base.proofs.DatabaseLemmas.{get_in}
 use Rattle.group_oracle.proofs.GroupLemmas.{in_has}
 use Rattle.group_oracle.proofs.selectors.selectors_of.Goals as goal
 

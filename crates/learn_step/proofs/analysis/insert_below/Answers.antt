@@ -1,9 +1,9 @@
 use Rattle.std.proofs.Common.{◌≡◌, ◌⊎◌, ◌<◌, ◌≤◌, ℕ, List, arith, subst, sym, inl, inr}
 use Rattle.std.specs.Prelude.{ℤ, pos}
-use Rattle.gm_base.specs.Members.{In}
-use Rattle.gm_base.specs.Units.{HasValue}
-use Rattle.gm_base.specs.Work.{HasMore}
-use Rattle.gm_base.proofs.DatabaseLemmas.{get_in}
+use Rattle.sat_base.specs.Members.{In}
+use Rattle.sat_base.specs.Units.{HasValue}
+use Rattle.sat_base.specs.Work.{HasMore}
+use Rattle.sat_base.proofs.DatabaseLemmas.{get_in}
 use Rattle.trail_book.specs.Trail.{trues, IsPlace}
 use Rattle.learn_step.proofs.PlaceLemmas.{var_value, places_none, places_more, places_all}
 use Rattle.learn_step.proofs.analysis.insert_below.Goals as goal

@@ -1,6 +1,6 @@
 use Rattle.std.proofs.Common.{◌≡◌, ◌∷◌, ◌++◌, [], ◌∙◌, ap, subst, sym, ℕ, List}
 use Rattle.std.specs.Prelude.{ℤ, neg_ℤ}
-use Rattle.gm_base.specs.Literals.{var_of}
+use Rattle.sat_base.specs.Literals.{var_of}
 use Rattle.trail_book.specs.Trail.{IsPlace}
 use Rattle.learn_step.proofs.AnalysisLemmas.{may_bring_in}
 use Rattle.learn_step.proofs.CoreLemmas.{assumed_at, assumed_forced, core_assumed}

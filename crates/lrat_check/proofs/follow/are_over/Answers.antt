@@ -1,7 +1,7 @@
 use Rattle.std.proofs.Common.{arith, subst, refl, All}
 use Rattle.std.proofs.lemmas.List.{take_all}
 use Rattle.std.proofs.lemmas.List.Elements.{All-more, recursion_from_All}
-use Rattle.gm_base.specs.Literals.{IsLiteral}
+use Rattle.sat_base.specs.Literals.{IsLiteral}
 use Rattle.lrat_check.proofs.follow.are_over.Goals as goal
 
 pub loop-lit-preserved : goal.loop-lit-preserved

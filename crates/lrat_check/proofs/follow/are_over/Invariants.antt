@@ -1,6 +1,6 @@
 use Rattle.std.proofs.Common.{take}
 use Rattle.std.specs.Prelude.{All}
-use Rattle.gm_base.specs.Literals.{IsLiteral}
+use Rattle.sat_base.specs.Literals.{IsLiteral}
 use Rattle.lrat_check.proofs.follow.are_over.Given as goal
 
 -- the literals so far are over the variables

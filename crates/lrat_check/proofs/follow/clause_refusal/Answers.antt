@@ -1,7 +1,7 @@
 use Rattle.std.proofs.Common.{◌∙◌, sym, subst, ℕ}
 use Rattle.std.proofs.lemmas.Bool.{cond-true, cond-false}
-use Rattle.gm_base.specs.Literals.{AreLiterals}
-use Rattle.gm_base.specs.Derivation.{is_step_clause}
+use Rattle.sat_base.specs.Literals.{AreLiterals}
+use Rattle.sat_base.specs.Derivation.{is_step_clause}
 use Rattle.lrat_check.proofs.MarkLemmas.{have_places}
 use Rattle.lrat_check.proofs.ClauseLemmas.{clause_outside, clause_opposed, clause_fits}
 use Rattle.lrat_check.proofs.follow.clause_refusal.Goals as goal

@@ -1,7 +1,7 @@
 use Rattle.std.proofs.Common.{◌≡◌, ◌<◌, ◌∙◌, ap, sym, subst, arith, length, Some, ℤ, ◌∷◌, length-set, true, set}
 use Rattle.std.specs.Prelude.{neg_ℤ}
-use Rattle.gm_base.specs.Literals.{IsLiteral}
-use Rattle.gm_base.specs.Derivation.{open_lits, only_lit, is_nil}
+use Rattle.sat_base.specs.Literals.{IsLiteral}
+use Rattle.sat_base.specs.Derivation.{open_lits, only_lit, is_nil}
 use Rattle.lrat_check.specs.Marks.{place_of, AreMarked}
 use Rattle.lrat_check.proofs.MarkLemmas.{unmarked_open, have_places, place_within, literal_negated, marked_more}
 use Rattle.lrat_check.proofs.OpenLemmas.{only_over}

@@ -1,5 +1,5 @@
 use Rattle.std.proofs.Common.{inr, slice_index_or}
-use Rattle.gm_base.proofs.DatabaseLemmas.{get_in}
+use Rattle.sat_base.proofs.DatabaseLemmas.{get_in}
 use Rattle.lrat_steps.proofs.ConeLemmas.{cone_at}
 use Rattle.lrat_steps.proofs.renumber.derivation_of.Goals as goal
 

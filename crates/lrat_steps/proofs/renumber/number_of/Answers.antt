@@ -1,5 +1,5 @@
 use Rattle.std.proofs.Common.{◌<◌, ◌+◌, ◌^◌, arith}
-use Rattle.gm_base.specs.Members.{In}
+use Rattle.sat_base.specs.Members.{In}
 use Rattle.lrat_steps.proofs.ConeLemmas.{reached_derived}
 use Rattle.lrat_steps.proofs.PlaceLemmas.{place_below}
 use Rattle.lrat_steps.proofs.renumber.number_of.Goals as goal

@@ -1,5 +1,5 @@
 use Rattle.std.proofs.Common.{◌≡◌, ◌≤◌, All, map, take}
-use Rattle.gm_base.specs.Derivation.{max_id}
+use Rattle.sat_base.specs.Derivation.{max_id}
 use Rattle.lrat_steps.specs.Cone.{hints_at, number_in}
 use Rattle.lrat_steps.proofs.renumber.renumber.Given as goal
 

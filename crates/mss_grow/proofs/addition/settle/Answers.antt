@@ -1,7 +1,7 @@
 use Rattle.std.proofs.Common.{◌≡◌, ◌⊎◌, ℕ, ◌+◌, true, false, Some, List, [], ◌∷◌, ◌++◌, subst, sym, ap, ◌∙◌, inl, inr, arith}
 use Rattle.gm_base.specs.Sets.{IsSubset, has, all_groups}
 use Rattle.gm_base.specs.Problem.{Problem}
-use Rattle.gm_base.specs.Derivation.{Derivation}
+use Rattle.sat_base.specs.Derivation.{Derivation}
 use Rattle.gm_base.specs.Index.{group_true}
 use Rattle.gm_base.specs.Evidence.{is_witness}
 use Rattle.evidence_rec.specs.Asking.{TellsAsked, refuted_by}

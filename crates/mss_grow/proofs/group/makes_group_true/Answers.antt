@@ -2,7 +2,7 @@ use Rattle.std.proofs.Common.{◌≡◌, true, false, sym, subst, arith, get_or}
 use Rattle.std.specs.Prelude.{All}
 use Rattle.std.proofs.lemmas.List.{take_all}
 use Rattle.std.proofs.lemmas.List.Elements.{All-more}
-use Rattle.gm_base.specs.Literals.{clause_true}
+use Rattle.sat_base.specs.Literals.{clause_true}
 use Rattle.gm_base.specs.declared.index.Placed.{Placed}
 use Rattle.gm_base.proofs.IndexLemmas.{IsTrueAt, IsTrueAt-from_one, group_true-from_places, group_true-not}
 use Rattle.mss_grow.proofs.group.makes_group_true.Goals as goal

@@ -1,7 +1,7 @@
 use Rattle.std.proofs.Common.{◌≡◌, true, get_or, subst, sym}
 use Rattle.gm_base.specs.Sets.{has, IsGroupSet}
 use Rattle.gm_base.proofs.SetLemmas.{AscendsAbove-at}
-use Rattle.gm_base.proofs.DatabaseLemmas.{get_in}
+use Rattle.sat_base.proofs.DatabaseLemmas.{get_in}
 use Rattle.power_map.proofs.BlockLemmas.{in_has}
 use Rattle.power_map.proofs.clauses.clause_of.Goals as goal
 

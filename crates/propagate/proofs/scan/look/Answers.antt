@@ -1,7 +1,7 @@
 use Rattle.std.proofs.Common.{◌≡◌, ◌<◌, ◌+◌, arith, take, length, get_or, refl, ℕ, Some, None, subst, sym, Option, List}
 use Rattle.std.specs.Prelude.{MatchOption, ℤ, neg_ℤ, true, false}
-use Rattle.gm_base.specs.Members.{In}
-use Rattle.gm_base.specs.Units.{AllFalse, IsUnset, IsValue}
+use Rattle.sat_base.specs.Members.{In}
+use Rattle.sat_base.specs.Units.{AllFalse, IsUnset, IsValue}
 use Rattle.trail_book.specs.Trail.{trues}
 use Rattle.propagate.specs.Propagation.{IsForcing}
 use Rattle.propagate.proofs.LookLemmas.{false_more, forcing_false, forcing_first, forcing_same, loose_true, loose_two, false_all}

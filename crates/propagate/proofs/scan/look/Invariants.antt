@@ -1,6 +1,6 @@
 use Rattle.std.proofs.Common.{take}
 use Rattle.std.specs.Prelude.{MatchOption}
-use Rattle.gm_base.specs.Units.{AllFalse}
+use Rattle.sat_base.specs.Units.{AllFalse}
 use Rattle.trail_book.specs.Trail.{trues}
 use Rattle.propagate.specs.Propagation.{IsForcing}
 use Rattle.propagate.proofs.scan.look.Given as goal

@@ -1,5 +1,5 @@
 use Rattle.std.proofs.Common.{◌≡◌, ◌+◌, ◌-◌, ℕ, List, true, arith, refl, sym, subst, length, take, get_or}
-use Rattle.gm_base.specs.Units.{IsLoose, IsFixpoint}
+use Rattle.sat_base.specs.Units.{IsLoose, IsFixpoint}
 use Rattle.clause_store.specs.Clauses.{no_clause}
 use Rattle.trail_book.specs.declared.entry.Entry.{Entry}
 use Rattle.trail_book.specs.Trail.{trues}

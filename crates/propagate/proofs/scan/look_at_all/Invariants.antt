@@ -1,5 +1,5 @@
 use Rattle.std.proofs.Common.{◌≡◌, length, take}
-use Rattle.gm_base.specs.Units.{IsFixpoint}
+use Rattle.sat_base.specs.Units.{IsFixpoint}
 use Rattle.trail_book.specs.Trail.{trues, IsTrail}
 use Rattle.propagate.specs.Propagation.{Grows}
 use Rattle.propagate.proofs.scan.look_at_all.Given as goal

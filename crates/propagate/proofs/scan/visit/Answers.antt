@@ -1,7 +1,7 @@
 use Rattle.std.proofs.Common.{ℕ, List, refl, sym, subst, inr}
 use Rattle.std.specs.Prelude.{ℤ}
-use Rattle.gm_base.specs.Literals.{IsLiteral}
-use Rattle.gm_base.specs.Units.{AllFalse}
+use Rattle.sat_base.specs.Literals.{IsLiteral}
+use Rattle.sat_base.specs.Units.{AllFalse}
 use Rattle.clause_store.specs.Clauses.{clause_at}
 use Rattle.trail_book.specs.Trail.{trues}
 use Rattle.propagate.specs.Propagation.{Grows, IsForcing}

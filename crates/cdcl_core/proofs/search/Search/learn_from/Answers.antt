@@ -1,8 +1,8 @@
 use Rattle.std.proofs.Common.{◌≡◌, ◌∷◌, [], ◌++◌, ◌-◌, arith, subst, sym, ap, ◌∙◌, List, length, ℕ, Some, None, inl, inr}
 use Rattle.std.specs.Prelude.{ℤ, true}
-use Rattle.gm_base.specs.Members.{In}
-use Rattle.gm_base.specs.Literals.{IsLiteral, AreLiterals}
-use Rattle.gm_base.specs.Units.{IsUnset}
+use Rattle.sat_base.specs.Members.{In}
+use Rattle.sat_base.specs.Literals.{IsLiteral, AreLiterals}
+use Rattle.sat_base.specs.Units.{IsUnset}
 use Rattle.trail_book.specs.declared.entry.Entry.{Entry}
 use Rattle.trail_book.specs.Trail.{trues, keep}
 use Rattle.lrat_steps.specs.Log.{LogStep, Learned}

@@ -1,10 +1,10 @@
 use Rattle.std.proofs.Common.{◌≡◌, ◌∷◌, [], ◌+◌, ℕ, List, map, refl, subst, sym, ap, ◌∙◌}
 use Rattle.std.specs.Prelude.{neg_ℤ, pos}
 use Rattle.std.proofs.Math.IntN.{neg_ℤ-neg_ℤ}
-use Rattle.gm_base.specs.Members.{In}
-use Rattle.gm_base.specs.Literals.{var_of}
-use Rattle.gm_base.specs.Units.{HasValue}
-use Rattle.gm_base.proofs.DatabaseLemmas.{named_range}
+use Rattle.sat_base.specs.Members.{In}
+use Rattle.sat_base.specs.Literals.{var_of}
+use Rattle.sat_base.specs.Units.{HasValue}
+use Rattle.sat_base.proofs.DatabaseLemmas.{named_range}
 use Rattle.trail_book.specs.declared.entry.Entry.{Entry}
 use Rattle.trail_book.specs.Trail.{trues, oldest, with_unit}
 use Rattle.trail_book.proofs.TrailLemmas.{trues-with_unit}

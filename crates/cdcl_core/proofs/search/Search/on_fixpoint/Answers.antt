@@ -1,7 +1,7 @@
 use Rattle.std.proofs.Common.{◌≡◌, ◌≤◌, ◌∷◌, ◌+◌, ℕ, None, refl, subst, sym, ap, ◌∙◌, inr, arith, length}
 use Rattle.std.specs.Prelude.{neg_ℤ}
-use Rattle.gm_base.specs.Members.{In}
-use Rattle.gm_base.specs.Literals.{IsLiteral}
+use Rattle.sat_base.specs.Members.{In}
+use Rattle.sat_base.specs.Literals.{IsLiteral}
 use Rattle.trail_book.specs.Trail.{Trail, trues, top}
 use Rattle.learn_step.specs.Reasons.{IsDecision}
 use Rattle.cdcl_core.specs.State.{IsState}

@@ -1,5 +1,5 @@
 use Rattle.std.proofs.Common.{◌≡◌, ℕ, subst, sym, ◌∙◌, arith, take}
-use Rattle.gm_base.specs.Members.{In}
+use Rattle.sat_base.specs.Members.{In}
 use Rattle.trail_book.specs.Trail.{top, IsTrail}
 use Rattle.cdcl_core.specs.State.{IsState, IsRoot}
 use Rattle.cdcl_core.proofs.SearchLemmas.{top_grows, length_grows, in_grows}

@@ -1,6 +1,6 @@
 use Rattle.std.proofs.Common.{List, ℤ, subst, sym, slice_range}
 use Rattle.clause_store.specs.Clauses.{Clauses}
-use Rattle.gm_base.specs.Literals.{AreLiterals}
+use Rattle.sat_base.specs.Literals.{AreLiterals}
 use Rattle.clause_store.proofs.RecordLemmas.{over_cut}
 use Rattle.clause_store.proofs.store.Store.lits.Goals as goal
 

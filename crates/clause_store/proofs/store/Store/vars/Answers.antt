@@ -1,6 +1,6 @@
 use Rattle.std.proofs.Common.{subst}
 use Rattle.clause_store.specs.Clauses.{Clauses}
-use Rattle.gm_base.specs.Database.{AreOver}
+use Rattle.sat_base.specs.Database.{AreOver}
 use Rattle.clause_store.proofs.RecordLemmas.{over_all}
 use Rattle.clause_store.proofs.store.Store.vars.Goals as goal
 

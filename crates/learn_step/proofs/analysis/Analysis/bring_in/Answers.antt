@@ -1,6 +1,6 @@
 use Rattle.std.proofs.Common.{List, subst, sym}
 use Rattle.std.specs.Prelude.{ℤ}
-use Rattle.gm_base.proofs.DatabaseLemmas.{named_at}
+use Rattle.sat_base.proofs.DatabaseLemmas.{named_at}
 use Rattle.clause_store.specs.Clauses.{clause_at, no_clause}
 use Rattle.trail_book.specs.Trail.{trues}
 use Rattle.learn_step.specs.Places.{HaveValues, HasPlaces}

@@ -1,5 +1,5 @@
 use Rattle.std.proofs.Common.{◌≡◌, take}
-use Rattle.gm_base.specs.Derivation.{numbered}
+use Rattle.sat_base.specs.Derivation.{numbered}
 use Rattle.lrat_check.proofs.checker.Checker.new.Given as goal
 
 -- the clauses so far were given

@@ -1,5 +1,5 @@
 use Rattle.std.proofs.Common.{◌∙◌, sym, subst}
-use Rattle.gm_base.specs.Literals.{AreLiterals}
+use Rattle.sat_base.specs.Literals.{AreLiterals}
 use Rattle.lrat_check.specs.State.{State}
 use Rattle.lrat_check.proofs.ClauseLemmas.{clause_over}
 use Rattle.lrat_check.proofs.checker.Checker.step.Goals as goal

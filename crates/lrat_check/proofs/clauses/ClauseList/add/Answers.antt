@@ -1,5 +1,5 @@
 use Rattle.std.proofs.Common.{◌≡◌, ◌<◌, ◌++◌, ◌∷◌, ◌∙◌, [], List, ℤ, ap, sym, subst, arith, length}
-use Rattle.gm_base.specs.Literals.{AreLiterals}
+use Rattle.sat_base.specs.Literals.{AreLiterals}
 use Rattle.lrat_check.specs.Refusal.{last_id}
 use Rattle.lrat_check.specs.State.{State}
 use Rattle.lrat_check.specs.Inner.{AreLaidOut, state_of}

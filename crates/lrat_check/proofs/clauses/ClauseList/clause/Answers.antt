@@ -1,6 +1,6 @@
 use Rattle.std.proofs.Common.{List, ℤ, ap, subst, sym, ◌∙◌, Some, slice_range}
-use Rattle.gm_base.specs.Literals.{AreLiterals}
-use Rattle.gm_base.specs.Derivation.{clause_of}
+use Rattle.sat_base.specs.Literals.{AreLiterals}
+use Rattle.sat_base.specs.Derivation.{clause_of}
 use Rattle.lrat_check.specs.State.{State}
 use Rattle.lrat_check.specs.Ids.{IsAt, HasNoId}
 use Rattle.lrat_check.specs.declared.clauses.ClauseRecord.{ClauseRecord}

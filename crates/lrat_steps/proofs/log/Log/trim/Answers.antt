@@ -1,8 +1,8 @@
 use Rattle.std.proofs.Common.{◌≡◌, List, Some, sym, subst}
 use Rattle.std.specs.Prelude.{ℤ}
 use Rattle.std.proofs.lemmas.Result.{IfOk-weaker}
-use Rattle.gm_base.specs.Derivation.{Derivation, clause_of}
-use Rattle.gm_base.specs.Database.{known_of}
+use Rattle.sat_base.specs.Derivation.{Derivation, clause_of}
+use Rattle.sat_base.specs.Database.{known_of}
 use Rattle.lrat_steps.specs.Log.{db_of}
 use Rattle.lrat_steps.specs.Trimmed.{IsTrimmed}
 use Rattle.lrat_steps.specs.Cone.{IsCone, trimmed}

@@ -1,8 +1,8 @@
 use Rattle.std.proofs.Common.{◌≡◌, true, ℕ, List, Option, [], Some, subst}
 use Rattle.std.specs.Prelude.{ℤ, IfOk, IfSome}
 use Rattle.std.proofs.lemmas.Result.{IfOk-weaker}
-use Rattle.gm_base.specs.Derivation.{clause_of}
-use Rattle.gm_base.specs.Database.{known_of}
+use Rattle.sat_base.specs.Derivation.{clause_of}
+use Rattle.sat_base.specs.Database.{known_of}
 use Rattle.lrat_steps.specs.Log.{LogStep, db_of}
 use Rattle.lrat_steps.specs.Trimmed.{IsTrimmed}
 use Rattle.cdcl_core.specs.Answers.{IsRefuted}

@@ -1,7 +1,7 @@
 use Rattle.std.proofs.Common.{ℤ, List, Option, subst, sym}
 use Rattle.std.specs.Prelude.{IfNone}
-use Rattle.gm_base.specs.Literals.{IsLiteral}
-use Rattle.gm_base.specs.Units.{HasValue}
+use Rattle.sat_base.specs.Literals.{IsLiteral}
+use Rattle.sat_base.specs.Units.{HasValue}
 use Rattle.trail_book.specs.declared.value.Value.{Value}
 use Rattle.trail_book.specs.Trail.{Trail, trues}
 use Rattle.trail_book.specs.Order.{HaveValues}

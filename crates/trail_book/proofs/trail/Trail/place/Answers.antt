@@ -1,7 +1,7 @@
 use Rattle.std.proofs.Common.{◌<◌, ◌-◌, length, arith, subst, sym}
 use Rattle.std.specs.Prelude.{pos, reverse}
 use Rattle.std.proofs.lemmas.List.{get_or_read}
-use Rattle.gm_base.specs.Units.{HasValue}
+use Rattle.sat_base.specs.Units.{HasValue}
 use Rattle.trail_book.specs.Trail.{Trail, trues, IsPlace}
 use Rattle.trail_book.specs.Tables.{trail_of}
 use Rattle.trail_book.proofs.PlaceLemmas.{var_is_literal}

@@ -1,7 +1,7 @@
 use Rattle.std.proofs.Common.{◌≡◌, ◌<◌, ◌-◌, ◌∷◌, ◌∙◌, ℕ, List, length, set, arith, ap, subst, sym, refl, length-set}
 use Rattle.std.specs.Prelude.{reverse}
-use Rattle.gm_base.specs.Literals.{var_of, IsLiteral}
-use Rattle.gm_base.specs.Units.{IsUnset}
+use Rattle.sat_base.specs.Literals.{var_of, IsLiteral}
+use Rattle.sat_base.specs.Units.{IsUnset}
 use Rattle.trail_book.specs.declared.slot.Slot.{Slot}
 use Rattle.trail_book.specs.declared.value.Value.{Value}
 use Rattle.trail_book.specs.Trail.{Trail, trues, top, IsTrail}

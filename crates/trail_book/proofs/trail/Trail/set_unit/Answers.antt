@@ -1,5 +1,5 @@
 use Rattle.std.proofs.Common.{◌≡◌, ◌<◌, ◌∙◌, length, map, arith, ap, subst, sym}
-use Rattle.gm_base.specs.Literals.{var_of}
+use Rattle.sat_base.specs.Literals.{var_of}
 use Rattle.trail_book.specs.declared.entry.Entry.{Entry}
 use Rattle.trail_book.specs.Trail.{Trail, trues, IsTrail, IsPlace, with_unit}
 use Rattle.trail_book.specs.Slots.{entry_of}

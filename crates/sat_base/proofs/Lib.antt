@@ -1,0 +1,6 @@
+pub mod Members
+pub mod DatabaseLemmas
+pub mod WorkLemmas
+pub mod SpanLemmas
+pub mod FollowsLemmas
+pub mod Soundness

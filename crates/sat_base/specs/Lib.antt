@@ -1,0 +1,7 @@
+pub mod Members
+pub mod Literals
+pub mod Derivation
+pub mod Database
+pub mod Units
+pub mod Work
+pub mod Spans
