@@ -51,7 +51,7 @@ impl Problem {
         requires small { vars + groups < 2 ^ 31 }
         ensures { IfOk result (λ p. p ≡ record { vars = vars; groups = groups; clauses = clauses }) }
     {
-        let clauses = clauses.items;
+        let clauses = clauses.into_vec();
         let index = index_of(alloc, clauses.as_slice())?;
         Ok(Problem {
             vars,

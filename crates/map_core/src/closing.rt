@@ -6,7 +6,7 @@ use crate::common::Common;
 use crate::entry::Entry;
 use evidence_rec::Records;
 use gm_base::Derivation;
-use std::marker::Model;
+use sat_base::Row;
 
 /// Why the enumeration ended.
 #[derive(Clone, Copy, Debug, PartialEq, Eq)]
@@ -18,33 +18,7 @@ pub enum Verdict {
 }
 
 /// All entries, in order.
-#[derive(Drop)]
-pub struct History {
-    items: Vec<Entry>,
-}
-
-impl Model for History {
-    ghost use Rattle.std.specs.Prelude.{List};
-    ghost use Rattle.map_core.specs.declared.entry.Entry.{Entry};
-
-    ghost Value = { List Entry };
-
-    ghost view = { λ a. a.items.items };
-}
-
-impl History {
-    pub fn from_vec(items: Vec<Entry>) -> History
-        ensures { result ≡ items.items }
-    {
-        History { items }
-    }
-
-    pub fn as_slice(&self) -> &[Entry]
-        ensures { result.now ≡ self.now }
-    {
-        self.items.as_slice()
-    }
-}
+pub type History = Row<Entry>;
 
 #[derive(Drop)]
 pub struct Closing {

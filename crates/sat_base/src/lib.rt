@@ -9,6 +9,8 @@
 //! derivation.push(6, &[], &[4, 3])?;
 //! ```
 //!
+//! A [`Row`] is a list of whatever there are many of.
+//!
 //! For those who search, a [`WorkList`] hands out numbers from the greatest down, and a [`Purse`] says how many clauses may
 //! still be learnt.
 //!
@@ -20,6 +22,7 @@ mod assign;
 mod derivation;
 mod lit;
 mod purse;
+mod row;
 #[cfg(test)]
 mod tests;
 mod worklist;
@@ -28,4 +31,5 @@ pub use assign::Assign;
 pub use derivation::{Derivation, Step};
 pub use lit::{Lit, Lits};
 pub use purse::Purse;
+pub use row::Row;
 pub use worklist::WorkList;

@@ -2,10 +2,10 @@
 //!
 //! A literal is a variable or its negation, written as DIMACS writes it: the number of the variable, counted from 1, or
 //! that number's negative. Contracts see that number.
-ghost use Rattle.std.specs.Prelude.{◌≡◌, ◌<◌, ◌^◌, ◌↔◌, [], ◌∷◌, ◌++◌, pos, neg_ℤ, IsTrue, IfOk, OnOk, OnErr, length};
+ghost use Rattle.std.specs.Prelude.{◌≡◌, ◌<◌, ◌^◌, ◌↔◌, pos, neg_ℤ, IsTrue};
 ghost use Rattle.sat_base.specs.Literals.{var_of};
 
-use std::alloc::{AllocError, Global};
+use crate::row::Row;
 use std::marker::Model;
 
 /// A variable or its negation, as DIMACS writes it: from -2,147,483,647 to 2,147,483,647, and not 0.
@@ -69,61 +69,4 @@ impl Lit {
 }
 
 /// The literals of a clause, in their order, repeated ones included.
-#[derive(Debug, Drop)]
-pub struct Lits {
-    items: Vec<Lit>,
-}
-
-impl Model for Lits {
-    ghost use Rattle.std.specs.Prelude.{List, ℤ};
-
-    ghost Value = { List ℤ };
-
-    ghost view = { λ lits. lits.items.items };
-}
-
-impl Lits {
-    /// No literals. It takes no memory.
-    pub fn new(alloc: Global) -> Lits
-        ensures { result ≡ [] }
-    {
-        Lits {
-            items: Vec::new(alloc),
-        }
-    }
-
-    /// A copy of the slice, in just as much memory as it needs.
-    pub fn from_slice(alloc: Global, lits: &[Lit]) -> Result<Lits, AllocError>
-        ensures { IfOk result (λ copy. copy ≡ lits.now) }
-    {
-        let items = Vec::from_slice(alloc, lits)?;
-        Ok(Lits { items })
-    }
-
-    /// Adds a literal at the end.
-    pub fn push(&mut self, lit: Lit) -> Result<(), AllocError>
-        ensures ok { OnOk result (self.new ≡ self.old ++ lit ∷ []) }
-        ensures err { OnErr result (self.new ≡ self.old) }
-    {
-        self.items.push(lit)?;
-        Ok(())
-    }
-
-    pub fn as_slice(&self) -> &[Lit]
-        ensures { result.now ≡ self.now }
-    {
-        self.items.as_slice()
-    }
-
-    pub fn len(&self) -> usize
-        ensures { result ≡ length self.now }
-    {
-        self.items.len()
-    }
-
-    pub fn is_empty(&self) -> bool
-        ensures { IsTrue result ↔ (self.now ≡ []) }
-    {
-        self.items.is_empty()
-    }
-}
+pub type Lits = Row<Lit>;
