@@ -14,7 +14,7 @@ ghost use Rattle.cdcl_core.specs.Search.{IsSearch, IsRound, IsNext};
 use crate::search::Search;
 use crate::solved::Solved;
 use learn_step::Origin;
-use sat_base::{Assign, Lit};
+use sat_base::{Assign, AssignBuilder, Lit};
 use std::alloc::{AllocError, Global};
 use trail_book::Trail;
 
@@ -64,12 +64,12 @@ fn assignment(alloc: Global, trail: &Trail) -> Result<Assign, AllocError>
     ensures len { IfOk result (λ assign. length assign ≡ trail.now.vars) }
     ensures values { IfOk result (λ assign. (lit : ℤ) → In lit (trues trail.now.entries) → literal_true assign lit ≡ true) }
 {
-    let mut assign = Assign::all_false(alloc, trail.vars())?;
+    let mut builder = AssignBuilder::all_false(alloc, trail.vars())?;
     for place in 0..trail.len() {
         let lit = trail.at(place);
-        assign.set(lit.var(), lit.is_positive());
+        builder.set(lit.var(), lit.is_positive());
     }
-    Ok(assign)
+    builder.finish(alloc)
 }
 
 impl Search {

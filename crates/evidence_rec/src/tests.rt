@@ -4,7 +4,10 @@ ghost use Rattle.sat_base.specs.Derivation.{max_id};
 ghost use Rattle.evidence_rec.specs.Records.{IsShaped};
 
 use super::*;
-use gm_base::{Assign, Clause, Clauses, Derivation, GroupSet, Lit, Lits, Problem};
+use gm_base::{
+    Assign, AssignBuilder, Clause, Clauses, Derivation, DerivationBuilder, GroupSet, Lit, Lits,
+    Problem,
+};
 use std::alloc::{AllocError, Global};
 use std::test::Fail;
 
@@ -53,10 +56,10 @@ fn set_of(alloc: Global, groups: &[u32]) -> Result<GroupSet, AllocError> {
 
 // Values of x and of y.
 fn pair(alloc: Global, values: (bool, bool)) -> Result<Assign, AllocError> {
-    let mut assign = Assign::all_false(alloc, 2)?;
-    assign.set(1, values.0);
-    assign.set(2, values.1);
-    Ok(assign)
+    let mut builder = AssignBuilder::all_false(alloc, 2)?;
+    builder.set(1, values.0);
+    builder.set(2, values.1);
+    builder.finish(alloc)
 }
 
 fn witnesses_of(alloc: Global, pairs: &[(bool, bool)]) -> Result<Witnesses, AllocError> {
@@ -87,12 +90,12 @@ fn proof_of(
     hints: &[u64],
     goal: u64,
 ) -> Result<Derivation, AllocError> {
-    let mut proof = Derivation::new(alloc, goal.min(9_223_372_036_854_775_807));
+    let mut builder = DerivationBuilder::new(alloc, goal.min(9_223_372_036_854_775_807));
     let lits = lits_of(alloc, numbers)?;
     if id <= 9_223_372_036_854_775_807 && are_ids(hints) {
-        proof.push(id, lits.as_slice(), hints)?;
+        builder.push(id, lits.as_slice(), hints)?;
     }
-    Ok(proof)
+    builder.finish(alloc)
 }
 
 fn have_len(vars: u32, witnesses: &Witnesses) -> bool
@@ -194,7 +197,7 @@ fn proof_named(alloc: Global, name: u32) -> Result<Derivation, AllocError> {
     match name {
         1 => proof_of(alloc, 5, &[-3, -4], &[1, 2], 5),
         2 => proof_of(alloc, 5, &[-3, -5, -6], &[1, 3, 4], 5),
-        _ => Ok(Derivation::new(alloc, 5)),
+        _ => DerivationBuilder::new(alloc, 5).finish(alloc),
     }
 }
 

@@ -6,7 +6,7 @@
 //!
 //! ```text
 //! let set = GroupSet::new(alloc).with(alloc, 3)?;
-//! let assign = Assign::all_false(alloc, problem.vars())?;
+//! let assign = AssignBuilder::all_false(alloc, problem.vars())?.finish(alloc)?;
 //! if problem.holds(&set, &assign) { .. }
 //! ```
 //!
@@ -34,5 +34,5 @@ pub use group_set::GroupSet;
 pub use index::Placed;
 pub use kind::{Kind, Side};
 pub use problem::{Problem, clause_fits};
-pub use sat_base::{Assign, Derivation, Lit, Lits, Purse, Step};
+pub use sat_base::{Assign, AssignBuilder, Derivation, DerivationBuilder, Lit, Lits, Purse, Step};
 pub use sets::Sets;

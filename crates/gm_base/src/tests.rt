@@ -88,10 +88,11 @@ fn problem_holds_for_the_groups_that_an_assignment_satisfies(rt: HostRuntime) ->
         (true, false, &[3], false),
     ];
     for (x, y, groups, wanted) in rows {
-        let mut assign = Assign::all_false(alloc, problem.vars())?;
-        assert_eq!(rt; assign.len(), 2);
-        assign.set(1, x);
-        assign.set(2, y);
+        let mut builder = AssignBuilder::all_false(alloc, problem.vars())?;
+        assert_eq!(rt; builder.len(), 2);
+        builder.set(1, x);
+        builder.set(2, y);
+        let assign = builder.finish(alloc)?;
         let set = set_of(alloc, groups)?;
         assert_eq!(rt; problem.holds(&set, &assign), wanted, "{x} {y} {groups:?}");
         assert_eq!(rt; copy.holds(&set, &assign), wanted, "{x} {y} {groups:?}");

@@ -9,7 +9,7 @@ ghost use Rattle.sat_base.specs.Members.{In};
 
 use crate::cone::is_input;
 use crate::log::Log;
-use sat_base::Derivation;
+use sat_base::{Derivation, DerivationBuilder};
 use std::alloc::{AllocError, Global};
 
 /// The derivation of a goal's clause by the steps of its cone.
@@ -25,13 +25,13 @@ pub fn derivation_of(
     requires cone { IsCone log.now goal cone.now }
     ensures { IfOk result (λ d. d ≡ trimmed log.now goal cone.now) }
 {
-    let mut derivation = Derivation::new(alloc, number_of(log, cone, goal));
+    let mut builder = DerivationBuilder::new(alloc, number_of(log, cone, goal));
     let mut numbers = Vec::new(alloc);
     for id in cone {
         renumber(log, cone, *id, &mut numbers)?;
-        derivation.push(number_of(log, cone, *id), log.lits(*id), numbers.as_slice())?;
+        builder.push(number_of(log, cone, *id), log.lits(*id), numbers.as_slice())?;
     }
-    Ok(derivation)
+    builder.finish(alloc)
 }
 
 // The hints of a step by their new numbers, in place of what was there.

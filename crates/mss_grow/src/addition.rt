@@ -42,7 +42,7 @@ pub fn grow<O: Oracle>(
 {
     let mut growth = Growth {
         kept: GroupSet::new(alloc),
-        witness: assign.copy(alloc)?,
+        witness: assign.copy()?,
         proofs: Proofs::new(alloc),
     };
     for settled in 0..problem.groups() {

@@ -4,3 +4,4 @@ pub mod WorkLemmas
 pub mod SpanLemmas
 pub mod FollowsLemmas
 pub mod Soundness
+pub mod BitLemmas

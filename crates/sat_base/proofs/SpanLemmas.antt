@@ -1,10 +1,10 @@
--- Lemmas on how a derivation lays its steps out.
+-- Lemmas on how steps are laid out.
 use Rattle.std.proofs.Common.{◌≡◌, ℕ, suc, ◌-◌, ◌≤◌, List, [], ◌∷◌, ◌++◌, map, length, get_or, All, refl, ◌∙◌, ap₂, arith, drop, length-drop, length-append}
 use Rattle.std.specs.Prelude.{ℤ, slice_range}
 use Rattle.std.proofs.lemmas.List.{take-append-le, drop-append-le, drop_at, take_all, map_push}
 use Rattle.std.proofs.lemmas.List.Elements.{All-map, All-take, All-drop}
 use Rattle.sat_base.specs.Derivation.{Step, max_id, HasIds}
-use Rattle.sat_base.specs.declared.derivation.StepSpan.{StepSpan}
+use Rattle.sat_base.specs.declared.steps.StepSpan.{StepSpan}
 use Rattle.sat_base.specs.Spans.{step_of, IsSpan}
 
 -- a range within a list is the same in a longer one

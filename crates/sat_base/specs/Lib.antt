@@ -5,3 +5,4 @@ pub mod Database
 pub mod Units
 pub mod Work
 pub mod Spans
+pub mod Bits

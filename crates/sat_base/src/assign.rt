@@ -1,57 +1,53 @@
 //! Assignments.
 //!
 //! An assignment gives each variable a truth value. Contracts see the list of the values, that of variable 1 first.
-ghost use Rattle.std.specs.Prelude.{◌≡◌, ◌<◌, ◌≤◌, ◌-◌, false, IfOk, length, replicate, slice_set, take};
+//!
+//! A search makes few assignments and its records keep many, so one is written by a builder, which has it alone, and is
+//! shared once it is finished: a copy is one more reference to the same words. The values are bits of those words, and how
+//! many there are stands beside the pointer, so that a prefix is a shorter length over what is shared. Behind that length
+//! the words keep what was written: nothing may compare them whole.
+ghost use Rattle.std.specs.Prelude.{◌≡◌, ◌<◌, ◌≤◌, ◌-◌, false, IfOk, length, replicate, slice_index_or, slice_set, take};
 ghost use Rattle.sat_base.specs.Literals.{AreLiterals, clause_true, literal_true, var_of};
 
+use crate::bits::{read, write};
 use crate::lit::Lit;
 use std::alloc::{AllocError, Global};
 use std::marker::Model;
+use std::sync::Arc;
 
-/// A truth value for each variable.
+/// An assignment that is being made.
 #[derive(Debug, Drop)]
-pub struct Assign {
-    values: Vec<bool>,
+pub struct AssignBuilder {
+    len: usize,
+    words: Vec<u64>,
 }
 
-impl Model for Assign {
+impl Model for AssignBuilder {
     ghost use Rattle.std.specs.Prelude.{List, Bool};
+    ghost use Rattle.sat_base.specs.Bits.{truths, HasWords};
 
     ghost Value = { List Bool };
 
-    ghost view = { λ assign. assign.values.items };
+    ghost view = { λ builder. truths builder.len builder.words.items };
+
+    ghost invariant = { λ builder. HasWords builder.len builder.words.items };
 }
 
-impl Assign {
+impl AssignBuilder {
     /// The assignment that makes each of so many variables false.
-    pub fn all_false(alloc: Global, vars: u32) -> Result<Assign, AllocError>
-        ensures { IfOk result (λ assign. assign ≡ replicate vars false) }
+    pub fn all_false(alloc: Global, vars: u32) -> Result<AssignBuilder, AllocError>
+        ensures { IfOk result (λ builder. builder ≡ replicate vars false) }
     {
-        let values = vec![in alloc; false; vars as usize]?;
-        Ok(Assign { values })
-    }
-
-    pub fn copy(&self, alloc: Global) -> Result<Assign, AllocError>
-        ensures { IfOk result (λ copy. copy ≡ self.now) }
-    {
-        let values = Vec::from_slice(alloc, self.values.as_slice())?;
-        Ok(Assign { values })
+        let len = vars as usize;
+        let words = vec![in alloc; 0; len / 64 + 1]?;
+        Ok(AssignBuilder { len, words })
     }
 
     /// How many variables it has.
     pub fn len(&self) -> usize
         ensures { result ≡ length self.now }
     {
-        self.values.len()
-    }
-
-    /// The values of the first variables alone, of so many.
-    pub fn prefix(self, vars: u32) -> Assign
-        ensures { result ≡ take vars self }
-    {
-        let mut values = self.values;
-        values.truncate(vars as usize);
-        Assign { values }
+        self.len
     }
 
     /// Gives a variable, counted from 1, its value.
@@ -61,7 +57,75 @@ impl Assign {
         ensures value { self.new ≡ slice_set self.old (var - 1) value }
         ensures len { length self.new ≡ length self.old }
     {
-        self.values[(var - 1) as usize] = value;
+        write(&mut self.words, (var - 1) as usize, value);
+    }
+
+    /// The assignment, which is shared from now on.
+    pub fn finish(self, alloc: Global) -> Result<Assign, AllocError>
+        ensures { IfOk result (λ assign. assign ≡ self) }
+    {
+        let AssignBuilder { len, words } = self;
+        let words = Arc::new(alloc, words)?;
+        Ok(Assign { len, words })
+    }
+}
+
+/// A truth value for each variable.
+#[derive(Debug, Drop)]
+pub struct Assign {
+    len: usize,
+    words: Arc<Vec<u64>, Global>,
+}
+
+impl Model for Assign {
+    ghost use Rattle.std.specs.Prelude.{List, Bool};
+    ghost use Rattle.std.specs.Arc.{arc_value};
+    ghost use Rattle.sat_base.specs.Bits.{truths, HasWords};
+
+    ghost Value = { List Bool };
+
+    ghost view = { λ assign. truths assign.len (arc_value assign.words).items };
+
+    ghost invariant = { λ assign. HasWords assign.len (arc_value assign.words).items };
+}
+
+impl Assign {
+    /// One more reference to it. It takes no memory, and fails where there are 2^63 references already.
+    pub fn copy(&self) -> Result<Assign, AllocError>
+        ensures { IfOk result (λ copy. copy ≡ self.now) }
+    {
+        let words = Arc::try_clone(&self.words)?;
+        Ok(Assign {
+            len: self.len,
+            words,
+        })
+    }
+
+    /// How many variables it has.
+    pub fn len(&self) -> usize
+        ensures { result ≡ length self.now }
+    {
+        self.len
+    }
+
+    /// The values of the first variables alone, of so many.
+    pub fn prefix(self, vars: u32) -> Assign
+        ensures { result ≡ take vars self }
+    {
+        let Assign { len, words } = self;
+        Assign {
+            len: len.min(vars as usize),
+            words,
+        }
+    }
+
+    // The value of a variable.
+    fn value(&self, var: u32) -> bool
+        requires not_zero { 0 < var }
+        requires in_range { var ≤ length self.now }
+        ensures { result ≡ slice_index_or self.now (var - 1) false }
+    {
+        read(self.words.as_slice(), (var - 1) as usize)
     }
 
     /// Whether the literal is true.
@@ -69,7 +133,7 @@ impl Assign {
         requires { var_of lit ≤ length self.now }
         ensures { result ≡ literal_true self.now lit }
     {
-        let value = self.values[(lit.var() - 1) as usize];
+        let value = self.value(lit.var());
         if lit.number() > 0 { value } else { !value }
     }
 

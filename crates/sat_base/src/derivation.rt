@@ -5,66 +5,44 @@
 //! 2017). Whether the steps follow is for a checker to say; the type keeps that each number is one that an evidence
 //! text can hold.
 //!
-//! The literals of all steps stand one after another, and so do their hints, so that a derivation of any length is
-//! three pieces of memory.
+//! The same refutation stands in many records. So a derivation is made by a builder, which has it alone, and is shared
+//! once it is finished: a copy is one more reference to the same steps.
 ghost use Rattle.std.specs.Prelude.{◌≡◌, ◌≤◌, ◌<◌, [], ◌∷◌, ◌++◌, All, Some, IfOk, OnOk, OnErr, length, slice_get};
 ghost use Rattle.sat_base.specs.Derivation.{Derivation, max_id, HasIds};
 
 use crate::lit::Lit;
+use crate::steps::{Step, Steps};
 use std::alloc::{AllocError, Global};
 use std::marker::Model;
+use std::sync::Arc;
 
-/// A step, lent by its derivation: its clause under its id, and the ids of the clauses that it follows from, in the
-/// order of propagation.
-#[derive(Clone, Copy)]
-pub struct Step<'a> {
-    pub id: u64,
-    pub lits: &'a [Lit],
-    pub hints: &'a [u64],
-}
-
-// Where a step's literals and hints begin and end among those of all steps.
-#[derive(Clone, Copy)]
-struct StepSpan {
-    id: u64,
-    lits_from: usize,
-    lits_to: usize,
-    hints_from: usize,
-    hints_to: usize,
-}
-
-/// Steps, and the id of the clause that they are made for.
+/// A derivation that is being made.
 #[derive(Drop)]
-pub struct Derivation {
+pub struct DerivationBuilder {
     goal: u64,
-    steps: Vec<StepSpan>,
-    lits: Vec<Lit>,
-    hints: Vec<u64>,
+    steps: Steps,
 }
 
-impl Model for Derivation {
-    ghost use Rattle.sat_base.specs.Derivation.{Derivation};
+impl Model for DerivationBuilder {
+    ghost use Rattle.std.specs.Prelude.{◌≤◌};
+    ghost use Rattle.sat_base.specs.Derivation.{Derivation, max_id};
 
     ghost Value = { Derivation };
 
-    ghost use Rattle.sat_base.specs.Spans.{derivation_of, IsLaidOut};
+    ghost view = { λ builder. record { steps = builder.steps; goal = builder.goal } };
 
-    ghost view = { derivation_of };
-
-    ghost invariant = { IsLaidOut };
+    ghost invariant = { λ builder. builder.goal ≤ max_id };
 }
 
-impl Derivation {
+impl DerivationBuilder {
     /// No steps, for a goal that may be an input clause. It takes no memory.
-    pub fn new(alloc: Global, goal: u64) -> Derivation
+    pub fn new(alloc: Global, goal: u64) -> DerivationBuilder
         requires { goal ≤ max_id }
         ensures { result ≡ record { steps = []; goal = goal } }
     {
-        Derivation {
+        DerivationBuilder {
             goal,
-            steps: Vec::new(alloc),
-            lits: Vec::new(alloc),
-            hints: Vec::new(alloc),
+            steps: Steps::new(alloc),
         }
     }
 
@@ -75,25 +53,40 @@ impl Derivation {
         ensures ok { OnOk result (self.new ≡ record self.old { steps = self.old.steps ++ record { id = id; lits = lits.now; hints = hints.now } ∷ [] }) }
         ensures err { OnErr result (self.new ≡ self.old) }
     {
-        let lits_from = self.lits.len();
-        let hints_from = self.hints.len();
-        // Room first, so that all is as it was where there is none.
-        self.steps.reserve(1)?;
-        self.lits.reserve(lits.len())?;
-        self.hints.extend_from_slice(hints)?;
-        self.lits.extend_from_slice(lits)?;
-        let lits_to = self.lits.len();
-        let hints_to = self.hints.len();
-        self.steps.push_reserved(StepSpan {
-            id,
-            lits_from,
-            lits_to,
-            hints_from,
-            hints_to,
-        });
+        self.steps.push(id, lits, hints)?;
         Ok(())
     }
 
+    /// The derivation, which is shared from now on.
+    pub fn finish(self, alloc: Global) -> Result<Derivation, AllocError>
+        ensures { IfOk result (λ derivation. derivation ≡ self) }
+    {
+        let DerivationBuilder { goal, steps } = self;
+        let steps = Arc::new(alloc, steps)?;
+        Ok(Derivation { goal, steps })
+    }
+}
+
+/// Steps, and the id of the clause that they are made for.
+#[derive(Drop)]
+pub struct Derivation {
+    goal: u64,
+    steps: Arc<Steps, Global>,
+}
+
+impl Model for Derivation {
+    ghost use Rattle.std.specs.Prelude.{◌≤◌};
+    ghost use Rattle.std.specs.Arc.{arc_value};
+    ghost use Rattle.sat_base.specs.Derivation.{Derivation, max_id};
+
+    ghost Value = { Derivation };
+
+    ghost view = { λ derivation. record { steps = arc_value derivation.steps; goal = derivation.goal } };
+
+    ghost invariant = { λ derivation. derivation.goal ≤ max_id };
+}
+
+impl Derivation {
     /// How many steps it has.
     pub fn len(&self) -> usize
         ensures { result ≡ length self.now.steps }
@@ -106,12 +99,7 @@ impl Derivation {
         requires { at < length self.now.steps }
         ensures { slice_get self.now.steps at ≡ Some (record { id = result.id; lits = result.lits.now; hints = result.hints.now }) }
     {
-        let span = self.steps[at];
-        Step {
-            id: span.id,
-            lits: &self.lits[span.lits_from..span.lits_to],
-            hints: &self.hints[span.hints_from..span.hints_to],
-        }
+        self.steps.step(at)
     }
 
     /// The id of the clause that it is made for.
@@ -119,21 +107,18 @@ impl Derivation {
         ensures goal { result ≡ self.now.goal }
         ensures ids { HasIds self.now }
     {
+        self.steps.ids_fit(self.goal);
         self.goal
     }
 
-    /// A copy of it.
-    pub fn copy(&self, alloc: Global) -> Result<Derivation, AllocError>
+    /// One more reference to it. It takes no memory, and fails where there are 2^63 references already.
+    pub fn copy(&self) -> Result<Derivation, AllocError>
         ensures { IfOk result (λ copy. copy ≡ self.now) }
     {
-        let steps = Vec::from_slice(alloc, self.steps.as_slice())?;
-        let lits = Vec::from_slice(alloc, self.lits.as_slice())?;
-        let hints = Vec::from_slice(alloc, self.hints.as_slice())?;
+        let steps = Arc::try_clone(&self.steps)?;
         Ok(Derivation {
             goal: self.goal,
             steps,
-            lits,
-            hints,
         })
     }
 }

@@ -4,10 +4,14 @@
 //! by which a clause follows from others, each by unit propagation along its hints:
 //!
 //! ```text
-//! let mut derivation = Derivation::new(alloc, 6);
-//! derivation.push(4, &[y.negated()], &[1, 2])?;
-//! derivation.push(6, &[], &[4, 3])?;
+//! let mut builder = DerivationBuilder::new(alloc, 6);
+//! builder.push(4, &[y.negated()], &[1, 2])?;
+//! builder.push(6, &[], &[4, 3])?;
+//! let derivation = builder.finish(alloc)?;
 //! ```
+//!
+//! Both are made by a builder, and shared once they are finished: a copy is one more reference, so that one assignment or
+//! one derivation can stand in many records.
 //!
 //! A [`Row`] is a list of whatever there are many of.
 //!
@@ -19,17 +23,21 @@
 #![tactic(auto)]
 
 mod assign;
+mod bits;
+mod crossing;
 mod derivation;
 mod lit;
 mod purse;
 mod row;
+mod steps;
 #[cfg(test)]
 mod tests;
 mod worklist;
 
-pub use assign::Assign;
-pub use derivation::{Derivation, Step};
+pub use assign::{Assign, AssignBuilder};
+pub use derivation::{Derivation, DerivationBuilder};
 pub use lit::{Lit, Lits};
 pub use purse::Purse;
 pub use row::Row;
+pub use steps::Step;
 pub use worklist::WorkList;

@@ -15,7 +15,7 @@ pub loop-place-preserved : goal.loop-place-preserved
 loop-place-preserved c =
     let trail = c.args.trail.now in
     let lit = c.at-lit.result in
-    let assign = c.loop-place.assign in
+    let assign = c.loop-place.builder in
     let b = c.is_positive.result in
     let inv = c.loop-place.invariant in
     let is : c.set.new.self ≡ set assign (var_of lit - 1) b = c.set.ensures.value ∙ ap (λ (v : ℕ). set assign (v - 1) b) c.var.ensures.same in

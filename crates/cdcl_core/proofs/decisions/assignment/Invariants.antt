@@ -6,6 +6,6 @@ use Rattle.cdcl_core.proofs.decisions.assignment.Given as goal
 
 abbrev pub invariant-loop-place : goal.invariant-loop-place
 invariant-loop-place l = record {
-  len : length l.assign ≡ l.trail.vars;
-  values : (lit : ℤ) → In lit (trues (oldest l.place l.trail.entries)) → literal_true l.assign lit ≡ true;
+  len : length l.builder ≡ l.trail.vars;
+  values : (lit : ℤ) → In lit (trues (oldest l.place l.trail.entries)) → literal_true l.builder lit ≡ true;
 }

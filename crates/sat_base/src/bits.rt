@@ -1,0 +1,21 @@
+//! Truth values as bits of words.
+ghost use Rattle.std.specs.Prelude.{◌≡◌, ◌<◌, ◌*◌, length};
+ghost use Rattle.sat_base.specs.Bits.{truth_at, with_truth};
+
+/// The truth value at a place.
+pub(crate) fn read(words: &[u64], at: usize) -> bool
+    requires { at < 64 * length words.now }
+    ensures { result ≡ truth_at words.now at }
+{
+    (words[at / 64] >> (at % 64)) & 1 == 1
+}
+
+/// Writes the truth value at a place.
+pub(crate) fn write(words: &mut Vec<u64>, at: usize, value: bool)
+    requires { at < 64 * length words.old.items }
+    ensures { words.new.items ≡ with_truth words.old.items at value }
+{
+    let word = words[at / 64];
+    let bit = 1 << (at % 64);
+    words[at / 64] = if value { word | bit } else { word & !bit };
+}
