@@ -11,6 +11,10 @@ use Rattle.gcnf_text.specs.Table.{first_offence}
 abbrev pub FaultlessIsRead : Type 0
 FaultlessIsRead = (text : List ℕ) → first_offence text ≡ None → (p : Problem) × Reads text p
 
+-- a text is one of at most one problem
+abbrev pub ReadsOne : Type 0
+ReadsOne = (text : List ℕ) (p q : Problem) → Reads text p → Reads text q → q ≡ p
+
 -- these are the tokens of this problem, which is well formed and within the limits
 pub record AreKindsOf (kinds : List Kind) (p : Problem) : Type 0 where
   pub well_formed : IsProblem p

@@ -1,9 +1,14 @@
 //! Laws over the definitions alone. Each is the contract of a function that has no code.
-ghost use Rattle.gcnf_text.specs.Laws.{FaultlessIsRead, FirstOffenceStops};
+ghost use Rattle.gcnf_text.specs.Laws.{FaultlessIsRead, ReadsOne, FirstOffenceStops};
 
 /// A text without an offence is one of a problem.
 pub fn faultless_is_read()
     ensures { FaultlessIsRead }
+{}
+
+/// A text is one of at most one problem: its bytes say all of it.
+pub fn reads_one_problem()
+    ensures { ReadsOne }
 {}
 
 /// The first offence of a text within the limit of bytes stands where no text of a problem goes on.
