@@ -4,7 +4,7 @@
 //! still to look at, ids that a derivation has still to reach. A number that is put in twice is handed out once, so
 //! whoever puts one in need not look for it first: equal numbers leave the heap one after another, and all of them are
 //! taken out together.
-ghost use Rattle.std.specs.Prelude.{◌≡◌, ◌↔◌, [], IsTrue, OnOk};
+ghost use Rattle.std.specs.Prelude.{◌≡◌, ◌↔◌, [], IsTrue, OnOk, OnErr};
 ghost use Rattle.std.specs.BinaryHeap.{heap_items, IsHeap};
 ghost use Rattle.std.specs.Ordering.{nat_cmp};
 ghost use Rattle.sat_base.specs.Members.{In};
@@ -44,7 +44,8 @@ impl WorkList {
 
     /// Puts a number in, which may be there already.
     pub fn insert(&mut self, number: u64) -> Result<(), AllocError>
-        ensures { OnOk result (HasMore self.old self.new number) }
+        ensures ok { OnOk result (HasMore self.old self.new number) }
+        ensures err { OnErr result (self.new ≡ self.old) }
     {
         self.numbers.push(number)?;
         Ok(())

@@ -27,7 +27,7 @@ loop-lit-preserved c =
           inl (
             w.if-place-below.true,
             subst (λ (new : List ℕ). HasMore c.loop-lit.places new place) (sym w.places-is)
-                (subst (HasMore c.loop-lit.places w.insert.new.self) (let same : w.from.result ≡ place = grind arith in same) w.in_ok-insert.ensures),
+                (subst (HasMore c.loop-lit.places w.insert.new.self) (let same : w.from.result ≡ place = grind arith in same) w.in_ok-insert.ensures.ok),
           )
       | else-place-below w ↦ inr (omega arith, sym w.places-is)
     ] in

@@ -6,4 +6,4 @@ use Rattle.lrat_steps.proofs.cone.put.Goals as goal
 -- the id of a derived step is put in
 pub returns : goal.returns
 returns c =
-    on_ok_weaker c.insert.result (puts_derived c.args.log.now c.args.work.now c.insert.new.self c.args.id (sym c.is_input.ensures ∙ c.if-is_input.false)) c.insert.ensures
+    on_ok_weaker c.insert.result (puts_derived c.args.log.now c.args.work.now c.insert.new.self c.args.id (sym c.is_input.ensures ∙ c.if-is_input.false)) c.insert.ensures.ok
