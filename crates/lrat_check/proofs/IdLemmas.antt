@@ -16,6 +16,7 @@ use Rattle.sat_base.specs.Derivation.{clause_of}
 use Rattle.sat_base.proofs.SpanLemmas.{range_before, range_at_end}
 use Rattle.std.proofs.lemmas.List.Elements.{recursion_from_All}
 use Rattle.lrat_check.specs.Refusal.{last_id}
+use Rattle.lrat_check.specs.State.{IdsAscend}
 use Rattle.lrat_check.specs.Ids.{cut_by, IsWithin, Ascend, IsAt, HasNoId}
 use Rattle.lrat_check.specs.declared.clauses.ClauseRecord.{ClauseRecord}
 
@@ -122,3 +123,16 @@ pub front_push : (records : List ClauseRecord) (r d : ClauseRecord) (i : ℕ) �
 front_push [] r d i lt = absurd (omega arith)
 front_push (s ∷ records) r d zero lt = refl
 front_push (s ∷ records) r d (suc i) lt = front_push records r d i (omega arith)
+
+-- the ids of the clauses ascend as those of the records do
+pub ids_ascend : (lits : List ℤ) (records : List ClauseRecord) → Ascend records → IdsAscend (map (cut_by lits) records)
+ids_ascend lits records up i j d lt within =
+    let most : j < length records = within_map within in
+    let none : ClauseRecord = record { id = 0; start = 0; end = 0 } in
+    let first = ap (λ (c : ℕ × List ℤ). c.0) (get_or-map (cut_by lits) records i none d (omega arith)) in
+    let second = ap (λ (c : ℕ × List ℤ). c.0) (get_or-map (cut_by lits) records j none d most) in
+    let rises = up i j none lt most in
+    omega arith
+  where
+    within_map : j < length (map (cut_by lits) records) → j < length records
+    within_map low = simp length-map at low

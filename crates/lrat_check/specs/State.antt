@@ -1,5 +1,6 @@
 -- What a checker is to its callers.
-use Rattle.std.specs.Prelude.{ℕ, ◌≤◌, List, [], ◌∷◌, ◌++◌, ℤ, Option, Some, None}
+use Rattle.std.specs.Prelude.{ℕ, ◌<◌, ◌≤◌, List, [], ◌∷◌, ◌++◌, ℤ, Option, Some, None}
+use Rattle.std.specs.List.{AllPairs}
 use Rattle.lrat_check.specs.declared.why.Why.{Why}
 use Rattle.lrat_check.specs.declared.checker.Checked.{Checked}
 use Rattle.lrat_check.specs.declared.checker.Checked.TheVariants as answer
@@ -14,6 +15,10 @@ pub record State : Type 0 where
   pub room : ℕ
   -- how many more literals do
   pub literal_room : ℕ
+
+-- each id is above those before it
+abbrev pub IdsAscend : List (ℕ × List ℤ) → Type 0
+IdsAscend known = AllPairs (λ (a b : ℕ × List ℤ). a.0 < b.0) known
 
 -- so many clauses, with so many literals together, fit with no more memory
 pub record HasRoomFor (s : State) (count literals : ℕ) : Type 0 where

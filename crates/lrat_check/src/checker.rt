@@ -47,7 +47,7 @@ impl Model for Checker {
 
 impl Checker {
     ghost use Rattle.lrat_check.specs.Refusal.{step_refusal, IsStep};
-    ghost use Rattle.lrat_check.specs.State.{HasRoomFor, refusal_of, known_after};
+    ghost use Rattle.lrat_check.specs.State.{HasRoomFor, IdsAscend, refusal_of, known_after};
 
     /// A checker of steps from these clauses, whose ids are 1, 2 and so on, over the variables 1 to `vars`.
     pub fn new(alloc: Global, inputs: &[Lits], vars: u32) -> Result<Checker, AllocError>
@@ -108,10 +108,11 @@ impl Checker {
         self.clauses.inputs()
     }
 
-    /// The clause of an id, as it was given or accepted.
+    /// The clause of an id, as it was given or accepted. No two clauses have one id.
     pub fn clause(&self, id: u64) -> Option<&[Lit]>
         ensures clause { option_copied result ≡ clause_of self.now.known id }
         ensures over { IfSome result (λ clause. AreLiterals self.now.vars clause.now) }
+        ensures ascend { IdsAscend self.now.known }
     {
         self.clauses.clause(id)
     }

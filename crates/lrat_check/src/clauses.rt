@@ -8,7 +8,7 @@ ghost use Rattle.std.specs.Option.{option_copied};
 ghost use Rattle.sat_base.specs.Literals.{AreLiterals};
 ghost use Rattle.sat_base.specs.Derivation.{clause_of};
 ghost use Rattle.lrat_check.specs.Refusal.{last_id};
-ghost use Rattle.lrat_check.specs.State.{HasRoomFor};
+ghost use Rattle.lrat_check.specs.State.{HasRoomFor, IdsAscend};
 ghost use Rattle.lrat_check.specs.Ids.{Ascend, IsAt, HasNoId};
 
 use sat_base::Lit;
@@ -92,6 +92,7 @@ impl ClauseList {
     pub fn clause(&self, id: u64) -> Option<&[Lit]>
         ensures clause { option_copied result ≡ clause_of self.now.known id }
         ensures over { IfSome result (λ clause. AreLiterals self.now.vars clause.now) }
+        ensures ascend { IdsAscend self.now.known }
     {
         match find(&self.records, id) {
             Some(place) => {

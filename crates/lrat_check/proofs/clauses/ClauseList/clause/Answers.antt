@@ -1,10 +1,10 @@
 use Rattle.std.proofs.Common.{List, ℤ, ap, subst, sym, ◌∙◌, Some, slice_range}
 use Rattle.sat_base.specs.Literals.{AreLiterals}
 use Rattle.sat_base.specs.Derivation.{clause_of}
-use Rattle.lrat_check.specs.State.{State}
+use Rattle.lrat_check.specs.State.{State, IdsAscend}
 use Rattle.lrat_check.specs.Ids.{IsAt, HasNoId}
 use Rattle.lrat_check.specs.declared.clauses.ClauseRecord.{ClauseRecord}
-use Rattle.lrat_check.proofs.IdLemmas.{known_at, known_nowhere, over_cut}
+use Rattle.lrat_check.proofs.IdLemmas.{ids_ascend, known_at, known_nowhere, over_cut}
 use Rattle.lrat_check.proofs.clauses.ClauseList.clause.Goals as goal
 
 -- the record at that place cuts the clause
@@ -29,3 +29,14 @@ pub returns-in-None-clause-clause : goal.returns-in-None-clause-clause
 returns-in-None-clause-clause c =
     let none : HasNoId c.self.inside.records.items c.args.id = subst (λ (rs : List ClauseRecord). HasNoId rs c.args.id) c.deref.ensures.value c.in-None.ensures.none in
     sym (known_nowhere c.self.inside.lits.items c.self.inside.records.items c.args.id none) ∙ ap (λ (s : State). clause_of s.known c.args.id) c.self.view_is
+
+-- whatever is answered, the ids ascend as those of the records do
+pub returns-in-Some-clause-ascend : goal.returns-in-Some-clause-ascend
+returns-in-Some-clause-ascend c =
+    subst (λ (s : State). IdsAscend s.known) c.self.view_is
+    (ids_ascend c.self.inside.lits.items c.self.inside.records.items c.self.invariant.ascend)
+
+pub returns-in-None-clause-ascend : goal.returns-in-None-clause-ascend
+returns-in-None-clause-ascend c =
+    subst (λ (s : State). IdsAscend s.known) c.self.view_is
+    (ids_ascend c.self.inside.lits.items c.self.inside.records.items c.self.invariant.ascend)
