@@ -139,7 +139,7 @@ kept_kept es p e first old new before lits at up t k = record {
   added_from = λ l i. elim (In-append_cases l k.added (neg_ℤ e.lit ∷ []) i) [
     | inl old1 ↦ k.added_from l old1
     | inr (inl s) ↦ elim (k.places_from p t.0.has) [
-      | inl there ↦ (p, there, s ∙ sym is)
+      | inl there ↦ (p, there, up, s ∙ sym is)
       | inr root ↦ absurd (omega (arith, root, up))
     ]
     | inr (inr never) ↦ absurd never
@@ -189,6 +189,7 @@ learnt_of vars db es places before lits hints more back trail u a k = record {
   follows = analysis_follows vars db es (length es) lits more trail none_true a;
   is_false = all_false;
   used = λ l i. a.used l (hand_lit es [] lits l i);
+  above_root = above_root;
   unset = u.unset;
   others = λ l i. elim (cases l i) [
     | inl s ↦ inl s
@@ -208,7 +209,7 @@ learnt_of vars db es places before lits hints more back trail u a k = record {
     cases l i = subst (In l) whole i
 
     at_place : (l : ℤ) → In l k.added → (p : ℕ) × (p < length es) × (level_of es p ≤ back) × (l ≡ false_at es p)
-    at_place l i = let (p, there, is) = k.added_from l i in (p, u.analysis.below p there, u.above p there, is)
+    at_place l i = let (p, there, up, is) = k.added_from l i in (p, u.analysis.below p there, u.above p there, is)
 
     up_to_back : (l : ℤ) → In l k.added → In (neg_ℤ l) (trues (keep back es))
     up_to_back l i = let (p, lt, le, is) = at_place l i in subst (λ (m : ℤ). In (neg_ℤ m) (trues (keep back es))) (sym is) (false_kept es p back lt le)
@@ -217,6 +218,17 @@ learnt_of vars db es places before lits hints more back trail u a k = record {
     all_false l i = elim (cases l i) [
       | inl s ↦ subst (λ (m : ℤ). In (neg_ℤ m) (trues es)) (sym s) u.is_false
       | inr d ↦ lit-keep_in back es (neg_ℤ l) (up_to_back l d)
+    ]
+
+    above_root : (l : ℤ) → In l lits → ¬ In (neg_ℤ l) (trues (keep 0 es))
+    above_root l i root = elim (cases l i) [
+      | inl s ↦
+          u.unset.not_false
+          (subst (λ (m : ℤ). In (neg_ℤ m) (trues (before_last es))) s (lit-keep_more 0 (top es - 1) es (neg_ℤ l) (omega arith) root))
+      | inr d ↦
+          (let (p, there, up, is) = k.added_from l d in
+          false_open vars es p 0 trail (u.analysis.below p there) up
+          (subst (λ (m : ℤ). In (neg_ℤ m) (trues (keep 0 es))) is root))
     ]
 
     none_true : (m : ℤ) → In m lits → ¬ In m (trues (oldest (length es) es))

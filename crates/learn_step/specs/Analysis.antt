@@ -54,12 +54,16 @@ IsFrom es places p = In p places ⊎ (level_of es p ≡ 0)
 abbrev pub IsFalseAt : List Entry → List ℕ → ℤ → Type 0
 IsFalseAt es places lit = (p : ℕ) × In p places × (lit ≡ false_at es p)
 
+-- the literal is false by the value at one of these places, above level 0
+abbrev pub IsFalseAbove : List Entry → List ℕ → ℤ → Type 0
+IsFalseAbove es places lit = (p : ℕ) × In p places × (0 < level_of es p) × (lit ≡ false_at es p)
+
 -- what was looked at after the first unique implication point: the literals above level 0 are kept, the others resolved
 pub record AreKept (es : List Entry) (first : List ℕ) (before : List ℤ) (places : List ℕ) (lits : List ℤ) : Type 0 where
   pub added : List ℤ
   pub is : lits ≡ before ++ added
   pub places_from : (p : ℕ) → In p places → IsFrom es first p
-  pub added_from : (l : ℤ) → In l added → IsFalseAt es first l
+  pub added_from : (l : ℤ) → In l added → IsFalseAbove es first l
   pub all : (p : ℕ) → In p first → 0 < level_of es p → In p places ⊎ In (false_at es p) added
 
 -- on the way down to the decisions: beside what a core begins with, which became true after all that the analysis uses,

@@ -38,6 +38,8 @@ pub record IsLearnt (db : List StoredClause) (es : List Entry) (lits : List ℤ)
   pub follows : follows (known_of db) lits hints ≡ true
   pub is_false : AllFalse (trues es) lits
   pub used : (l : ℤ) → In l lits → IsUsed db l
+  -- no literal is one of level 0: those were resolved away
+  pub above_root : (l : ℤ) → In l lits → ¬ In (neg_ℤ l) (trues (keep 0 es))
   pub unset : IsUnset (trues (before_last es)) first
   pub others : AllFalseBut (trues (before_last es)) lits first
   pub back : IsBackLevel es lits first back_level
