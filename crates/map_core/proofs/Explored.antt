@@ -335,9 +335,9 @@ not_new s t (Post kind groups) engine u records ok marked h =
     false≢true (sym h.1.0 ∙ same ∙ held)
 not_new s t Retire engine u records ok marked h = cc (h.1)
 
--- once exhausted is marked, no post is New
-pub exhausted_stays : (s t : State) (e : Entry) → IsSound s → s.exhausted ≡ true → CoreStep s e t → e.reply ≢ New
-exhausted_stays s t e ok marked step new =
+-- where exhausted is marked, no post is New
+pub exhausted_ends_posts : (s t : State) (e : Entry) → IsSound s → s.exhausted ≡ true → CoreStep s e t → e.reply ≢ New
+exhausted_ends_posts s t e ok marked step new =
     not_new s (settle e.used (turn_at s e.worker)) e.call e.engine step.turn step.records ok marked
     (subst (λ r. Does s (settle e.used (turn_at s e.worker)) e.call e.engine r step.turn step.records) new step.does)
 

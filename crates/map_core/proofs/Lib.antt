@@ -6,3 +6,4 @@ pub mod Searched
 pub mod Kept
 pub mod Told
 pub mod Ended
+pub mod Marks

@@ -26,6 +26,9 @@ pub record TurnFacts (s : State) (t : Turn) (used : ℕ) (engine : Option ℕ) (
   pub live : t.ended ≡ false → 0 < u.available → (u.ended ≡ false) ⊎ ((u.exhausted || (u.limited || u.stopped)) ≡ true)
   pub exhausted : u.exhausted ≡ true → (t.exhausted ≡ true) ⊎ AllExplored s.opening.problem.groups (founds s.records)
   pub limited : u.limited ≡ true → (t.limited ≡ true) ⊎ (is_full s.opening s.records ≡ true)
+  -- no mark is taken back
+  pub keeps_exhausted : t.exhausted ≡ true → u.exhausted ≡ true
+  pub keeps_limited : t.limited ≡ true → u.limited ≡ true
 
 -- the part with so much more spent: all else of the worker and the marks is as before, and nothing is lost
 record IsPaid (t u : Turn) (paid : ℕ) : Type 0 where
@@ -101,6 +104,8 @@ facts-end s t u used engine reply paid own kept why =
       ];
       exhausted = λ h. inl (sym paid.exhausted ∙ h);
       limited = λ h. inl (sym paid.limited ∙ h);
+      keeps_exhausted = λ h. paid.exhausted ∙ h;
+      keeps_limited = λ h. paid.limited ∙ h;
     }
 
 -- a worker that ends since there are as many records as the limit
@@ -118,6 +123,8 @@ facts-limit s t u used paid full =
       live = λ _ _. inr (or_right u.exhausted (true || u.stopped) refl);
       exhausted = λ h. inl (sym paid.exhausted ∙ h);
       limited = λ _. inr full;
+      keeps_exhausted = λ h. paid.exhausted ∙ h;
+      keeps_limited = λ _. refl;
     }
 
 -- a worker that ends since the engine answered that each set is explored
@@ -136,6 +143,8 @@ facts-exhausted s t u used n paid all =
       live = λ _ _. inr refl;
       exhausted = λ _. inr all;
       limited = λ h. inl (sym paid.limited ∙ h);
+      keeps_exhausted = λ _. refl;
+      keeps_limited = λ h. paid.limited ∙ h;
     }
 
 -- a worker that retires, or has no memory
@@ -155,6 +164,8 @@ facts-retire s t u used engine reply paid own retired =
       live = λ _ _. inr (or_right u.exhausted (u.limited || true) (or_right u.limited true refl));
       exhausted = λ h. inl (sym paid.exhausted ∙ h);
       limited = λ h. inl (sym paid.limited ∙ h);
+      keeps_exhausted = λ h. paid.exhausted ∙ h;
+      keeps_limited = λ h. paid.limited ∙ h;
     }
 
 -- a worker whose empty purse is given some of what is available
@@ -178,6 +189,8 @@ facts-grant s t u used n engine reply paid own kept le none =
       live = λ alive _. inl (paid.ended ∙ alive);
       exhausted = λ h. inl (sym paid.exhausted ∙ h);
       limited = λ h. inl (sym paid.limited ∙ h);
+      keeps_exhausted = λ h. paid.exhausted ∙ h;
+      keeps_limited = λ h. paid.limited ∙ h;
     }
 
 -- a worker that keeps the rest of its purse
@@ -195,6 +208,8 @@ facts-kept s t used reply le own kept =
       live = λ alive _. inl alive;
       exhausted = λ h. inl h;
       limited = λ h. inl h;
+      keeps_exhausted = λ h. h;
+      keeps_limited = λ h. h;
     }
 
 facts-unasked : (s : State) (t : Turn) (used : ℕ) (reply : Reply) (u : Turn) → used ≤ t.purse

@@ -1,5 +1,5 @@
 -- Laws of the core, over every list of entries.
-use Rattle.std.specs.Prelude.{◌≡◌, ◌≢◌, ℕ, true, false, List}
+use Rattle.std.specs.Prelude.{◌≡◌, ◌≢◌, ◌||◌, ℕ, true, false, List}
 use Rattle.std.specs.List.{AllByRecursion}
 use Rattle.gm_base.specs.Sets.{IsGroupSet, IsSubset, all_groups}
 use Rattle.gm_base.specs.Problem.{Problem, Sat}
@@ -9,7 +9,7 @@ use Rattle.gm_base.specs.declared.kind.Kind.{Kind}
 use Rattle.gm_base.specs.declared.kind.Kind.TheVariants.{Conflict, Correction}
 use Rattle.evidence_rec.specs.declared.record.Record.{Record}
 use Rattle.evidence_rec.specs.Records.{kind_of, found_of, founds}
-use Rattle.map_core.specs.declared.entry.Reply.TheVariants.{Job, New}
+use Rattle.map_core.specs.declared.entry.Reply.TheVariants.{Job, Grant, New}
 use Rattle.map_core.specs.declared.entry.Entry.{Entry}
 use Rattle.map_core.specs.declared.entry.Opening.{Opening}
 use Rattle.map_core.specs.Core.{State, is_held, CoreStep, CoreRun, opened}
@@ -44,10 +44,6 @@ StepsExplore = (s t : State) (e : Entry) (set : List ℕ) → CoreStep s e t →
 abbrev pub JobsAreNew : Type 0
 JobsAreNew = (s t : State) (e : Entry) (turn n : ℕ) (seed : List ℕ) → CoreStep s e t → e.reply ≡ Job turn seed n → is_explored (founds s.records) seed ≡ false
 
--- once exhausted is marked, no post is New
-abbrev pub ExhaustedStays : Type 0
-ExhaustedStays = (s t : State) (e : Entry) → IsSound s → s.exhausted ≡ true → CoreStep s e t → e.reply ≢ New
-
 -- what is held is minimal
 abbrev pub HeldIsMinimal : Type 0
 HeldIsMinimal =
@@ -77,3 +73,39 @@ ExhaustedHoldsAll =
     → IsSubset set (all_groups s.opening.problem.groups)
     → (IsConflict s.opening.problem set → is_held s.records Conflict set ≡ true)
     × (IsCorrection s.opening.problem set → is_held s.records Correction set ≡ true)
+
+-- a mark of the one state is a mark of the other
+pub record KeepsMarks (s t : State) : Type 0 where
+  pub exhausted : s.exhausted ≡ true → t.exhausted ≡ true
+  pub limited : s.limited ≡ true → t.limited ≡ true
+  pub stopped : s.stopped ≡ true → t.stopped ≡ true
+
+-- a mark stays, whatever is called from then on
+abbrev pub MarksStay : Type 0
+MarksStay = (s t : State) (log : List Entry) → CoreRun s log t → KeepsMarks s t
+
+-- once exhausted or limited is marked, no later post is New
+abbrev pub NoneIsNew : Type 0
+NoneIsNew =
+    (s t : State) (log : List Entry)
+    → IsSound s
+    → CoreRun s log t
+    → (s.exhausted || s.limited) ≡ true
+    → AllByRecursion (λ (e : Entry). e.reply ≢ New) log
+
+-- once any mark stands, no later take gives a job
+abbrev pub NoneIsJob : Type 0
+NoneIsJob =
+    (s t : State) (log : List Entry)
+    → IsSound s
+    → CoreRun s log t
+    → (s.exhausted || s.limited || s.stopped) ≡ true
+    → AllByRecursion (λ (e : Entry). (turn n : ℕ) (seed : List ℕ) → e.reply ≢ Job turn seed n) log
+
+-- once stopped is marked, no later refill is a grant
+abbrev pub NoneIsGrant : Type 0
+NoneIsGrant =
+    (s t : State) (log : List Entry)
+    → CoreRun s log t
+    → s.stopped ≡ true
+    → AllByRecursion (λ (e : Entry). (n : ℕ) → e.reply ≢ Grant n) log

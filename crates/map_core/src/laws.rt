@@ -1,5 +1,5 @@
 //! What holds after every list of entries, by any workers in any order: each law is the contract of a function with no code.
-ghost use Rattle.map_core.specs.Laws.{OpeningIsSound, StepsKeepSound, RunsAreSound, SoundDecides, StepsExplore, JobsAreNew, ExhaustedStays, HeldIsMinimal, NotBoth, ExhaustedHoldsAll};
+ghost use Rattle.map_core.specs.Laws.{OpeningIsSound, StepsKeepSound, RunsAreSound, SoundDecides, StepsExplore, JobsAreNew, HeldIsMinimal, NotBoth, ExhaustedHoldsAll, MarksStay, NoneIsNew, NoneIsJob, NoneIsGrant};
 
 /// The opening state has the core's facts, and each step keeps them.
 pub fn core_is_sound()
@@ -13,7 +13,6 @@ pub fn explored_is_right()
     ensures decides { SoundDecides }
     ensures stays { StepsExplore }
     ensures jobs { JobsAreNew }
-    ensures exhausted { ExhaustedStays }
 {}
 
 /// What is held, and that nothing is missing once exhausted is marked.
@@ -21,4 +20,12 @@ pub fn held_is_right()
     ensures minimal { HeldIsMinimal }
     ensures apart { NotBoth }
     ensures all { ExhaustedHoldsAll }
+{}
+
+/// Marks stay, and what each of them ends for good.
+pub fn marks_are_final()
+    ensures stay { MarksStay }
+    ensures records { NoneIsNew }
+    ensures jobs { NoneIsJob }
+    ensures grants { NoneIsGrant }
 {}
