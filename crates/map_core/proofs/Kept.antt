@@ -21,10 +21,9 @@ use Rattle.map_core.specs.declared.turn.Worker.{Worker}
 use Rattle.map_core.specs.declared.turn.Turn.{Turn}
 use Rattle.map_core.specs.declared.common.Common.{Common}
 use Rattle.map_core.specs.declared.held.Held.{Held}
-use Rattle.map_core.specs.Core.{State, no_worker, worker_at, opened, turn_at, worker_in, settle, Takes, Posts, Does, after, CoreStep, CoreRun}
+use Rattle.map_core.specs.Core.{State, no_worker, worker_at, opened, turn_at, settle, Takes, Posts, Does, after, CoreStep, CoreRun}
 use Rattle.map_core.specs.Own.{calls_of, CanCall, engine_part}
 use Rattle.map_core.specs.Sound.{IsOpening, IsSound, purse_of, is_live, live_count}
-use Rattle.map_core.specs.Shared.{common_in}
 use Rattle.map_core.specs.Index.{IsIndex}
 use Rattle.std.specs.Option.{option_or}
 use Rattle.map_core.specs.Asked.{GivesProof}
@@ -62,20 +61,20 @@ ready {s = s} {w = w} {used = used} k can =
 -- the entry takes the caller's place where it ends, and a new one where it goes on
 pub room_after : (workers : List Worker) (size capacity more w : ℕ) (u : Turn) → w < length workers
     → (worker_at workers w).ended ≡ false → size + live_count workers ≤ capacity → capacity ≤ more
-    → (u.ended ≡ false → size + (length workers + 1) ≤ more)
-    → (size + 1) + live_count (set workers w (worker_in u)) ≤ more
+    → (u.worker.ended ≡ false → size + (length workers + 1) ≤ more)
+    → (size + 1) + live_count (set workers w u.worker) ≤ more
 room_after workers size capacity more w u seat alive room longer on =
-    let changed : live_count (set workers w (worker_in u)) + cond (not (worker_at workers w).ended) 1 0 ≡ live_count workers + cond (not u.ended) 1 0 =
-    sum_by-set (λ (x : Worker). cond (is_live x) 1 0) workers w (worker_in u) no_worker seat in
-    let was : live_count (set workers w (worker_in u)) + 1 ≡ live_count workers + cond (not u.ended) 1 0 =
+    let changed : live_count (set workers w u.worker) + cond (not (worker_at workers w).ended) 1 0 ≡ live_count workers + cond (not u.worker.ended) 1 0 =
+    sum_by-set (λ (x : Worker). cond (is_live x) 1 0) workers w u.worker no_worker seat in
+    let was : live_count (set workers w u.worker) + 1 ≡ live_count workers + cond (not u.worker.ended) 1 0 =
     subst
-    (λ b. live_count (set workers w (worker_in u)) + cond (not b) 1 0 ≡ live_count workers + cond (not u.ended) 1 0)
+    (λ b. live_count (set workers w u.worker) + cond (not b) 1 0 ≡ live_count workers + cond (not u.worker.ended) 1 0)
     alive changed in
-    elim (cases_Bool u.ended) [
-      | inl over ↦ let now : live_count (set workers w (worker_in u)) + 1 ≡ live_count workers + 0 = subst (λ b. live_count (set workers w (worker_in u)) + 1 ≡ live_count workers + cond (not b) 1 0) over was in omega arith
+    elim (cases_Bool u.worker.ended) [
+      | inl over ↦ let now : live_count (set workers w u.worker) + 1 ≡ live_count workers + 0 = subst (λ b. live_count (set workers w u.worker) + 1 ≡ live_count workers + cond (not b) 1 0) over was in omega arith
       | inr goes ↦
-          let most = count_by-le-length is_live (set workers w (worker_in u)) in
-          let size_of = length-set workers w (worker_in u) in
+          let most = count_by-le-length is_live (set workers w u.worker) in
+          let size_of = length-set workers w u.worker in
           let more_room = on goes in omega arith
     ]
 
@@ -128,12 +127,12 @@ driven_after {s = s} e u records d on =
 -- what a call writes back is the state after its entry
 pub moved : (problem : Problem) (first budget limit : ℕ) (common common' : Common)
     (records records' : List Record) (workers workers' : List Worker) (history history' : List Entry) (e : Entry)
-    (u : Turn) → common' ≡ common_in u → workers' ≡ set workers e.worker (worker_in u) → history' ≡ history ++ e ∷ []
+    (u : Turn) → common' ≡ u.common → workers' ≡ set workers e.worker u.worker → history' ≡ history ++ e ∷ []
     → take first records' ≡ take first records
     → state_of problem first budget limit common' records' workers' history' ≡ after
     (state_of problem first budget limit common records workers history) e u records'
 moved problem first budget limit common common' records records' workers workers' history history' e u c w h r =
-    let size : length workers' ≡ length workers = ap length w ∙ length-set workers e.worker (worker_in u) in
+    let size : length workers' ≡ length workers = ap length w ∙ length-set workers e.worker u.worker in
     ap (λ x. state_of problem first budget limit x records' workers' history') c
     ∙ ap (λ x. at (take first records') (length workers') workers' x) h
     ∙ ap (λ x. at x (length workers') workers' (history ++ e ∷ [])) r
@@ -146,11 +145,11 @@ moved problem first budget limit common common' records records' workers workers
           opening = record { problem = problem; records = opening; workers = n; budget = budget; limit = limit };
           records = records';
           workers = workers;
-          available = u.available;
-          spent = u.spent;
-          exhausted = u.exhausted;
-          limited = u.limited;
-          stopped = u.stopped;
+          available = u.common.available;
+          spent = u.common.spent;
+          exhausted = u.common.exhausted;
+          limited = u.common.limited;
+          stopped = u.common.stopped;
           history = history;
         }
 
@@ -216,7 +215,7 @@ pub step_made : (problem : Problem) (first budget limit : ℕ) (common common' :
     → IsReady (state_of problem first budget limit common records workers history) e.worker e.used
     → Does (state_of problem first budget limit common records workers history)
     (settle e.used (turn_at (state_of problem first budget limit common records workers history) e.worker)) e.call
-    e.engine e.reply u records' → common' ≡ common_in u → workers' ≡ set workers e.worker (worker_in u)
+    e.engine e.reply u records' → common' ≡ u.common → workers' ≡ set workers e.worker u.worker
     → history' ≡ history ++ e ∷ []
     → CoreStep (state_of problem first budget limit common records workers history) e
     (state_of problem first budget limit common' records' workers' history')
@@ -243,10 +242,10 @@ pub call_kept : {problem : Problem} {first budget limit : ℕ} {common : Common}
     → IsReady (state_of problem first budget limit common records workers history) e.worker e.used
     → Does (state_of problem first budget limit common records workers history)
     (settle e.used (turn_at (state_of problem first budget limit common records workers history) e.worker)) e.call
-    e.engine e.reply u records' → common' ≡ common_in u → workers' ≡ set workers e.worker (worker_in u)
+    e.engine e.reply u records' → common' ≡ u.common → workers' ≡ set workers e.worker u.worker
     → history' ≡ history ++ e ∷ [] → capacity ≤ capacity'
-    → (u.ended ≡ false → length history + (length workers + 1) ≤ capacity') → IsIndex held' records'
-    → KeepsProof problem.groups (founds records') u.exhausted proof' → IsDrivenOn engine engine' records' e
+    → (u.worker.ended ≡ false → length history + (length workers + 1) ≤ capacity') → IsIndex held' records'
+    → KeepsProof problem.groups (founds records') u.common.exhausted proof' → IsDrivenOn engine engine' records' e
     → IsKept (state_of problem first budget limit common' records' workers' history') first capacity' held'
     engine' proof'
 call_kept {problem = problem} {first = first} {budget = budget} {limit = limit} {common = common} {records = records} {workers = workers} {history = history} common' records' workers' history' capacity' held' engine' proof' e u k r does c w h longer on index keeps driven =
@@ -255,16 +254,16 @@ call_kept {problem = problem} {first = first} {budget = budget} {limit = limit} 
     k.begins r does c w h in
     let room = room_after workers (length history) _ capacity' e.worker u r.seat r.alive k.room longer on in
     let size : length history' ≡ length history + 1 = ap length h ∙ length-append history (e ∷ []) in
-    let live : live_count workers' ≡ live_count (set workers e.worker (worker_in u)) = ap live_count w in
-    let marked : common'.exhausted ≡ u.exhausted = ap (λ (x : Common). x.exhausted) c in
+    let live : live_count workers' ≡ live_count (set workers e.worker u.worker) = ap live_count w in
+    let marked : common'.exhausted ≡ u.common.exhausted = ap (λ (x : Common). x.exhausted) c in
     kept_step capacity' held' engine' proof' k step (omega arith) index
     (subst (λ b. KeepsProof problem.groups (founds records') b proof') (sym marked) keeps) driven
 
 -- a call that does not mark exhausted keeps the proof
 pub proof_kept : {s : State} {first capacity : ℕ} {held : Held} {engine : EngineState} {proof : Option Derivation}
     (e : Entry) (u : Turn) (records : List Record) → IsKept s first capacity held engine proof
-    → Does s (settle e.used (turn_at s e.worker)) e.call e.engine e.reply u records → u.exhausted ≡ s.exhausted
-    → KeepsProof s.opening.problem.groups (founds records) u.exhausted proof
+    → Does s (settle e.used (turn_at s e.worker)) e.call e.engine e.reply u records → u.common.exhausted ≡ s.exhausted
+    → KeepsProof s.opening.problem.groups (founds records) u.common.exhausted proof
 proof_kept {s = s} {proof = proof} e u records k does same =
     subst (λ b. KeepsProof s.opening.problem.groups (founds records) b proof) (sym same)
     (elim (grown s (settle e.used (turn_at s e.worker)) u e.call e.engine e.reply records does) [
@@ -274,8 +273,8 @@ proof_kept {s = s} {proof = proof} e u records k does same =
 
 -- the proof after a take: the one that it gives, or the one before
 pub proof_taken : (groups groups' : ℕ) (found found' : List Found) (t u : Turn) (before given : Option Derivation)
-    → groups' ≡ groups → found' ≡ found → KeepsProof groups found t.exhausted before
-    → GivesProof groups' found' t u given → KeepsProof groups found u.exhausted (option_or given before)
+    → groups' ≡ groups → found' ≡ found → KeepsProof groups found t.common.exhausted before
+    → GivesProof groups' found' t u given → KeepsProof groups found u.common.exhausted (option_or given before)
 proof_taken groups groups' found found' t u before None same is h gives = subst (λ b. KeepsProof groups found b before) (sym gives) h
 proof_taken groups groups' found found' t u before (Some d) same is h gives =
     (gives.0, ap (λ f. shows_all_explored groups f d) (sym is) ∙ ap (λ n. shows_all_explored n found' d) (sym same) ∙ gives.1)

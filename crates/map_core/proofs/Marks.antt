@@ -78,7 +78,7 @@ none_is_new s t log ok run marked =
 -- a job is given only where no mark stands and the limit isn't reached
 job_unmarked : (s : State) (t : Turn) (call : Call) (engine : Option ℕ) (turn n : ℕ) (seed : List ℕ) (u : Turn) (records : List Record)
     → Does s t call engine (Job turn seed n) u records
-    → (t.exhausted ≡ false) × (is_full s.opening s.records ≡ false) × (t.stopped ≡ false)
+    → (t.common.exhausted ≡ false) × (is_full s.opening s.records ≡ false) × (t.common.stopped ≡ false)
 job_unmarked s t Take None turn n seed u records h = absurd h.0
 job_unmarked s t Take (Some k) turn n seed u records h = (h.0.0.not_exhausted, h.0.0.not_full, h.0.0.not_stopped)
 job_unmarked s t (Refill asked) engine turn n seed u records h = absurd h.1
@@ -130,7 +130,7 @@ pub none_is_job : (s t : State) (log : List Entry) → IsSound s → CoreRun s l
 none_is_job s t log ok run marked = along IsMarked GivesNoJob marked_step s t log (ok, marked) run
 
 grant_going : (s : State) (t : Turn) (call : Call) (engine : Option ℕ) (n : ℕ) (u : Turn) (records : List Record)
-    → Does s t call engine (Grant n) u records → t.stopped ≡ false
+    → Does s t call engine (Grant n) u records → t.common.stopped ≡ false
 grant_going s t Take None n u records h = absurd h.0
 grant_going s t Take (Some k) n u records h = absurd h.0.1
 grant_going s t (Refill asked) engine n u records h = h.1.0

@@ -21,7 +21,7 @@ use Rattle.map_core.specs.declared.entry.Entry.{Entry}
 use Rattle.map_core.specs.declared.entry.Opening.{Opening}
 use Rattle.map_core.specs.declared.turn.Worker.{Worker}
 use Rattle.map_core.specs.declared.turn.Turn.{Turn}
-use Rattle.map_core.specs.Core.{State, no_worker, new_worker, worker_at, opened, turn_at, worker_in, settle, is_held, is_full, Posts, Does, after, CoreStep, CoreRun}
+use Rattle.map_core.specs.Core.{State, no_worker, new_worker, worker_at, opened, turn_at, settle, is_held, is_full, Posts, Does, after, CoreStep, CoreRun}
 use Rattle.map_core.specs.Own.{caller_of, calls_of, worker_after, worker_from, worker_of, is_retirement, engine_part}
 use Rattle.map_core.specs.Sound.{AreNew, IsOpening, purse_of, is_live, IsSound}
 use Rattle.map_core.proofs.Turns.{TurnFacts, turn_facts}
@@ -187,7 +187,7 @@ after_sound : (s : State) (e : Entry) (u : Turn) (records : List Record) → IsS
 after_sound s e u records ok alive f more =
     let i : ℕ = e.worker in
     let low : i < length s.workers = is_seat s i alive in
-    let me : Worker = worker_in u in
+    let me : Worker = u.worker in
     let longer = is_longer s records more in
     record {
       opening = ok.opening;
@@ -237,11 +237,11 @@ after_sound s e u records ok alive f more =
       live = λ some.
           elim (f.live alive some) [
             | inl on ↦
-                or_left (list_any is_live (set s.workers i me)) (u.exhausted || (u.limited || u.stopped))
+                or_left (list_any is_live (set s.workers i me)) (u.common.exhausted || (u.common.limited || u.common.stopped))
                 (list_any_at is_live (set s.workers i me) i no_worker
                 (subst (λ n. i < n) (sym (length-set s.workers i me)) low)
                 (ap is_live (worker_at-same s i me alive) ∙ ap not on))
-            | inr marks ↦ or_right (list_any is_live (set s.workers i me)) (u.exhausted || (u.limited || u.stopped)) marks
+            | inr marks ↦ or_right (list_any is_live (set s.workers i me)) (u.common.exhausted || (u.common.limited || u.common.stopped)) marks
           ];
       last = λ before x same unmarked.
           subst (λ (y : Entry). (worker_at (set s.workers i me) y.worker).ended ≡ true → y.reply ≡ Dry)

@@ -11,36 +11,36 @@ use Rattle.map_core.specs.declared.entry.Call.TheVariants.{Take, Refill, Post, R
 use Rattle.map_core.specs.declared.entry.Reply.{Reply}
 use Rattle.map_core.specs.declared.entry.Reply.TheVariants.{Job, Grant, Exhausted, Limit, Dry, Stopped, New, Already, Retired, Memory}
 use Rattle.map_core.specs.declared.turn.Turn.{Turn}
-use Rattle.map_core.specs.Core.{State, worker_in, settle, give_back, end_turn, spend, grant, retire, mark_exhausted, mark_limited, refill_size, is_full, MayAsk, Takes, TakesAsked, TakesUnasked, Refills, Posts, Does}
+use Rattle.map_core.specs.Core.{State, settle, give_back, end_turn, spend, grant, retire, mark_exhausted, mark_limited, refill_size, is_full, MayAsk, Takes, TakesAsked, TakesUnasked, Refills, Posts, Does}
 use Rattle.map_core.specs.Own.{ended, worker_after, is_retirement, engine_part}
 
 -- from the part before the call to the part after it
 pub record TurnFacts (s : State) (t : Turn) (used : ℕ) (engine : Option ℕ) (reply : Reply) (u : Turn) : Type 0 where
-  pub total : (u.available + u.purse) + u.spent ≡ (t.available + t.purse) + t.spent
-  pub spent : u.spent ≡ t.spent + (used + engine_part engine)
-  pub worker : worker_in u ≡ worker_after (worker_in t) used reply
-  pub ended : t.ended ≡ false → u.ended ≡ true → u.purse ≡ 0
+  pub total : (u.common.available + u.worker.purse) + u.common.spent ≡ (t.common.available + t.worker.purse) + t.common.spent
+  pub spent : u.common.spent ≡ t.common.spent + (used + engine_part engine)
+  pub worker : u.worker ≡ worker_after t.worker used reply
+  pub ended : t.worker.ended ≡ false → u.worker.ended ≡ true → u.worker.purse ≡ 0
   -- a worker that ends where nothing is marked was answered Dry
-  pub dry : t.ended ≡ false → u.ended ≡ true → u.exhausted ≡ false → u.limited ≡ false → u.stopped ≡ false → reply ≡ Dry
-  pub stopped : u.stopped ≡ (t.stopped || is_retirement reply)
-  pub live : t.ended ≡ false → 0 < u.available → (u.ended ≡ false) ⊎ ((u.exhausted || (u.limited || u.stopped)) ≡ true)
-  pub exhausted : u.exhausted ≡ true → (t.exhausted ≡ true) ⊎ AllExplored s.opening.problem.groups (founds s.records)
-  pub limited : u.limited ≡ true → (t.limited ≡ true) ⊎ (is_full s.opening s.records ≡ true)
+  pub dry : t.worker.ended ≡ false → u.worker.ended ≡ true → u.common.exhausted ≡ false → u.common.limited ≡ false → u.common.stopped ≡ false → reply ≡ Dry
+  pub stopped : u.common.stopped ≡ (t.common.stopped || is_retirement reply)
+  pub live : t.worker.ended ≡ false → 0 < u.common.available → (u.worker.ended ≡ false) ⊎ ((u.common.exhausted || (u.common.limited || u.common.stopped)) ≡ true)
+  pub exhausted : u.common.exhausted ≡ true → (t.common.exhausted ≡ true) ⊎ AllExplored s.opening.problem.groups (founds s.records)
+  pub limited : u.common.limited ≡ true → (t.common.limited ≡ true) ⊎ (is_full s.opening s.records ≡ true)
   -- no mark is taken back
-  pub keeps_exhausted : t.exhausted ≡ true → u.exhausted ≡ true
-  pub keeps_limited : t.limited ≡ true → u.limited ≡ true
+  pub keeps_exhausted : t.common.exhausted ≡ true → u.common.exhausted ≡ true
+  pub keeps_limited : t.common.limited ≡ true → u.common.limited ≡ true
 
 -- the part with so much more spent: all else of the worker and the marks is as before, and nothing is lost
 record IsPaid (t u : Turn) (paid : ℕ) : Type 0 where
-  last_grant : u.last_grant ≡ t.last_grant
-  ended : u.ended ≡ t.ended
-  exhausted : u.exhausted ≡ t.exhausted
-  limited : u.limited ≡ t.limited
-  stopped : u.stopped ≡ t.stopped
-  total : (u.available + u.purse) + u.spent ≡ (t.available + t.purse) + t.spent
-  spent : u.spent ≡ t.spent + paid
+  last_grant : u.worker.last_grant ≡ t.worker.last_grant
+  ended : u.worker.ended ≡ t.worker.ended
+  exhausted : u.common.exhausted ≡ t.common.exhausted
+  limited : u.common.limited ≡ t.common.limited
+  stopped : u.common.stopped ≡ t.common.stopped
+  total : (u.common.available + u.worker.purse) + u.common.spent ≡ (t.common.available + t.worker.purse) + t.common.spent
+  spent : u.common.spent ≡ t.common.spent + paid
 
-paid-settle : (t : Turn) (used : ℕ) → used ≤ t.purse → IsPaid t (settle used t) (used + 0)
+paid-settle : (t : Turn) (used : ℕ) → used ≤ t.worker.purse → IsPaid t (settle used t) (used + 0)
 paid-settle t used le =
     record {
       last_grant = refl;
@@ -52,7 +52,7 @@ paid-settle t used le =
       spent = omega arith;
     }
 
-paid-give_back : (t : Turn) (used : ℕ) → used ≤ t.purse → IsPaid t (give_back (settle used t)) (used + 0)
+paid-give_back : (t : Turn) (used : ℕ) → used ≤ t.worker.purse → IsPaid t (give_back (settle used t)) (used + 0)
 paid-give_back t used le =
     record {
       last_grant = refl;
@@ -64,7 +64,7 @@ paid-give_back t used le =
       spent = omega arith;
     }
 
-paid-spend : (t : Turn) (used n : ℕ) → used ≤ t.purse → n ≤ t.available + (t.purse - used)
+paid-spend : (t : Turn) (used n : ℕ) → used ≤ t.worker.purse → n ≤ t.common.available + (t.worker.purse - used)
     → IsPaid t (spend n (give_back (settle used t))) (used + n)
 paid-spend t used n le within =
     record {
@@ -80,8 +80,8 @@ paid-spend t used n le within =
 -- a worker that ends for a mark that was set, or since nothing is available
 facts-end : (s : State) (t u : Turn) (used : ℕ) (engine : Option ℕ) (reply : Reply)
     → IsPaid t u (used + engine_part engine)
-    → worker_after (worker_in t) used reply ≡ ended (worker_in t) → is_retirement reply ≡ false
-    → (u.stopped ≡ true) ⊎ ((u.exhausted ≡ true) ⊎ ((u.available + u.purse ≡ 0) × (reply ≡ Dry)))
+    → worker_after t.worker used reply ≡ ended t.worker → is_retirement reply ≡ false
+    → (u.common.stopped ≡ true) ⊎ ((u.common.exhausted ≡ true) ⊎ ((u.common.available + u.worker.purse ≡ 0) × (reply ≡ Dry)))
     → TurnFacts s t used engine reply (end_turn u)
 facts-end s t u used engine reply paid own kept why =
     let total = paid.total in
@@ -94,11 +94,11 @@ facts-end s t u used engine reply paid own kept why =
         | inl h ↦ absurd (true≢false (sym h ∙ not_stopped))
         | inr more ↦ elim more [ inl h ↦ absurd (true≢false (sym h ∙ not_exhausted)) | inr none ↦ none.1 ]
       ];
-      stopped = paid.stopped ∙ sym (or-false t.stopped) ∙ ap (λ b. t.stopped || b) (sym kept);
+      stopped = paid.stopped ∙ sym (or-false t.common.stopped) ∙ ap (λ b. t.common.stopped || b) (sym kept);
       live = λ _ some. elim why [
-        | inl h ↦ inr (or_right u.exhausted (u.limited || u.stopped) (or_right u.limited u.stopped h))
+        | inl h ↦ inr (or_right u.common.exhausted (u.common.limited || u.common.stopped) (or_right u.common.limited u.common.stopped h))
         | inr more ↦ elim more [
-          | inl h ↦ inr (or_left u.exhausted (u.limited || u.stopped) h)
+          | inl h ↦ inr (or_left u.common.exhausted (u.common.limited || u.common.stopped) h)
           | inr none ↦ let empty = none.0 in absurd (omega arith)
         ]
       ];
@@ -119,8 +119,8 @@ facts-limit s t u used paid full =
       worker = ap (λ k. record { purse = 0; last_grant = k; ended = true }) paid.last_grant;
       ended = λ _ _. refl;
       dry = λ _ _ _ not_limited _. absurd (true≢false not_limited);
-      stopped = paid.stopped ∙ sym (or-false t.stopped);
-      live = λ _ _. inr (or_right u.exhausted (true || u.stopped) refl);
+      stopped = paid.stopped ∙ sym (or-false t.common.stopped);
+      live = λ _ _. inr (or_right u.common.exhausted (true || u.common.stopped) refl);
       exhausted = λ h. inl (sym paid.exhausted ∙ h);
       limited = λ _. inr full;
       keeps_exhausted = λ h. paid.exhausted ∙ h;
@@ -139,7 +139,7 @@ facts-exhausted s t u used n paid all =
       worker = ap (λ k. record { purse = 0; last_grant = k; ended = true }) paid.last_grant;
       ended = λ _ _. refl;
       dry = λ _ _ not_exhausted _ _. absurd (true≢false not_exhausted);
-      stopped = paid.stopped ∙ sym (or-false t.stopped);
+      stopped = paid.stopped ∙ sym (or-false t.common.stopped);
       live = λ _ _. inr refl;
       exhausted = λ _. inr all;
       limited = λ h. inl (sym paid.limited ∙ h);
@@ -150,7 +150,7 @@ facts-exhausted s t u used n paid all =
 -- a worker that retires, or has no memory
 facts-retire : (s : State) (t u : Turn) (used : ℕ) (engine : Option ℕ) (reply : Reply)
     → IsPaid t u (used + engine_part engine)
-    → worker_after (worker_in t) used reply ≡ ended (worker_in t) → is_retirement reply ≡ true
+    → worker_after t.worker used reply ≡ ended t.worker → is_retirement reply ≡ true
     → TurnFacts s t used engine reply (retire u)
 facts-retire s t u used engine reply paid own retired =
     let total = paid.total in
@@ -160,8 +160,8 @@ facts-retire s t u used engine reply paid own retired =
       worker = ap (λ k. record { purse = 0; last_grant = k; ended = true }) paid.last_grant ∙ sym own;
       ended = λ _ _. refl;
       dry = λ _ _ _ _ not_stopped. absurd (true≢false not_stopped);
-      stopped = sym (or_right t.stopped (is_retirement reply) retired);
-      live = λ _ _. inr (or_right u.exhausted (u.limited || true) (or_right u.limited true refl));
+      stopped = sym (or_right t.common.stopped (is_retirement reply) retired);
+      live = λ _ _. inr (or_right u.common.exhausted (u.common.limited || true) (or_right u.common.limited true refl));
       exhausted = λ h. inl (sym paid.exhausted ∙ h);
       limited = λ h. inl (sym paid.limited ∙ h);
       keeps_exhausted = λ h. paid.exhausted ∙ h;
@@ -171,21 +171,21 @@ facts-retire s t u used engine reply paid own retired =
 -- a worker whose empty purse is given some of what is available
 facts-grant : (s : State) (t u : Turn) (used n : ℕ) (engine : Option ℕ) (reply : Reply)
     → IsPaid t u (used + engine_part engine)
-    → worker_after (worker_in t) used reply ≡ record { purse = n; last_grant = n; ended = t.ended }
+    → worker_after t.worker used reply ≡ record { purse = n; last_grant = n; ended = t.worker.ended }
     → is_retirement reply ≡ false
-    → n ≤ u.available → u.purse ≡ 0 → TurnFacts s t used engine reply (grant n u)
+    → n ≤ u.common.available → u.worker.purse ≡ 0 → TurnFacts s t used engine reply (grant n u)
 facts-grant s t u used n engine reply paid own kept le none =
     let total = paid.total in
-    let purse : u.purse + n ≡ n = omega arith in
+    let purse : u.worker.purse + n ≡ n = omega arith in
     record {
       total = omega arith;
       spent = paid.spent;
       worker =
-          ap (λ k. record { purse = k; last_grant = n; ended = u.ended }) purse
+          ap (λ k. record { purse = k; last_grant = n; ended = u.worker.ended }) purse
           ∙ ap (λ b. record { purse = n; last_grant = n; ended = b }) paid.ended ∙ sym own;
       ended = λ alive over. absurd (false≢true (sym (paid.ended ∙ alive) ∙ over));
       dry = λ alive over _ _ _. absurd (false≢true (sym (paid.ended ∙ alive) ∙ over));
-      stopped = paid.stopped ∙ sym (or-false t.stopped) ∙ ap (λ b. t.stopped || b) (sym kept);
+      stopped = paid.stopped ∙ sym (or-false t.common.stopped) ∙ ap (λ b. t.common.stopped || b) (sym kept);
       live = λ alive _. inl (paid.ended ∙ alive);
       exhausted = λ h. inl (sym paid.exhausted ∙ h);
       limited = λ h. inl (sym paid.limited ∙ h);
@@ -194,8 +194,8 @@ facts-grant s t u used n engine reply paid own kept le none =
     }
 
 -- a worker that keeps the rest of its purse
-facts-kept : (s : State) (t : Turn) (used : ℕ) (reply : Reply) → used ≤ t.purse
-    → worker_after (worker_in t) used reply ≡ record { purse = t.purse - used; last_grant = t.last_grant; ended = t.ended }
+facts-kept : (s : State) (t : Turn) (used : ℕ) (reply : Reply) → used ≤ t.worker.purse
+    → worker_after t.worker used reply ≡ record { purse = t.worker.purse - used; last_grant = t.worker.last_grant; ended = t.worker.ended }
     → is_retirement reply ≡ false → TurnFacts s t used None reply (settle used t)
 facts-kept s t used reply le own kept =
     record {
@@ -204,7 +204,7 @@ facts-kept s t used reply le own kept =
       worker = sym own;
       ended = λ alive over. absurd (false≢true (sym alive ∙ over));
       dry = λ alive over _ _ _. absurd (false≢true (sym alive ∙ over));
-      stopped = sym (or-false t.stopped) ∙ ap (λ b. t.stopped || b) (sym kept);
+      stopped = sym (or-false t.common.stopped) ∙ ap (λ b. t.common.stopped || b) (sym kept);
       live = λ alive _. inl alive;
       exhausted = λ h. inl h;
       limited = λ h. inl h;
@@ -212,7 +212,7 @@ facts-kept s t used reply le own kept =
       keeps_limited = λ h. h;
     }
 
-facts-unasked : (s : State) (t : Turn) (used : ℕ) (reply : Reply) (u : Turn) → used ≤ t.purse
+facts-unasked : (s : State) (t : Turn) (used : ℕ) (reply : Reply) (u : Turn) → used ≤ t.worker.purse
     → TakesUnasked (is_full s.opening s.records) (give_back (settle used t)) reply u → TurnFacts s t used None reply u
 facts-unasked s t used Stopped u le h =
     subst (TurnFacts s t used None Stopped) (sym h.1)
@@ -233,7 +233,7 @@ facts-unasked s t used New u le h = absurd h
 facts-unasked s t used Already u le h = absurd h
 facts-unasked s t used Retired u le h = absurd h
 
-facts-asked : (s : State) (t : Turn) (used n : ℕ) (reply : Reply) (u : Turn) → used ≤ t.purse
+facts-asked : (s : State) (t : Turn) (used n : ℕ) (reply : Reply) (u : Turn) → used ≤ t.worker.purse
     → MayAsk (is_full s.opening s.records) (give_back (settle used t)) n
     → TakesAsked s.opening.problem.groups (founds s.records) (length s.history + 1) (give_back (settle used t)) n reply u
     → TurnFacts s t used (Some n) reply u
@@ -261,19 +261,19 @@ facts-asked s t used n New u le may h = absurd h
 facts-asked s t used n Already u le may h = absurd h
 facts-asked s t used n Retired u le may h = absurd h
 
-facts-takes : (s : State) (t : Turn) (used : ℕ) (engine : Option ℕ) (reply : Reply) (u : Turn) → used ≤ t.purse
+facts-takes : (s : State) (t : Turn) (used : ℕ) (engine : Option ℕ) (reply : Reply) (u : Turn) → used ≤ t.worker.purse
     → Takes s.opening.problem.groups (founds s.records) (is_full s.opening s.records) (length s.history + 1) (give_back (settle used t)) engine reply u
     → TurnFacts s t used engine reply u
 facts-takes s t used None reply u le h = facts-unasked s t used reply u le h
 facts-takes s t used (Some n) reply u le h = facts-asked s t used n reply u le h.0 h.1
 
-refill_size-le : (t : Turn) → refill_size t ≤ t.available
-refill_size-le t = least t.available (max (min (t.last_grant * 2) (2 ^ 64 - 1)) 1000)
+refill_size-le : (t : Turn) → refill_size t ≤ t.common.available
+refill_size-le t = least t.common.available (max (min (t.worker.last_grant * 2) (2 ^ 64 - 1)) 1000)
   where
     least : (a b : ℕ) → min a b ≤ a
     least a b = omega arith
 
-facts-refills : (s : State) (t : Turn) (used : ℕ) (reply : Reply) (u : Turn) → used ≤ t.purse
+facts-refills : (s : State) (t : Turn) (used : ℕ) (reply : Reply) (u : Turn) → used ≤ t.worker.purse
     → Refills (give_back (settle used t)) reply u → TurnFacts s t used None reply u
 facts-refills s t used Stopped u le h =
     subst (TurnFacts s t used None Stopped) (sym h.1)
@@ -285,7 +285,7 @@ facts-refills s t used Dry u le h =
     (facts-end s t (give_back (settle used t)) used None Dry paid refl refl (inr (inr (omega arith, refl))))
 facts-refills s t used (Grant n) u le h =
     let v = give_back (settle used t) in
-    let low : n ≤ v.available = subst (λ k. k ≤ v.available) (sym h.2) (refill_size-le v) in
+    let low : n ≤ v.common.available = subst (λ k. k ≤ v.common.available) (sym h.2) (refill_size-le v) in
     subst (TurnFacts s t used None (Grant n)) (sym h.3)
     (facts-grant s t v used n None (Grant n) (paid-give_back t used le) refl refl low refl)
 facts-refills s t used Memory u le h =
@@ -298,7 +298,7 @@ facts-refills s t used New u le h = absurd h
 facts-refills s t used Already u le h = absurd h
 facts-refills s t used Retired u le h = absurd h
 
-facts-posts : (s : State) (t : Turn) (used : ℕ) (kind : Kind) (set : List ℕ) (reply : Reply) (u : Turn) (records : List Record) → used ≤ t.purse
+facts-posts : (s : State) (t : Turn) (used : ℕ) (kind : Kind) (set : List ℕ) (reply : Reply) (u : Turn) (records : List Record) → used ≤ t.worker.purse
     → Posts s.opening.problem (is_full s.opening s.records) s.records (settle used t) kind set reply u records
     → TurnFacts s t used None reply u
 facts-posts s t used kind set Already u records le h =
@@ -319,7 +319,7 @@ facts-posts s t used kind set Retired u records le h = absurd h
 
 -- what any call does
 pub turn_facts : (s : State) (t : Turn) (used : ℕ) (call : Call) (engine : Option ℕ) (reply : Reply) (u : Turn) (records : List Record)
-    → used ≤ t.purse → Does s (settle used t) call engine reply u records → TurnFacts s t used engine reply u
+    → used ≤ t.worker.purse → Does s (settle used t) call engine reply u records → TurnFacts s t used engine reply u
 turn_facts s t used Take engine reply u records le h = facts-takes s t used engine reply u le h.0
 turn_facts s t used (Refill asked) engine reply u records le h =
     subst (λ e. TurnFacts s t used e reply u) (sym h.0) (facts-refills s t used reply u le h.1)

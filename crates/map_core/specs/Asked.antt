@@ -10,14 +10,14 @@ use Rattle.map_core.specs.Replies.{take_reply}
 
 -- a part of a worker that has given its purse back, within a budget
 pub record IsSettled (t : Turn) : Type 0 where
-  pub alive : t.ended ≡ false
-  pub empty : t.purse ≡ 0
-  pub fits : t.available + t.spent < 2 ^ 64
+  pub alive : t.worker.ended ≡ false
+  pub empty : t.worker.purse ≡ 0
+  pub fits : t.common.available + t.common.spent < 2 ^ 64
 
 -- a proof that each set is explored is given exactly where exhausted is newly marked
 abbrev pub GivesProof : ℕ → List Found → Turn → Turn → Option Derivation → Type 0
 GivesProof groups found t u proof =
-    MatchOption proof (u.exhausted ≡ t.exhausted) (λ d. (u.exhausted ≡ true) × (shows_all_explored groups found d ≡ true))
+    MatchOption proof (u.common.exhausted ≡ t.common.exhausted) (λ d. (u.common.exhausted ≡ true) × (shows_all_explored groups found d ≡ true))
 
 -- the answer is one of the definition, and is kept as it is given
 pub record IsAnswered (engine : EngineState) (full : Bool) (number : ℕ) (t : Turn) (answer : TakeAnswer) : Type 0 where

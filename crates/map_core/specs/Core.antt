@@ -20,6 +20,7 @@ use Rattle.map_core.specs.declared.entry.Reply.TheVariants.{Job, Grant, Exhauste
 use Rattle.map_core.specs.declared.entry.Entry.{Entry}
 use Rattle.map_core.specs.declared.entry.Opening.{Opening}
 use Rattle.map_core.specs.declared.turn.Worker.{Worker}
+use Rattle.map_core.specs.declared.common.Common.{Common}
 use Rattle.map_core.specs.declared.turn.Turn.{Turn}
 
 pub record State : Type 0 where
@@ -58,56 +59,64 @@ opened o =
       history = [];
     }
 
+-- the numbers and marks that do not belong to one worker
+abbrev pub common_of : State → Common
+common_of s = record { available = s.available; spent = s.spent; exhausted = s.exhausted; limited = s.limited; stopped = s.stopped }
+
 -- the part of the state that a call of the worker changes
-abbrev pub turn_of : List Worker → ℕ → ℕ → Bool → Bool → Bool → ℕ → Turn
-turn_of workers available spent exhausted limited stopped w =
-    record {
-      purse = (worker_at workers w).purse;
-      last_grant = (worker_at workers w).last_grant;
-      ended = (worker_at workers w).ended;
-      available = available;
-      spent = spent;
-      exhausted = exhausted;
-      limited = limited;
-      stopped = stopped;
-    }
-
 abbrev pub turn_at : State → ℕ → Turn
-turn_at s w = turn_of s.workers s.available s.spent s.exhausted s.limited s.stopped w
-
-abbrev pub worker_in : Turn → Worker
-worker_in t = record { purse = t.purse; last_grant = t.last_grant; ended = t.ended }
+turn_at s w = record { worker = worker_at s.workers w; common = common_of s }
 
 -- the purse loses what was used, and spent gains it
 abbrev pub settle : ℕ → Turn → Turn
-settle used t = record t { purse = t.purse - used; spent = t.spent + used }
+settle used t =
+    record {
+      worker = record t.worker { purse = t.worker.purse - used };
+      common = record t.common { spent = t.common.spent + used };
+    }
 
 -- the rest of the purse goes back
 abbrev pub give_back : Turn → Turn
-give_back t = record t { purse = 0; available = t.available + t.purse }
+give_back t =
+    record {
+      worker = record t.worker { purse = 0 };
+      common = record t.common { available = t.common.available + t.worker.purse };
+    }
 
 abbrev pub end_turn : Turn → Turn
-end_turn t = record t { purse = 0; available = t.available + t.purse; ended = true }
+end_turn t =
+    record {
+      worker = record t.worker { purse = 0; ended = true };
+      common = record t.common { available = t.common.available + t.worker.purse };
+    }
 
 -- some of what is available was used
 abbrev pub spend : ℕ → Turn → Turn
-spend n t = record t { available = t.available - n; spent = t.spent + n }
+spend n t = record t { common = record t.common { available = t.common.available - n; spent = t.common.spent + n } }
 
 abbrev pub grant : ℕ → Turn → Turn
-grant n t = record t { purse = t.purse + n; last_grant = n; available = t.available - n }
+grant n t =
+    record {
+      worker = record t.worker { purse = t.worker.purse + n; last_grant = n };
+      common = record t.common { available = t.common.available - n };
+    }
 
 abbrev pub mark_exhausted : Turn → Turn
-mark_exhausted t = record t { exhausted = true }
+mark_exhausted t = record t { common = record t.common { exhausted = true } }
 
 abbrev pub mark_limited : Turn → Turn
-mark_limited t = record t { limited = true }
+mark_limited t = record t { common = record t.common { limited = true } }
 
 -- a retirement, or want of memory: the worker ends, and stopped is marked
 abbrev pub retire : Turn → Turn
-retire t = record t { purse = 0; available = t.available + t.purse; ended = true; stopped = true }
+retire t =
+    record {
+      worker = record t.worker { purse = 0; ended = true };
+      common = record t.common { available = t.common.available + t.worker.purse; stopped = true };
+    }
 
 abbrev pub refill_size : Turn → ℕ
-refill_size t = min t.available (max (min (t.last_grant * 2) (2 ^ 64 - 1)) 1000)
+refill_size t = min t.common.available (max (min (t.worker.last_grant * 2) (2 ^ 64 - 1)) 1000)
 
 abbrev pub same_kind : Kind → Kind → Bool
 same_kind Conflict Conflict = true
@@ -132,36 +141,36 @@ is_full o records = nat_le o.limit (length records)
 
 -- a take for which no engine was asked; whether the records are at least the limit
 abbrev pub TakesUnasked : Bool → Turn → Reply → Turn → Type 0
-TakesUnasked full t Stopped new = (t.stopped ≡ true) × (new ≡ end_turn t)
-TakesUnasked full t Exhausted new = (t.stopped ≡ false) × (t.exhausted ≡ true) × (new ≡ end_turn t)
-TakesUnasked full t Limit new = (t.stopped ≡ false) × (t.exhausted ≡ false) × (full ≡ true) × (new ≡ end_turn (mark_limited t))
+TakesUnasked full t Stopped new = (t.common.stopped ≡ true) × (new ≡ end_turn t)
+TakesUnasked full t Exhausted new = (t.common.stopped ≡ false) × (t.common.exhausted ≡ true) × (new ≡ end_turn t)
+TakesUnasked full t Limit new = (t.common.stopped ≡ false) × (t.common.exhausted ≡ false) × (full ≡ true) × (new ≡ end_turn (mark_limited t))
 TakesUnasked full t Memory new = new ≡ retire t
 TakesUnasked full t _ new = ⊥
 
 -- a take for which the engine was asked, and used so much of what was available; the number of the entry
 abbrev pub TakesAsked : ℕ → List Found → ℕ → Turn → ℕ → Reply → Turn → Type 0
 TakesAsked groups found number t used (Job turn seed n) new =
-    (turn ≡ number) × IsUnexplored groups found seed × (n ≡ min (t.available - used) 1000) × (new ≡ grant n (spend used t))
+    (turn ≡ number) × IsUnexplored groups found seed × (n ≡ min (t.common.available - used) 1000) × (new ≡ grant n (spend used t))
 TakesAsked groups found number t used Exhausted new = AllExplored groups found × (new ≡ end_turn (mark_exhausted (spend used t)))
-TakesAsked groups found number t used Dry new = (used ≡ t.available) × (new ≡ end_turn (spend used t))
+TakesAsked groups found number t used Dry new = (used ≡ t.common.available) × (new ≡ end_turn (spend used t))
 TakesAsked groups found number t used Memory new = new ≡ retire (spend used t)
 TakesAsked groups found number t used _ new = ⊥
 
 -- the engine is asked only where nothing is marked that ends a take
 pub record MayAsk (full : Bool) (t : Turn) (used : ℕ) : Type 0 where
-  pub not_stopped : t.stopped ≡ false
-  pub not_exhausted : t.exhausted ≡ false
+  pub not_stopped : t.common.stopped ≡ false
+  pub not_exhausted : t.common.exhausted ≡ false
   pub not_full : full ≡ false
-  pub within : used ≤ t.available
+  pub within : used ≤ t.common.available
 
 abbrev pub Takes : ℕ → List Found → Bool → ℕ → Turn → Option ℕ → Reply → Turn → Type 0
 Takes groups found full number t None reply new = TakesUnasked full t reply new
 Takes groups found full number t (Some used) reply new = MayAsk full t used × TakesAsked groups found number t used reply new
 
 abbrev pub Refills : Turn → Reply → Turn → Type 0
-Refills t Stopped new = (t.stopped ≡ true) × (new ≡ end_turn t)
-Refills t Dry new = (t.stopped ≡ false) × (t.available ≡ 0) × (new ≡ end_turn t)
-Refills t (Grant n) new = (t.stopped ≡ false) × (0 < t.available) × (n ≡ refill_size t) × (new ≡ grant n t)
+Refills t Stopped new = (t.common.stopped ≡ true) × (new ≡ end_turn t)
+Refills t Dry new = (t.common.stopped ≡ false) × (t.common.available ≡ 0) × (new ≡ end_turn t)
+Refills t (Grant n) new = (t.common.stopped ≡ false) × (0 < t.common.available) × (n ≡ refill_size t) × (new ≡ grant n t)
 Refills t Memory new = new ≡ retire t
 Refills t _ new = ⊥
 
@@ -190,12 +199,12 @@ abbrev pub after : State → Entry → Turn → List Record → State
 after s e t records =
     record s {
       records = records;
-      workers = slice_set s.workers e.worker (worker_in t);
-      available = t.available;
-      spent = t.spent;
-      exhausted = t.exhausted;
-      limited = t.limited;
-      stopped = t.stopped;
+      workers = slice_set s.workers e.worker t.worker;
+      available = t.common.available;
+      spent = t.common.spent;
+      exhausted = t.common.exhausted;
+      limited = t.common.limited;
+      stopped = t.common.stopped;
       history = s.history ++ e ∷ [];
     }
 

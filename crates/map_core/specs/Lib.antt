@@ -4,7 +4,6 @@ pub mod Replies
 pub mod Sound
 pub mod Laws
 pub mod Index
-pub mod Shared
 pub mod Asked
 pub mod Kept
 pub mod Opens

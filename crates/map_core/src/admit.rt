@@ -106,7 +106,7 @@ pub fn admit<M: MapEngine>(
     turn: Turn,
     finding: Record,
 ) -> PostAnswer
-    requires fits { turn.available + turn.purse < 2 ^ 64 }
+    requires fits { turn.common.available + turn.worker.purse < 2 ^ 64 }
     requires few { workers < 2 ^ 32 }
     requires index { IsIndex held.old records.old.items }
     requires blocked { (M.state engine.old).blocks ≡ founds records.old.items }
@@ -114,7 +114,7 @@ pub fn admit<M: MapEngine>(
     ensures posts { (p : Problem) → IsAccepted p finding → Posts p full records.old.items turn (kind_of finding) (set_of finding) (post_reply result.reply) result.turn records.new.items }
     ensures handed_in { result.reply ≡ New → records.new.items ≡ records.old.items ++ finding ∷ [] }
     ensures set { result.set ≡ set_of finding }
-    ensures exhausted { result.turn.exhausted ≡ turn.exhausted }
+    ensures exhausted { result.turn.common.exhausted ≡ turn.common.exhausted }
     ensures index { IsIndex held.new records.new.items }
     ensures blocked { (M.state engine.new).blocks ≡ founds records.new.items }
     ensures groups { (M.state engine.new).groups ≡ (M.state engine.old).groups }
@@ -122,7 +122,7 @@ pub fn admit<M: MapEngine>(
     ensures honest { IsHonestMap (M.state engine.old).blocks (M.state engine.old).log → IsHonestMap (M.state engine.new).blocks (M.state engine.new).log }
     ensures history { history.new.items ≡ history.old.items }
     ensures capacity { vec_capacity history.old ≤ vec_capacity history.new }
-    ensures room { result.turn.ended ≡ false → vec_len history.new + (workers + 1) ≤ vec_capacity history.new }
+    ensures room { result.turn.worker.ended ≡ false → vec_len history.new + (workers + 1) ≤ vec_capacity history.new }
 {
     let is_held = held.has(finding.kind(), finding.set());
     if full && !is_held {

@@ -47,11 +47,11 @@ fn answer(turn: Turn, engine: Option<u64>, reply: Taken, kept: Reply) -> TakeAns
 // The job of a seed for which the engine used so much.
 fn job(alloc: Global, number: u64, turn: Turn, used: u64, seed: GroupSet) -> TakeAnswer
     requires settled { IsSettled turn }
-    requires within { used ≤ turn.available }
+    requires within { used ≤ turn.common.available }
     ensures takes { (groups : ℕ) (found : List Found) → IsUnexplored groups found seed → TakesAsked groups found number turn used result.kept result.turn }
     ensures reply { take_reply result.reply ≡ result.kept }
     ensures engine { result.engine ≡ Some used }
-    ensures exhausted { result.turn.exhausted ≡ turn.exhausted }
+    ensures exhausted { result.turn.common.exhausted ≡ turn.common.exhausted }
     ensures proof { result.proof ≡ None }
     ensures not_dry { result.kept ≢ Dry }
 {
@@ -59,7 +59,7 @@ fn job(alloc: Global, number: u64, turn: Turn, used: u64, seed: GroupSet) -> Tak
     let Ok(copy) = seed.copy(alloc) else {
         return answer(spent.retire(), Some(used), Taken::Memory, Reply::Memory);
     };
-    let grant = spent.available.min(FIRST_GRANT);
+    let grant = spent.common.available.min(FIRST_GRANT);
     let reply = Taken::Job {
         turn: number,
         seed,
@@ -76,7 +76,7 @@ fn job(alloc: Global, number: u64, turn: Turn, used: u64, seed: GroupSet) -> Tak
 // The answer where each set is explored, and the engine used so much.
 fn exhausted(turn: Turn, used: u64, proof: Result<Derivation, AllocError>) -> TakeAnswer
     requires settled { IsSettled turn }
-    requires within { used ≤ turn.available }
+    requires within { used ≤ turn.common.available }
     ensures takes { (groups number : ℕ) (found : List Found) → AllExplored groups found → TakesAsked groups found number turn used result.kept result.turn }
     ensures reply { take_reply result.reply ≡ result.kept }
     ensures engine { result.engine ≡ Some used }
@@ -100,8 +100,8 @@ fn exhausted(turn: Turn, used: u64, proof: Result<Derivation, AllocError>) -> Ta
 #[tactic(auto, using(crate::proofs::Searched::used_learned))]
 fn find<M: MapEngine>(alloc: Global, engine: &mut M, number: u64, turn: Turn) -> TakeAnswer
     requires settled { IsSettled turn }
-    requires not_stopped { turn.stopped ≡ false }
-    requires not_exhausted { turn.exhausted ≡ false }
+    requires not_stopped { turn.common.stopped ≡ false }
+    requires not_exhausted { turn.common.exhausted ≡ false }
     ensures answered { IsAnswered (M.state engine.old) false number turn result }
     ensures groups { (M.state engine.new).groups ≡ (M.state engine.old).groups }
     ensures same_blocks { (M.state engine.new).blocks ≡ (M.state engine.old).blocks }
@@ -110,10 +110,10 @@ fn find<M: MapEngine>(alloc: Global, engine: &mut M, number: u64, turn: Turn) ->
     ensures dry { result.kept ≡ Dry → Undecided (db_of (M.state engine.new).log) [] }
 {
     let mut purse = Purse {
-        left: turn.available,
+        left: turn.common.available,
     };
     let found = engine.seed(alloc, number, &mut purse);
-    let used = turn.available - purse.left;
+    let used = turn.common.available - purse.left;
     match found {
         Ok(Seed::Set(seed)) => job(alloc, number, turn, used, seed),
         Ok(Seed::Empty) => exhausted(turn, used, engine.empty_proof(alloc)),
@@ -147,12 +147,12 @@ pub fn ask<M: MapEngine>(
     ensures dry { result.kept ≡ Dry → Undecided (db_of (M.state engine.new).log) [] }
     ensures history { history.new.items ≡ history.old.items }
     ensures capacity { vec_capacity history.old ≤ vec_capacity history.new }
-    ensures room { result.turn.ended ≡ false → vec_len history.new + (workers + 1) ≤ vec_capacity history.new }
+    ensures room { result.turn.worker.ended ≡ false → vec_len history.new + (workers + 1) ≤ vec_capacity history.new }
 {
-    if turn.stopped {
+    if turn.common.stopped {
         return answer(turn.end(), None, Taken::Stopped, Reply::Stopped);
     }
-    if turn.exhausted {
+    if turn.common.exhausted {
         return answer(turn.end(), None, Taken::Exhausted, Reply::Exhausted);
     }
     if full {

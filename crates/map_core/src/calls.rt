@@ -70,8 +70,8 @@ impl<M: MapEngine> MapCore<M> {
         requires { CanCall self.now.opening w used (calls_of w self.now.history) }
         ensures turn { result ≡ settle used (turn_at self.now w) }
         ensures ready { IsReady self.now w used }
-        ensures fits { (result.available + result.purse) + result.spent < 2 ^ 64 }
-        ensures alive { result.ended ≡ false }
+        ensures fits { (result.common.available + result.worker.purse) + result.common.spent < 2 ^ 64 }
+        ensures alive { result.worker.ended ≡ false }
     {
         begin(self.workers.as_slice(), self.common, w, used)
     }

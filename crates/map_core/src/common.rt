@@ -1,7 +1,6 @@
 //! The part of the state that all calls share, and how a call begins and ends.
 ghost use Rattle.std.specs.Prelude.{◌≡◌, ◌+◌, ◌<◌, ◌≤◌, ◌^◌, ◌++◌, ◌∷◌, [], length, slice_set, vec_len, vec_capacity, IsTrue, ℕ, true, ◌↔◌};
-ghost use Rattle.map_core.specs.Core.{worker_at, worker_in, settle, turn_of};
-ghost use Rattle.map_core.specs.Shared.{common_in};
+ghost use Rattle.map_core.specs.Core.{worker_at, settle};
 
 use crate::entry::Entry;
 use crate::turn::{Turn, Worker};
@@ -21,18 +20,11 @@ pub fn begin(workers: &[Worker], common: Common, w: u32, used: u64) -> Turn
     requires seat { w < length workers.now }
     requires within { used ≤ (worker_at workers.now w).purse }
     requires fits { common.spent + used < 2 ^ 64 }
-    ensures { result ≡ settle used (turn_of workers.now common.available common.spent common.exhausted common.limited common.stopped w) }
+    ensures { result ≡ settle used (record { worker = worker_at workers.now w; common = common }) }
 {
-    let me = workers[w as usize];
     let turn = Turn {
-        purse: me.purse,
-        last_grant: me.last_grant,
-        ended: me.ended,
-        available: common.available,
-        spent: common.spent,
-        exhausted: common.exhausted,
-        limited: common.limited,
-        stopped: common.stopped,
+        worker: workers[w as usize],
+        common,
     };
     turn.settle(used)
 }
@@ -46,26 +38,16 @@ pub fn finish(
 ) -> Common
     requires seat { entry.worker < length workers.old.items }
     requires room { vec_len history.old < vec_capacity history.old }
-    ensures workers { workers.new.items ≡ slice_set workers.old.items entry.worker (worker_in turn) }
+    ensures workers { workers.new.items ≡ slice_set workers.old.items entry.worker turn.worker }
     ensures history { history.new.items ≡ history.old.items ++ entry ∷ [] }
     ensures len { vec_len history.new ≡ vec_len history.old + 1 }
     ensures capacity { vec_capacity history.new ≡ vec_capacity history.old }
-    ensures common { result ≡ common_in turn }
+    ensures common { result ≡ turn.common }
 {
     let at = entry.worker as usize;
-    workers[at] = Worker {
-        purse: turn.purse,
-        last_grant: turn.last_grant,
-        ended: turn.ended,
-    };
+    workers[at] = turn.worker;
     history.push_reserved(entry);
-    Common {
-        available: turn.available,
-        spent: turn.spent,
-        exhausted: turn.exhausted,
-        limited: turn.limited,
-        stopped: turn.stopped,
-    }
+    turn.common
 }
 
 /// Whether each of them has ended.

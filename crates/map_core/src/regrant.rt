@@ -32,18 +32,18 @@ pub fn regrant(history: &mut Vec<Entry>, workers: usize, turn: Turn) -> RefillAn
     requires settled { IsSettled turn }
     requires few { workers < 2 ^ 32 }
     ensures refills { Refills turn (refill_reply result.reply) result.turn }
-    ensures exhausted { result.turn.exhausted ≡ turn.exhausted }
+    ensures exhausted { result.turn.common.exhausted ≡ turn.common.exhausted }
     ensures history { history.new.items ≡ history.old.items }
     ensures capacity { vec_capacity history.old ≤ vec_capacity history.new }
-    ensures room { result.turn.ended ≡ false → vec_len history.new + (workers + 1) ≤ vec_capacity history.new }
+    ensures room { result.turn.worker.ended ≡ false → vec_len history.new + (workers + 1) ≤ vec_capacity history.new }
 {
-    if turn.stopped {
+    if turn.common.stopped {
         return RefillAnswer {
             turn: turn.end(),
             reply: Refilled::Stopped,
         };
     }
-    if turn.available == 0 {
+    if turn.common.available == 0 {
         return RefillAnswer {
             turn: turn.end(),
             reply: Refilled::Dry,

@@ -11,6 +11,20 @@ use Rattle.map_core.specs.declared.entry.Call.TheVariants.{Post}
 use Rattle.map_core.proofs.Kept.{call_kept, step_made, proof_kept, posts_here, no_take}
 use Rattle.map_core.proofs.calls.MapCore.post.Goals as goal
 
+-- the entry of a post
+abbrev made : ℕ → ℕ → Kind → List ℕ → Reply → Entry
+made who used kind set reply = record { worker = who; call = Post kind set; used = used; engine = None; reply = reply }
+
+-- the entry that was written down has the kind, the set and the reply of the record that was posted
+written : (who used : ℕ) (kind kind' : Kind) (set set' : List ℕ) (reply reply' : Reply) (old mid new : List Entry)
+    → kind' ≡ kind → set' ≡ set → reply' ≡ reply → mid ≡ old → new ≡ mid ++ made who used kind' set' reply' ∷ []
+    → new ≡ old ++ made who used kind set reply ∷ []
+written who used kind kind' set set' reply reply' old mid new k s r same is =
+    is ∙ ap (λ es. es ++ made who used kind' set' reply' ∷ []) same
+    ∙ ap (λ x. old ++ made who used x set' reply' ∷ []) k
+    ∙ ap (λ x. old ++ made who used kind x reply' ∷ []) s
+    ∙ ap (λ x. old ++ made who used kind set x ∷ []) r
+
 -- the record that is posted is the one that is answered about
 pub invariant_of-self : goal.invariant_of-self
 invariant_of-self g c =
@@ -21,10 +35,7 @@ invariant_of-self g c =
     let given = c.admit-given in
     let f = c.finish-self-inside in
     let u = given.result.turn in
-    let made : Kind → List ℕ → Reply → Entry =
-    λ kind groups reply. record
-    { worker = c.args.w; call = Post kind groups; used = c.args.used; engine = None; reply = reply } in
-    let e : Entry = made (kind_of c.args.finding) (set_of c.args.finding) (post_reply given.result.reply) in
+    let e : Entry = made c.args.w c.args.used (kind_of c.args.finding) (set_of c.args.finding) (post_reply given.result.reply) in
     let is = c.settled-turn.ensures.turn ∙ ap (λ s. settle c.args.used (turn_at s c.args.w)) (sym c.self.view_is) in
     let accepted =
     subst (λ (s : State). IsAccepted s.opening.problem c.args.finding) (sym c.self.view_is) c.requires.accepted in
@@ -32,14 +43,10 @@ invariant_of-self g c =
     let posts =
     posts_here i.problem i.limit i.records.items (kind_of c.args.finding) (set_of c.args.finding)
     (post_reply given.result.reply) u given.new.records.items records is (given.ensures.posts i.problem accepted) in
-    let same = given.ensures.exhausted ∙ ap (λ (t : Turn). t.exhausted) is in
-    let entry : made c.kind-kind.result given.result.set c.kept_post.result ≡ e =
-    ap (λ x. made x given.result.set c.kept_post.result) c.kind-kind.ensures
-    ∙ ap (λ x. made (kind_of c.args.finding) x c.kept_post.result) given.ensures.set
-    ∙ ap (made (kind_of c.args.finding) (set_of c.args.finding)) c.kept_post.ensures in
+    let same = given.ensures.exhausted ∙ ap (λ (t : Turn). t.common.exhausted) is in
     let history =
-    f.ensures.history ∙ ap (λ h. h ++ made c.kind-kind.result given.result.set c.kept_post.result ∷ [])
-    given.ensures.history ∙ ap (λ x. i.history.items ++ x ∷ []) entry in
+    written c.args.w c.args.used _ _ _ _ _ _ _ _ _ c.kind-kind.ensures given.ensures.set c.kept_post.ensures
+    given.ensures.history f.ensures.history in
     let size = ap length given.ensures.history in
     let longer = f.ensures.capacity in
     let more = given.ensures.capacity in
@@ -61,15 +68,11 @@ invariant_of-self g c =
 pub returns-clause-step : goal.returns-clause-step
 returns-clause-step g c =
     let i = c.self.inside in
-    let k = c.self.invariant in
     let r = subst (λ s. IsReady s c.args.w c.args.used) (sym c.self.view_is) c.settled-turn.ensures.ready in
     let given = c.admit-given in
     let f = c.finish-self-inside in
     let u = given.result.turn in
-    let made : Kind → List ℕ → Reply → Entry =
-    λ kind groups reply. record
-    { worker = c.args.w; call = Post kind groups; used = c.args.used; engine = None; reply = reply } in
-    let e : Entry = made (kind_of c.args.finding) (set_of c.args.finding) (post_reply given.result.reply) in
+    let e : Entry = made c.args.w c.args.used (kind_of c.args.finding) (set_of c.args.finding) (post_reply given.result.reply) in
     let is = c.settled-turn.ensures.turn ∙ ap (λ s. settle c.args.used (turn_at s c.args.w)) (sym c.self.view_is) in
     let accepted =
     subst (λ (s : State). IsAccepted s.opening.problem c.args.finding) (sym c.self.view_is) c.requires.accepted in
@@ -77,18 +80,14 @@ returns-clause-step g c =
     let posts =
     posts_here i.problem i.limit i.records.items (kind_of c.args.finding) (set_of c.args.finding)
     (post_reply given.result.reply) u given.new.records.items records is (given.ensures.posts i.problem accepted) in
-    let entry : made c.kind-kind.result given.result.set c.kept_post.result ≡ e =
-    ap (λ x. made x given.result.set c.kept_post.result) c.kind-kind.ensures
-    ∙ ap (λ x. made (kind_of c.args.finding) x c.kept_post.result) given.ensures.set
-    ∙ ap (made (kind_of c.args.finding) (set_of c.args.finding)) c.kept_post.ensures in
     let history =
-    f.ensures.history ∙ ap (λ h. h ++ made c.kind-kind.result given.result.set c.kept_post.result ∷ [])
-    given.ensures.history ∙ ap (λ x. i.history.items ++ x ∷ []) entry in
+    written c.args.w c.args.used _ _ _ _ _ _ _ _ _ c.kind-kind.ensures given.ensures.set c.kept_post.ensures
+    given.ensures.history f.ensures.history in
     let t =
     state_of i.problem i.first i.budget i.limit f.result given.new.records.items f.new.workers.items
     f.new.history.items in
     let step =
     step_made i.problem i.first i.budget i.limit i.common f.result i.records.items given.new.records.items
-    i.workers.items f.new.workers.items i.history.items f.new.history.items e u k.begins r (refl, posts)
+    i.workers.items f.new.workers.items i.history.items f.new.history.items e u c.self.invariant.begins r (refl, posts)
     f.ensures.common f.ensures.workers history in
     record { engine = None; step = subst (λ s. CoreStep s e t) c.self.view_is step }

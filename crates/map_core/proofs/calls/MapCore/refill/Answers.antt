@@ -26,7 +26,7 @@ invariant_of-self g c =
     c.give_back-turn.ensures ∙ ap give_back
     (c.settled.ensures.turn ∙ ap (λ s. settle c.args.used (turn_at s c.args.w)) (sym c.self.view_is)) in
     let refills = subst (λ t. Refills t (refill_reply given.result.reply) u) is given.ensures.refills in
-    let same = given.ensures.exhausted ∙ ap (λ (t : Turn). t.exhausted) is in
+    let same = given.ensures.exhausted ∙ ap (λ (t : Turn). t.common.exhausted) is in
     let history =
     f.ensures.history ∙ ap (λ h. h ++ made c.kept_refill.result ∷ []) given.ensures.history ∙ ap
     (λ x. i.history.items ++ made x ∷ []) c.kept_refill.ensures in

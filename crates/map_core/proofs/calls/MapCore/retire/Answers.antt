@@ -21,8 +21,8 @@ invariant_of-self g c =
     let is =
     c.retire-turn.ensures ∙ ap retire
     (c.settled.ensures.turn ∙ ap (λ s. settle c.args.used (turn_at s c.args.w)) (sym c.self.view_is)) in
-    let same = ap (λ (t : Turn). t.exhausted) is in
-    let over = ap (λ (t : Turn). t.ended) is in
+    let same = ap (λ (t : Turn). t.common.exhausted) is in
+    let over = ap (λ (t : Turn). t.worker.ended) is in
     let longer = f.ensures.capacity in
     call_kept f.result i.records.items f.new.workers.items f.new.history.items _ i.held (g.M.MapEngine.state i.engine)
     i.proof e u k r (refl, refl, is, refl) f.ensures.common f.ensures.workers f.ensures.history

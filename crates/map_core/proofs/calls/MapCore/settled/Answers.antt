@@ -1,5 +1,5 @@
 use Rattle.std.proofs.Common.{◌≡◌, ◌≤◌, sym, ap, ◌∙◌, subst, arith}
-use Rattle.map_core.specs.Core.{State, worker_at, turn_of, turn_at, settle}
+use Rattle.map_core.specs.Core.{State, worker_at, turn_at, settle}
 use Rattle.map_core.specs.Own.{CanCall, calls_of}
 use Rattle.map_core.specs.Kept.{IsReady}
 use Rattle.map_core.specs.declared.turn.Turn.{Turn}
@@ -25,15 +25,15 @@ returns g c =
     (subst (λ (s : State). CanCall s.opening c.args.w c.args.used (calls_of c.args.w s.history)) (sym c.self.view_is) c.requires) in
     let turn =
     subst
-    (λ ws. c.begin.result ≡ settle c.args.used (turn_of ws i.common.available i.common.spent i.common.exhausted i.common.limited i.common.stopped c.args.w))
+    (λ ws. c.begin.result ≡ settle c.args.used (record { worker = worker_at ws c.args.w; common = i.common }))
     c.as_slice.ensures.value c.begin.ensures in
     let back = r.back in
-    let a = ap (λ (x : Turn). x.available) turn in
-    let p = ap (λ (x : Turn). x.purse) turn in
-    let q = ap (λ (x : Turn). x.spent) turn in
+    let a = ap (λ (x : Turn). x.common.available) turn in
+    let p = ap (λ (x : Turn). x.worker.purse) turn in
+    let q = ap (λ (x : Turn). x.common.spent) turn in
     record {
       turn = subst (λ (s : State). c.begin.result ≡ settle c.args.used (turn_at s c.args.w)) c.self.view_is turn;
       ready = subst (λ s. IsReady s c.args.w c.args.used) c.self.view_is r;
       fits = omega arith;
-      alive = ap (λ (x : Turn). x.ended) turn ∙ r.alive;
+      alive = ap (λ (x : Turn). x.worker.ended) turn ∙ r.alive;
     }

@@ -29,7 +29,7 @@ invariant_of-self g c =
     let takes =
     takes_here i.limit (length i.history.items + 1) given.result.engine given.result.kept u d.same_groups
     d.same_blocks records is asked.takes in
-    let marked = ap (λ (t : Turn). t.exhausted) is in
+    let marked = ap (λ (t : Turn). t.common.exhausted) is in
     let before =
     subst (λ b. KeepsProof i.problem.groups (founds i.records.items) b c.take-old.result) (sym marked)
     (subst (KeepsProof i.problem.groups (founds i.records.items) i.common.exhausted) (sym c.take-old.ensures.value) k.keeps) in
@@ -46,7 +46,7 @@ invariant_of-self g c =
     (omega arith)
     (λ on. let room = given.ensures.room on in omega (arith, room, size, longer, c.len-2.ensures, i.workers.ok.0, given.new.history.ok.0))
     k.index
-    (subst (KeepsProof i.problem.groups (founds i.records.items) u.exhausted) (sym c.or.ensures) proof)
+    (subst (KeepsProof i.problem.groups (founds i.records.items) u.common.exhausted) (sym c.or.ensures) proof)
     (record {
       same_groups = given.ensures.groups;
       blocks = given.ensures.same_blocks ∙ d.same_blocks;
