@@ -1,5 +1,5 @@
 -- Steps of an analysis: a literal is kept, or resolved with the clause that forced its negation.
-use Rattle.std.proofs.Common.{◌≡◌, ◌⊎◌, ℕ, ◌+◌, ◌-◌, ◌<◌, ◌≤◌, true, List, [], ◌∷◌, ◌++◌, length, Option, Some, None, refl, sym, ◌∙◌, ap, subst, inl, inr, arith, max}
+use Rattle.std.proofs.Common.{◌≡◌, ◌⊎◌, ℕ, ◌+◌, ◌-◌, ◌<◌, ◌≤◌, Bool, true, false, List, [], ◌∷◌, ◌++◌, length, Option, Some, None, refl, sym, ◌∙◌, ap, subst, inl, inr, arith, max}
 use Rattle.std.specs.Prelude.{ℤ, neg_ℤ, reverse}
 use Rattle.std.specs.Ordering.{int_eq}
 use Rattle.std.proofs.Math.IntN.{neg_ℤ-neg_ℤ}
@@ -22,7 +22,7 @@ use Rattle.learn_step.specs.Reasons.{HasReason, HasUnit, AreReasoned}
 use Rattle.learn_step.specs.Learnt.{IsUsed}
 use Rattle.learn_step.specs.Leading.{Leads}
 use Rattle.learn_step.specs.Places.{literal_at, false_at, AreBelow, at_hand, HaveValues, HasPlaces, IsPlaceOf, first_some, hint_of}
-use Rattle.learn_step.specs.Analysis.{IsBroughtIn, IsAnalysis}
+use Rattle.learn_step.specs.Analysis.{IsBroughtIn, IsStep, IsAnalysis}
 use Rattle.learn_step.proofs.Backward.{Leads-more, Leads-back, follows-from_Leads}
 use Rattle.learn_step.proofs.PlaceLemmas.{oldest_all, lit_oldest_all, trail_oldest, reasoned_oldest, literal_of, literal_in, literal_true, unset_at, place_lower, place_false, hand_place, hand_lit, hand_cases}
 
@@ -246,6 +246,21 @@ analysis_resolved vars db es count p e id old mid new lits hints more trail reas
         ])
         h
 
+-- one step
+pub analysis_step : (vars : ℕ) (db : List StoredClause) (es : List Entry) (count p : ℕ) (stays : Bool) (old mid new : List ℕ) (lits after : List ℤ) (hints more : List ℕ) → IsTrail vars es
+    → AreReasoned db es → p < length es → TakesGreatest old mid (Some p) → IsStep db es p stays mid new lits after hints more → IsAnalysis db es count old lits hints
+    → IsAnalysis db es count new after more
+analysis_step vars db es count p true old mid new lits after hints more trail reasoned lt t s a =
+    let (places, kept, same) = s.becomes in
+    subst (λ (ps : List ℕ). IsAnalysis db es count ps after more) (sym places)
+    (subst (λ (ls : List ℤ). IsAnalysis db es count mid ls more) (sym kept)
+    (subst (IsAnalysis db es count mid (lits ++ neg_ℤ s.entry.lit ∷ [])) (sym same) (analysis_kept db es count p s.entry old mid lits hints s.at t a)))
+analysis_step vars db es count p false old mid new lits after hints more trail reasoned lt t s a =
+    let (same, replaced) = s.becomes in
+    let (id, forced, b) = replaced in
+    subst (λ (ls : List ℤ). IsAnalysis db es count new ls more) (sym same)
+    (analysis_resolved vars db es count p s.entry id old mid new lits hints more trail reasoned lt s.at forced t b a)
+
 -- Beginnings.
 
 -- with a clause whose literals are at hand
@@ -358,6 +373,16 @@ bound_of-brought es clause old mid new p t h =
     let here = lt-bound_of p old t.0.has in
     let rest = bound_of-le p new (brought_below es clause p mid new (taken_below old mid p t) h) in
     omega (arith, here, rest)
+
+pub bound_of-step : (db : List StoredClause) (es : List Entry) (p : ℕ) (stays : Bool) (old mid new : List ℕ) (lits after : List ℤ) (hints more : List ℕ) → TakesGreatest old mid (Some p)
+    → IsStep db es p stays mid new lits after hints more → bound_of new < bound_of old
+bound_of-step db es p true old mid new lits after hints more t s =
+    let (places, kept, same) = s.becomes in
+    subst (λ (ps : List ℕ). bound_of ps < bound_of old) (sym places) (bound_of-taken old mid p t)
+bound_of-step db es p false old mid new lits after hints more t s =
+    let (same, replaced) = s.becomes in
+    let (id, forced, b) = replaced in
+    bound_of-brought es b.clause old mid new p t b.places
 
 -- The end.
 

@@ -1,5 +1,5 @@
 -- Steps down to the decisions.
-use Rattle.std.proofs.Common.{◌≡◌, ◌⊎◌, ℕ, ◌+◌, ◌<◌, List, [], ◌∷◌, ◌++◌, length, Some, None, refl, sym, ◌∙◌, ap, subst, inl, inr, arith, append_assoc}
+use Rattle.std.proofs.Common.{◌≡◌, ◌⊎◌, ℕ, ◌+◌, ◌<◌, Bool, true, false, List, [], ◌∷◌, ◌++◌, length, Some, None, refl, sym, ◌∙◌, ap, subst, inl, inr, arith, append_assoc}
 use Rattle.std.specs.Prelude.{ℤ, neg_ℤ, reverse}
 use Rattle.std.proofs.Math.IntN.{neg_ℤ-neg_ℤ}
 use Rattle.sat_base.specs.Members.{In}
@@ -13,7 +13,7 @@ use Rattle.trail_book.proofs.TrailLemmas.{trail_consistent, In-trues}
 use Rattle.learn_step.specs.Reasons.{AreReasoned, IsDecision, IsFalseClause}
 use Rattle.learn_step.specs.Learnt.{IsCore}
 use Rattle.learn_step.specs.Places.{literal_at, hint_of}
-use Rattle.learn_step.specs.Analysis.{IsBroughtIn, IsCoreAnalysis}
+use Rattle.learn_step.specs.Analysis.{IsBroughtIn, IsStep, IsCoreAnalysis}
 use Rattle.learn_step.proofs.PlaceLemmas.{oldest_in, lit_oldest_all, literal_of, literal_true, unset_at, place_negated, hand_lit}
 use Rattle.learn_step.proofs.AnalysisLemmas.{analysis_false, analysis_forced, analysis_kept, analysis_resolved, analysis_follows, hint_none}
 
@@ -101,6 +101,22 @@ core_resolved vars db es start p e id old mid new lits hints more trail reasoned
   start_true = c.start_true;
   start_forced = c.start_forced;
 }
+
+-- one step, by which decisions stay
+pub core_step : (vars : ℕ) (db : List StoredClause) (es : List Entry) (start : List ℤ) (p : ℕ) (stays : Bool) (old mid new : List ℕ) (lits after : List ℤ) (hints more : List ℕ) → IsTrail vars es
+    → AreReasoned db es → ((e : Entry) → oldest (p + 1) es ≡ e ∷ oldest p es → stays ≡ true → hint_of e ≡ None) → TakesGreatest old mid (Some p)
+    → IsStep db es p stays mid new lits after hints more → IsCoreAnalysis db es start old lits hints → IsCoreAnalysis db es start new after more
+core_step vars db es start p true old mid new lits after hints more trail reasoned decided t s c =
+    let (places, kept, same) = s.becomes in
+    subst (λ (ps : List ℕ). IsCoreAnalysis db es start ps after more) (sym places)
+    (subst (λ (ls : List ℤ). IsCoreAnalysis db es start mid ls more) (sym kept)
+    (subst (IsCoreAnalysis db es start mid (lits ++ neg_ℤ s.entry.lit ∷ [])) (sym same)
+    (core_kept db es start p s.entry old mid lits hints s.at (decided s.entry s.at refl) t c)))
+core_step vars db es start p false old mid new lits after hints more trail reasoned decided t s c =
+    let (same, replaced) = s.becomes in
+    let (id, forced, b) = replaced in
+    subst (λ (ls : List ℤ). IsCoreAnalysis db es start new ls more) (sym same)
+    (core_resolved vars db es start p s.entry id old mid new lits hints more trail reasoned s.at forced t b c)
 
 -- nothing is left to look at
 pub core_of_analysis : (vars : ℕ) (db : List StoredClause) (es : List Entry) (start lits : List ℤ) (hints : List ℕ) → IsTrail vars es → IsCoreAnalysis db es start [] lits hints → IsCore db es start lits (reverse hints)

@@ -1,8 +1,8 @@
 -- Steps to the first unique implication point, and what is kept after it.
-use Rattle.std.proofs.Common.{◌≡◌, ◌⊎◌, ℕ, ◌+◌, ◌-◌, ◌<◌, ◌≤◌, List, [], ◌∷◌, ◌++◌, length, Option, Some, None, sym, ◌∙◌, ap, subst, inl, inr, arith, append_assoc, append-nil}
+use Rattle.std.proofs.Common.{◌≡◌, ◌⊎◌, ℕ, ◌+◌, ◌-◌, ◌<◌, ◌≤◌, Bool, true, false, List, [], ◌∷◌, ◌++◌, length, Option, Some, None, refl, sym, ◌∙◌, ap, subst, inl, inr, arith, append_assoc, append-nil}
 use Rattle.std.specs.Prelude.{ℤ, neg_ℤ, reverse}
 use Rattle.std.proofs.Math.IntN.{neg_ℤ-neg_ℤ}
-use Rattle.std.proofs.lemmas.Bool.{cases_lt}
+use Rattle.std.proofs.lemmas.Bool.{cases_lt, true≢false, false≢true}
 use Rattle.sat_base.specs.Members.{In}
 use Rattle.sat_base.specs.Database.{StoredClause}
 use Rattle.sat_base.specs.Units.{AllFalse}
@@ -14,7 +14,7 @@ use Rattle.trail_book.proofs.TrailLemmas.{lit-keep_in, lit-keep_more, trail_cons
 use Rattle.learn_step.specs.Reasons.{AreReasoned, before_last, IsConflict}
 use Rattle.learn_step.specs.Learnt.{HasSecond, IsLearnt}
 use Rattle.learn_step.specs.Places.{literal_at, false_at, level_of, hint_of, HasPlaces, IsHighest}
-use Rattle.learn_step.specs.Analysis.{IsBroughtIn, IsAnalysis, IsAboveUip, IsAtUip, AreKept}
+use Rattle.learn_step.specs.Analysis.{IsBroughtIn, IsStep, IsAnalysis, IsAboveUip, IsAtUip, AreKept}
 use Rattle.learn_step.proofs.PlaceLemmas.{oldest_all, top_oldest, top_oldest_all, literal_of, literal_true, literal_open, false_kept, false_open, hand_lit}
 use Rattle.learn_step.proofs.AnalysisLemmas.{same_some, taken_below, taken_cases, brought_false, analysis_false, analysis_kept, analysis_resolved, analysis_follows, hint_none}
 
@@ -83,6 +83,17 @@ above_resolved vars db es p e id old mid new lits hints more level trail reasone
       (q, b.places.kept q there, omega (arith, is, high, le)));
 }
 
+-- one step, where another literal is of the top level
+pub above_step : (vars : ℕ) (db : List StoredClause) (es : List Entry) (p : ℕ) (stays : Bool) (old mid new : List ℕ) (lits after : List ℤ) (hints more : List ℕ) (level : ℕ) → IsTrail vars es
+    → AreReasoned db es → 0 < top es → TakesGreatest old mid (Some p) → IsHighest es mid level → stays ≡ false → top es ≤ level → IsStep db es p stays mid new lits after hints more
+    → IsAboveUip db es old lits hints → IsAboveUip db es new after more
+above_step vars db es p true old mid new lits after hints more level trail reasoned positive t h goes le s a = absurd (true≢false goes)
+above_step vars db es p false old mid new lits after hints more level trail reasoned positive t h goes le s a =
+    let (same, replaced) = s.becomes in
+    let (id, forced, b) = replaced in
+    subst (λ (ls : List ℤ). IsAboveUip db es new ls more) (sym same)
+    (above_resolved vars db es p s.entry id old mid new lits hints more level trail reasoned positive s.at forced t h le b a)
+
 -- one literal of the top level is left
 pub at_uip : (vars : ℕ) (db : List StoredClause) (es : List Entry) (p : ℕ) (e : Entry) (old new : List ℕ) (lits : List ℤ) (hints : List ℕ) (level : ℕ) → IsTrail vars es
     → oldest (p + 1) es ≡ e ∷ oldest p es → TakesGreatest old new (Some p) → IsHighest es new level → level < top es → IsAboveUip db es old lits hints
@@ -119,6 +130,17 @@ at_uip vars db es p e old new lits hints level trail at t h less a = record {
 
     still_open : ¬ In e.lit (trues (before_last es))
     still_open i = literal_open vars es p (top es - 1) trail lt (omega (arith, highest, less)) (subst (λ (k : ℤ). In k (trues (before_last es))) (sym lit) i)
+
+-- one step, where no other literal is of the top level
+pub uip_step : (vars : ℕ) (db : List StoredClause) (es : List Entry) (p : ℕ) (stays : Bool) (old mid new : List ℕ) (lits after : List ℤ) (hints more : List ℕ) (level : ℕ) → IsTrail vars es
+    → TakesGreatest old mid (Some p) → IsHighest es mid level → stays ≡ true → level < top es → IsStep db es p stays mid new lits after hints more → IsAboveUip db es old lits hints
+    → IsAtUip db es new after more level
+uip_step vars db es p false old mid new lits after hints more level trail t h stay less s a = absurd (false≢true stay)
+uip_step vars db es p true old mid new lits after hints more level trail t h stay less s a =
+    let (places, kept, same) = s.becomes in
+    subst (λ (ps : List ℕ). IsAtUip db es ps after more level) (sym places)
+    (subst (λ (ls : List ℤ). IsAtUip db es mid ls more level) (sym kept)
+    (subst (λ (hs : List ℕ). IsAtUip db es mid (lits ++ neg_ℤ s.entry.lit ∷ []) hs level) (sym same) (at_uip vars db es p s.entry old mid lits hints level trail s.at t h less a)))
 
 -- After it.
 pub kept_begun : (es : List Entry) (places : List ℕ) (lits : List ℤ) → AreKept es places lits places lits
@@ -174,6 +196,19 @@ kept_resolved es p clause first old mid new before lits root t h k = record {
     | inr done ↦ inr done
   ];
 }
+
+-- one step, by which what is above level 0 stays
+pub kept_step : (db : List StoredClause) (es : List Entry) (p : ℕ) (stays : Bool) (first old mid new : List ℕ) (before lits after : List ℤ) (hints more : List ℕ) → TakesGreatest old mid (Some p)
+    → (stays ≡ true → 0 < level_of es p) → (stays ≡ false → level_of es p ≡ 0) → IsStep db es p stays mid new lits after hints more → AreKept es first before old lits
+    → AreKept es first before new after
+kept_step db es p true first old mid new before lits after hints more t up root s k =
+    let (places, kept, same) = s.becomes in
+    subst (λ (ps : List ℕ). AreKept es first before ps after) (sym places)
+    (subst (AreKept es first before mid) (sym kept) (kept_kept es p s.entry first old mid before lits s.at (up refl) t k))
+kept_step db es p false first old mid new before lits after hints more t up root s k =
+    let (same, replaced) = s.becomes in
+    let (id, forced, b) = replaced in
+    subst (AreKept es first before new) (sym same) (kept_resolved es p b.clause first old mid new before lits (root refl) t b.places k)
 
 -- at level 0 nothing was decided
 pub root_forced : (es : List Entry) (p : ℕ) (e : Entry) → oldest (p + 1) es ≡ e ∷ oldest p es → level_of es p ≡ 0 → ¬ (hint_of e ≡ None)

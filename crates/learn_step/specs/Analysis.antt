@@ -1,5 +1,5 @@
 -- What holds of a clause on its way down the trail, by resolution with reasons (GRASP: Marques-Silva and Sakallah 1999).
-use Rattle.std.specs.Prelude.{◌≡◌, ◌⊎◌, ℕ, ◌<◌, ◌≤◌, List, [], ◌∷◌, ◌++◌, reverse, length, ℤ, neg_ℤ, Some}
+use Rattle.std.specs.Prelude.{◌≡◌, ◌⊎◌, ℕ, ◌+◌, ◌<◌, ◌≤◌, List, [], ◌∷◌, ◌++◌, reverse, length, ℤ, neg_ℤ, Bool, true, false, Some, None}
 use Rattle.sat_base.specs.Members.{In}
 use Rattle.sat_base.specs.Derivation.{clause_of}
 use Rattle.sat_base.specs.Database.{StoredClause, known_of}
@@ -9,7 +9,7 @@ use Rattle.trail_book.specs.Trail.{trues, top, oldest}
 use Rattle.learn_step.specs.Reasons.{before_last, IsDecision}
 use Rattle.learn_step.specs.Learnt.{IsUsed}
 use Rattle.learn_step.specs.Leading.{Leads}
-use Rattle.learn_step.specs.Places.{false_at, level_of, AreBelow, at_hand, HasPlaces}
+use Rattle.learn_step.specs.Places.{false_at, level_of, AreBelow, at_hand, HasPlaces, hint_of}
 
 -- the clause of this id was brought in: its literals that are false below a place, and its id as a hint
 pub record IsBroughtIn (db : List StoredClause) (es : List Entry) (id below : ℕ) (old new hints more : List ℕ) : Type 0 where
@@ -17,6 +17,22 @@ pub record IsBroughtIn (db : List StoredClause) (es : List Entry) (id below : �
   pub named : clause_of (known_of db) id ≡ Some clause
   pub places : HasPlaces es clause below old new
   pub hint : more ≡ hints ++ id ∷ []
+
+-- the value at the place was forced: a derivation has something to name for it
+abbrev pub IsForced : List Entry → ℕ → Type 0
+IsForced es p = (e : Entry) → oldest (p + 1) es ≡ e ∷ oldest p es → ¬ (hint_of e ≡ None)
+
+-- what becomes of the literal that is false by an entry, which it is the place of: it stays, or the other literals of the
+-- clause that forced it come in its place
+abbrev pub Becomes : List StoredClause → List Entry → ℕ → Entry → Bool → List ℕ → List ℕ → List ℤ → List ℤ → List ℕ → List ℕ → Type 0
+Becomes db es p e true old new lits after hints more = (new ≡ old) × (after ≡ lits ++ neg_ℤ e.lit ∷ []) × (more ≡ hints)
+Becomes db es p e false old new lits after hints more = (after ≡ lits) × ((id : ℕ) × (hint_of e ≡ Some id) × IsBroughtIn db es id p old new hints more)
+
+-- one step of resolution, at a place that was taken out
+pub record IsStep (db : List StoredClause) (es : List Entry) (p : ℕ) (stays : Bool) (old new : List ℕ) (lits after : List ℤ) (hints more : List ℕ) : Type 0 where
+  pub entry : Entry
+  pub at : oldest (p + 1) es ≡ entry ∷ oldest p es
+  pub becomes : Becomes db es p entry stays old new lits after hints more
 
 -- the clause follows by its hints, the last one first, along values that are older than the count; what is still to be
 -- looked at is older, too

@@ -9,12 +9,13 @@
 //!
 //! The clauses were used from the last to the first of a propagation that finds the clause at hand false: turned, their
 //! ids are the hints.
-ghost use Rattle.std.specs.Prelude.{◌≡◌, ◌<◌, ◌≤◌, List, [], ◌∷◌, ◌++◌, length, IfOk, OnOk, ℕ, reverse};
+ghost use Rattle.std.specs.Prelude.{◌≡◌, ◌<◌, ◌≤◌, false, List, [], ◌∷◌, ◌++◌, length, IfOk, OnOk, ℕ, reverse};
 ghost use Rattle.sat_base.specs.Work.{TakesGreatest};
 ghost use Rattle.clause_store.specs.Clauses.{IsId, clause_at};
 ghost use Rattle.trail_book.specs.Trail.{trues};
 ghost use Rattle.learn_step.specs.Places.{AreBelow, HaveValues, HasPlaces, hint_of, IsHighest};
-ghost use Rattle.learn_step.specs.Analysis.{IsBroughtIn};
+ghost use Rattle.learn_step.specs.Reasons.{AreReasoned};
+ghost use Rattle.learn_step.specs.Analysis.{IsBroughtIn, IsForced, IsStep};
 
 use crate::learnt::Learnt;
 use clause_store::Store;
@@ -64,6 +65,31 @@ impl Analysis {
         insert_below(&mut self.places, trail, store.lits(id), below)?;
         self.hints.push(id)?;
         Ok(())
+    }
+
+    /// One step of resolution, at a place that was taken out: the literal that is false there stays, or the other literals
+    /// of the clause that forced the value come in its place.
+    pub fn step(
+        &mut self,
+        store: &Store,
+        trail: &Trail,
+        place: u32,
+        stays: bool,
+    ) -> Result<(), AllocError>
+        requires reasoned { AreReasoned store.now.clauses trail.now.entries }
+        requires in_range { place < length trail.now.entries }
+        requires forced { stays ≡ false → IsForced trail.now.entries place }
+        ensures { OnOk result (IsStep store.now.clauses trail.now.entries place stays self.old.places self.new.places self.old.lits.items self.new.lits.items self.old.hints.items self.new.hints.items) }
+    {
+        let entry = trail.entry(place);
+        if stays {
+            self.lits.push(entry.lit.negated())?;
+            return Ok(());
+        }
+        let Some(id) = hint(&entry) else {
+            unreachable!();
+        };
+        self.bring_in(store, trail, id, place)
     }
 
     /// Takes the greatest place out.

@@ -62,12 +62,8 @@ fn to_decisions(analysis: &mut Analysis, store: &Store, trail: &Trail) -> Result
 {
     let _vars = trail.vars();
     while let Some(place) = analysis.take_place(trail) {
-        let entry = trail.entry(place);
-        if let Some(id) = hint(&entry) {
-            analysis.bring_in(store, trail, id, place)?;
-        } else {
-            analysis.lits.push(entry.lit.negated())?;
-        }
+        let stays = hint(&trail.entry(place)).is_none();
+        analysis.step(store, trail, place, stays)?;
     }
     Ok(())
 }

@@ -9,7 +9,7 @@ ghost use Rattle.learn_step.specs.Reasons.{AreReasoned, IsConflict};
 ghost use Rattle.learn_step.specs.Learnt.{IsLearnt};
 ghost use Rattle.learn_step.specs.Analysis.{IsAnalysis, IsAboveUip, IsAtUip, AreKept};
 
-use crate::analysis::{Analysis, hint};
+use crate::analysis::Analysis;
 use crate::learnt::Learnt;
 use clause_store::Store;
 use std::alloc::{AllocError, Global};
@@ -41,15 +41,11 @@ fn to_first_uip(analysis: &mut Analysis, store: &Store, trail: &Trail) -> Result
     let _vars = trail.vars();
     while let Some(place) = analysis.take_place(trail) {
         let next_level = analysis.highest_level(trail);
-        let entry = trail.entry(place);
-        if next_level < trail.top() {
-            analysis.lits.push(entry.lit.negated())?;
+        let stays = next_level < trail.top();
+        analysis.step(store, trail, place, stays)?;
+        if stays {
             return Ok(next_level);
         }
-        let Some(id) = hint(&entry) else {
-            unreachable!();
-        };
-        analysis.bring_in(store, trail, id, place)?;
     }
     unreachable!()
 }
@@ -63,15 +59,8 @@ fn keep_others(analysis: &mut Analysis, store: &Store, trail: &Trail) -> Result<
 {
     let _vars = trail.vars();
     while let Some(place) = analysis.take_place(trail) {
-        let entry = trail.entry(place);
-        if trail.level_at(place) > 0 {
-            analysis.lits.push(entry.lit.negated())?;
-        } else {
-            let Some(id) = hint(&entry) else {
-                unreachable!();
-            };
-            analysis.bring_in(store, trail, id, place)?;
-        }
+        let stays = trail.level_at(place) > 0;
+        analysis.step(store, trail, place, stays)?;
     }
     Ok(())
 }
