@@ -113,8 +113,8 @@ impl Problem {
         stretch(self.index.as_slice(), group)
     }
 
-    /// Whether the assignment makes the clauses of this group true.
-    fn group_holds(&self, group: u32, assign: &Assign) -> bool
+    /// Whether the assignment makes the clauses of this group true. It looks at these clauses alone.
+    pub fn group_holds(&self, group: u32, assign: &Assign) -> bool
         requires { length assign.now ≡ self.now.vars }
         ensures { result ≡ group_true self.now.clauses assign.now group }
     {

@@ -13,7 +13,6 @@ ghost use Rattle.evidence_rec.specs.Asking.{IsSpent, IsHonestOver};
 ghost use Rattle.mss_grow.specs.Growth.{IsGrowth, TellsSettled, asks_for, so_far};
 ghost use Rattle.mss_grow.specs.Grown.{TellsGrown};
 
-use crate::group::makes_group_true;
 use crate::grown::Grown;
 use crate::growth::Growth;
 use evidence_rec::{Asked, Oracle, Proofs, Record};
@@ -88,7 +87,7 @@ fn settle<O: Oracle>(
     ensures spent { IsSpent (O.state oracle.old) (O.state oracle.new) purse.old.left purse.new.left }
 {
     let g = settled + 1;
-    if set.contains(g) || makes_group_true(problem, &growth.witness, g) {
+    if set.contains(g) || problem.group_holds(g, &growth.witness) {
         growth.kept.push(g)?;
         return Ok(None);
     }

@@ -15,7 +15,6 @@
 #![tactic(auto)]
 
 mod addition;
-mod group;
 mod grown;
 mod growth;
 

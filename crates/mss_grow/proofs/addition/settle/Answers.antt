@@ -8,7 +8,7 @@ use Rattle.evidence_rec.specs.Asking.{TellsAsked, refuted_by}
 use Rattle.mss_grow.specs.Growth.{IsGrowth}
 use Rattle.mss_grow.proofs.GrowthLemmas.{keep, leave_out, still-witnessed, so_far-within}
 use Rattle.mss_grow.proofs.addition.settle.Goals as goal
-use Rattle.mss_grow.proofs.addition.settle.Goals.{then-contains-via-then-contains, then-contains-via-else-contains+then-makes_group_true, in-Sat+in_ok-push-in-Sat, in-Unsat+in_ok-proof-in-Unsat+in_ok-push-in-Unsat}
+use Rattle.mss_grow.proofs.addition.settle.Goals.{then-contains-via-then-contains, then-contains-via-else-contains+then-group_holds, in-Sat+in_ok-push-in-Sat, in-Unsat+in_ok-proof-in-Unsat+in_ok-push-in-Unsat}
 
 -- the group is of the given set, or satisfied
 pub returns-then-contains-clause-settled : goal.returns-then-contains-clause-settled
@@ -18,7 +18,7 @@ returns-then-contains-clause-settled g c =
     let at_hand : (has c.args.set.now (c.args.settled + 1) ≡ true) ⊎ (group_true p.clauses old.witness (c.args.settled + 1) ≡ true) =
     elim c.then-contains.branch [
       | then-contains-via-then-contains w ↦ inl cc
-      | then-contains-via-else-contains+then-makes_group_true w ↦ inr cc
+      | then-contains-via-else-contains+then-group_holds w ↦ inr cc
     ] in
     let made = keep p c.args.set.now c.args.settled old.kept old.witness old.witness old.proofs c.requires.growth
     (still-witnessed p c.args.set.now old.kept c.args.settled old.witness at_hand c.requires.growth.witnessed) in
