@@ -1,9 +1,9 @@
 -- What an explored set is, and that nothing minimal is missing once each set is explored.
-use Rattle.std.proofs.Common.{◌≡◌, ◌≢◌, ◌⊎◌, ℕ, ◌≤◌, Bool, true, false, not, ◌&&◌, List, [], ◌∷◌, Option, Some, None, refl, sym, ◌∙◌, ap, subst, inl, inr, arith, eqb}
+use Rattle.std.proofs.Common.{◌≡◌, ◌≢◌, ◌⊎◌, ℕ, Bool, true, false, not, ◌&&◌, List, [], ◌∷◌, Option, Some, None, refl, sym, ◌∙◌, ap, subst, inl, inr, eqb}
 use Rattle.std.specs.List.{list_all, AllByRecursion}
 use Rattle.std.specs.Cmp.Lexicographic.{bytes_decides}
-use Rattle.std.proofs.lemmas.Bool.{false≢true, true≢false, or_cases, or_left, or_right, and_parts, and_from, eqb-true, eq-eqb, cases_Bool, cases_lt, false_from_ne_true}
-use Rattle.gm_base.specs.Sets.{AscendsAbove, IsGroupSet, has, IsSubset, IsProperSubset, all_groups, complement}
+use Rattle.std.proofs.lemmas.Bool.{false≢true, true≢false, or_right, and_parts, and_from, eqb-true, cases_Bool, false_from_ne_true}
+use Rattle.gm_base.specs.Sets.{IsGroupSet, has, IsSubset, IsProperSubset, all_groups, complement}
 use Rattle.sat_base.specs.Members.{In}
 use Rattle.gm_base.specs.Problem.{Problem, IsProblem, Sat}
 use Rattle.gm_base.specs.Minimal.{IsConflict, IsCorrection}
@@ -11,7 +11,7 @@ use Rattle.gm_base.specs.Explored.{explores, is_explored, AllExplored}
 use Rattle.gm_base.specs.declared.kind.Kind.{Kind}
 use Rattle.gm_base.specs.declared.kind.Kind.TheVariants.{Conflict as OfConflict, Correction as OfCorrection}
 use Rattle.sat_base.proofs.Members.{In-from_map, all_at, any_at, any_from}
-use Rattle.gm_base.proofs.SetLemmas.{has-complement, IsSubset-from_all, IsGroupSet-complement, not_has-bound}
+use Rattle.gm_base.proofs.SetLemmas.{AscendsAbove-same, has-complement, has-head, IsSubset-from_all, IsGroupSet-complement}
 use Rattle.gm_base.proofs.SatLemmas.{Sat-subset}
 use Rattle.evidence_rec.specs.declared.record.Record.{Record}
 use Rattle.evidence_rec.specs.declared.record.Record.TheVariants.{Conflict, Correction}
@@ -80,51 +80,13 @@ steps_explore s t e set step h =
     ap (λ (x : State). is_explored (founds x.records) set) step.is ∙ ap (λ x. is_explored (founds x) set) is
     ∙ explored-append s.records more set h
 
--- a list has its first group
-has-first : (x : ℕ) (xs : List ℕ) → has (x ∷ xs) x ≡ true
-has-first x xs = or_left (eqb x x) (has xs x) (eq-eqb x x refl)
-
--- a group of an ascending list is not below its first
-first-least : (x y : ℕ) (ys : List ℕ) → AscendsAbove y ys → has (y ∷ ys) x ≡ true → y ≤ x
-first-least x y ys b h =
-    elim (cases_lt x y) [
-      | inl less ↦ absurd (false≢true (sym (not_has-bound x x (y ∷ ys) (omega arith) (less, b)) ∙ h))
-      | inr le ↦ le
-    ]
-
--- behind a first group that two ascending lists share, a subset is still one
-rest-subset : (x : ℕ) (xs ys : List ℕ) → AscendsAbove x xs → IsSubset (x ∷ xs) (x ∷ ys) → IsSubset xs ys
-rest-subset x xs ys a sub g h =
-    elim (or_cases (eqb x g) (has ys g) (sub g (or_right (eqb x g) (has xs g) h))) [
-      | inl here ↦
-          let same = eqb-true x g here in
-          absurd (false≢true (sym (not_has-bound x g xs (omega arith) a) ∙ h))
-      | inr later ↦ later
-    ]
-
--- ascending lists with the same groups are the same
-same_members : (low : ℕ) (xs ys : List ℕ) → AscendsAbove low xs → AscendsAbove low ys → IsSubset xs ys
-    → IsSubset ys xs → xs ≡ ys
-same_members low [] [] a b f g = refl
-same_members low [] (y ∷ ys) a b f g = absurd (false≢true (g y (has-first y ys)))
-same_members low (x ∷ xs) [] a b f g = absurd (false≢true (f x (has-first x xs)))
-same_members low (x ∷ xs) (y ∷ ys) a b f g =
-    let le_y = first-least x y ys b.1 (f x (has-first x xs)) in
-    let le_x = first-least y x xs a.1 (g y (has-first y ys)) in
-    let same : x ≡ y = omega arith in
-    let rest : AscendsAbove x ys = subst (λ k. AscendsAbove k ys) (sym same) b.1 in
-    let sub : IsSubset (x ∷ xs) (x ∷ ys) = subst (λ k. IsSubset (x ∷ xs) (k ∷ ys)) (sym same) f in
-    let sup : IsSubset (x ∷ ys) (x ∷ xs) = subst (λ k. IsSubset (k ∷ ys) (x ∷ xs)) (sym same) g in
-    ap (λ k. k ∷ xs) same
-    ∙ ap (λ zs. y ∷ zs) (same_members x xs ys a.1 rest (rest-subset x xs ys a.1 sub) (rest-subset x ys xs rest sup))
-
 -- a group of the one list that the other lacks
 lacks : (large small : List ℕ) → list_all (has small) large ≡ false
     → (g : ℕ) × (has large g ≡ true) × (has small g ≡ false)
 lacks [] small h = absurd (true≢false h)
 lacks (x ∷ xs) small h =
     elim (cases_Bool (has small x)) [
-      | inr out ↦ (x, has-first x xs, out)
+      | inr out ↦ (x, has-head x xs, out)
       | inl on ↦
           let (g, inside, out) = lacks xs small (sym (ap (λ b. b && list_all (has small) xs) on) ∙ h) in
           (g, or_right (eqb x g) (has xs g) inside, out)
@@ -135,7 +97,7 @@ same_or_proper : (small large : List ℕ) → IsGroupSet small → IsGroupSet la
     → (small ≡ large) ⊎ IsProperSubset small large
 same_or_proper small large a b sub =
     elim (cases_Bool (list_all (has small) large)) [
-      | inl all ↦ inl (same_members 0 small large a b sub (IsSubset-from_all large small all))
+      | inl all ↦ inl (AscendsAbove-same 0 small large a b sub (IsSubset-from_all large small all))
       | inr not_all ↦ inr (sub, lacks large small not_all)
     ]
 
