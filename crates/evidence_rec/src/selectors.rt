@@ -1,16 +1,15 @@
-//! Selectors.
+//! Selectors in a refutation.
 //!
-//! The selector of a group is a variable of its own, behind those of the problem. Each clause of a group is written with
-//! "or the group is left out", so that a clause derived from some groups says which of them have to go: one at least.
-ghost use Rattle.std.specs.Prelude.{◌≡◌, ◌↔◌, ◌+◌, ◌<◌, ◌≤◌, ◌^◌, ◌++◌, ◌∷◌, [], IsTrue, IfOk, OnOk, length};
+//! A clause derived from clauses with their selectors says which groups it needs: one at least has to be left out.
+ghost use Rattle.std.specs.Prelude.{◌≡◌, ◌↔◌, ◌+◌, ◌<◌, ◌≤◌, ◌++◌, ◌∷◌, [], IsTrue, IfOk, OnOk, length};
 ghost use Rattle.std.specs.List.{list_all};
 ghost use Rattle.gm_base.specs.Sets.{has};
 ghost use Rattle.gm_base.specs.Problem.{IsClause};
-ghost use Rattle.gm_base.specs.Evidence.{left_out, with_selector};
+ghost use Rattle.gm_base.specs.Evidence.{with_selector};
 ghost use Rattle.evidence_rec.specs.Basis.{Begins, basis_of, refuted_set};
 ghost use Rattle.evidence_rec.specs.Refusals.{leaves_out};
 
-use gm_base::{Clause, GroupSet, Lit, Lits, Problem};
+use gm_base::{Clause, GroupSet, Lit, Problem, write_with_selector};
 use lrat_check::Checker;
 use std::alloc::{AllocError, Global};
 
@@ -20,42 +19,29 @@ pub fn selector_checker(alloc: Global, problem: &Problem) -> Result<Checker, All
 {
     let vars = problem.vars() + problem.groups();
     let mut checker = Checker::with_vars(alloc, vars)?;
+    let mut lits = Vec::new(alloc);
     for at in 0..problem.len() {
-        add_clause(&mut checker, alloc, problem, problem.clause(at))?;
+        add_clause(&mut checker, &mut lits, problem, problem.clause(at))?;
     }
     Ok(checker)
 }
 
+// Adds a clause, by way of a list that is used for each.
 fn add_clause(
     checker: &mut Checker,
-    alloc: Global,
+    lits: &mut Vec<Lit>,
     problem: &Problem,
     clause: &Clause,
 ) -> Result<(), AllocError>
     requires fits { IsClause problem.now.vars problem.now.groups clause.now }
-    requires small { problem.now.vars + problem.now.groups < 2 ^ 31 }
     requires vars { checker.old.vars ≡ problem.now.vars + problem.now.groups }
     requires no_steps { length checker.old.known ≡ checker.old.inputs }
     ensures added { OnOk result (checker.new.known ≡ checker.old.known ++ (checker.old.inputs + 1, with_selector problem.now clause.now) ∷ []) }
     ensures inputs { OnOk result (checker.new.inputs ≡ checker.old.inputs + 1) }
     ensures vars { checker.new.vars ≡ checker.old.vars }
 {
-    if clause.group == 0 {
-        return checker.add_input(clause.lits.as_slice());
-    }
-    let mut lits = Lits::from_slice(alloc, clause.lits.as_slice())?;
-    lits.push(left_out_lit(problem, clause.group))?;
+    write_with_selector(lits, problem, clause)?;
     checker.add_input(lits.as_slice())
-}
-
-// "The group is left out".
-fn left_out_lit(problem: &Problem, group: u32) -> Lit
-    requires not_background { 0 < group }
-    requires in_range { problem.now.vars + group < 2 ^ 31 }
-    ensures { result ≡ left_out problem.now group }
-{
-    let selector = problem.vars() + group;
-    Lit::new(-(selector as i32))
 }
 
 /// Whether each literal says that some group is left out that the proof refutes.

@@ -25,6 +25,7 @@ mod index;
 mod kind;
 pub mod laws;
 mod problem;
+mod selectors;
 mod sets;
 #[cfg(test)]
 mod tests;
@@ -35,4 +36,5 @@ pub use index::Placed;
 pub use kind::{Kind, Side};
 pub use problem::{Problem, clause_fits};
 pub use sat_base::{Assign, AssignBuilder, Derivation, DerivationBuilder, Lit, Lits, Purse, Step};
+pub use selectors::{selector, write_with_selector};
 pub use sets::Sets;

@@ -12,7 +12,7 @@ loop-at-preserved c =
     let added = c.in_ok-add.ensures.ok in
     record {
       log = given_more p p.clauses c.loop-at.at c.clause.result.now c.deref.result.now c.loop-at.solver.log c.add.new.self.log c.clause.ensures.same c.loop-at.invariant.log
-          (c.deref.ensures.value ∙ c.in_ok-copy_clause.ensures)
+          (c.deref.ensures.value ∙ c.in_ok-write_with_selector.ensures)
           (ap (λ (s : Solver). s.log) added);
       vars = ap (λ (s : Solver). s.vars) added ∙ c.loop-at.invariant.vars;
     }
