@@ -1,6 +1,6 @@
 -- What an oracle tells, and what its answers say.
 use Rattle.std.specs.Prelude.{◌≡◌, ℕ, ◌+◌, ◌-◌, ◌^◌, min, true, List, ◌++◌, map, ℤ, pos, Option, Some, None}
-use Rattle.gm_base.specs.Sets.{IsSubset, IsGroupSet}
+use Rattle.gm_base.specs.Sets.{IsSubset, IsGroupSet, all_groups}
 use Rattle.gm_base.specs.Problem.{Problem, Sat}
 use Rattle.gm_base.specs.Evidence.{selector_form, is_witness}
 use Rattle.lrat_steps.specs.Log.{LogStep, db_of, inputs_of, learned_count}
@@ -27,6 +27,13 @@ abbrev pub TellsAsked : OracleState → List ℕ → ℕ → Asked → Type 0
 TellsAsked o set left (asked.Sat assign) = is_witness o.problem set assign ≡ true
 TellsAsked o set left (asked.Unsat core) = IsGroupSet core × IsSubset core set × (¬ Sat o.problem core)
 TellsAsked o set left asked.Dry = (left ≡ 0) × Undecided (db_of o.log) (selectors o.problem set)
+
+-- a set of groups that was asked about, at which the purse was empty and the search stood before a conflict
+pub record IsDryAt (o : OracleState) (set : List ℕ) (left : ℕ) : Type 0 where
+  pub is_set : IsGroupSet set
+  pub within : IsSubset set (all_groups o.problem.groups)
+  pub empty : left ≡ 0
+  pub undecided : Undecided (db_of o.log) (selectors o.problem set)
 
 -- the set that an answer leaves for a proof
 abbrev pub refuted_by : Asked → Option (List ℕ)

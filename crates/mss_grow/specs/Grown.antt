@@ -1,12 +1,10 @@
 -- What growing ends with.
 use Rattle.std.specs.Prelude.{◌≡◌, ℕ, true, false, List}
-use Rattle.gm_base.specs.Sets.{IsSubset, IsGroupSet, has, all_groups}
-use Rattle.lrat_steps.specs.Log.{db_of}
-use Rattle.lrat_steps.specs.Undecided.{Undecided}
+use Rattle.gm_base.specs.Sets.{has}
 use Rattle.evidence_rec.specs.declared.record.Record.{Record}
 use Rattle.evidence_rec.specs.declared.record.Record.TheVariants as record_of
 use Rattle.evidence_rec.specs.Records.{IsShaped, Accepts}
-use Rattle.evidence_rec.specs.Asking.{OracleState, selectors}
+use Rattle.evidence_rec.specs.Asking.{OracleState, IsDryAt}
 use Rattle.mss_grow.specs.declared.grown.Grown.{Grown}
 use Rattle.mss_grow.specs.declared.grown.Grown.TheVariants as grown
 
@@ -19,5 +17,4 @@ IsCorrectionOutside set (record_of.Correction out witness proofs) = (g : ℕ) �
 -- empty and the search stood before a conflict
 abbrev pub TellsGrown : OracleState → List ℕ → ℕ → Grown → Type 0
 TellsGrown o set left (grown.Done made) = IsCorrectionOutside set made × IsShaped o.problem made × Accepts o.problem made
-TellsGrown o set left (grown.Dry more) =
-    IsGroupSet more × IsSubset more (all_groups o.problem.groups) × (left ≡ 0) × Undecided (db_of o.log) (selectors o.problem more)
+TellsGrown o set left (grown.Dry more) = IsDryAt o more left

@@ -1,12 +1,10 @@
 -- Growing sets: the groups up to some one are settled, and each of them is kept or left out.
 use Rattle.std.specs.Prelude.{◌≡◌, ℕ, ◌+◌, true, List, [], ◌∷◌, ◌++◌, Option, Some, None, nat_lt, if◌then◌else◌}
 use Rattle.std.specs.List.{filter}
-use Rattle.gm_base.specs.Sets.{IsSubset, IsGroupSet, has, all_groups, complement}
+use Rattle.gm_base.specs.Sets.{IsSubset, IsGroupSet, has, complement}
 use Rattle.gm_base.specs.Problem.{Problem}
 use Rattle.gm_base.specs.Evidence.{refutes, is_witness, each_passes}
-use Rattle.lrat_steps.specs.Log.{db_of}
-use Rattle.lrat_steps.specs.Undecided.{Undecided}
-use Rattle.evidence_rec.specs.Asking.{OracleState, selectors}
+use Rattle.evidence_rec.specs.Asking.{OracleState, IsDryAt}
 use Rattle.mss_grow.specs.declared.growth.Growth.{Growth}
 
 -- the groups kept, and those of the given set that are not settled yet
@@ -24,13 +22,6 @@ pub record IsGrowth (p : Problem) (set : List ℕ) (settled : ℕ) (growth : Gro
 -- how many questions a group may cost
 abbrev pub asks_for : List ℕ → ℕ → ℕ
 asks_for set g = if has set g then 0 else 1
-
--- a set that was asked about, at which the purse was empty and the search stood before a conflict
-pub record IsDryAt (o : OracleState) (set : List ℕ) (left : ℕ) : Type 0 where
-  pub is_set : IsGroupSet set
-  pub within : IsSubset set (all_groups o.problem.groups)
-  pub empty : left ≡ 0
-  pub undecided : Undecided (db_of o.log) (selectors o.problem set)
 
 -- the groups up to this one are settled; or the purse was empty
 abbrev pub TellsSettled : OracleState → List ℕ → ℕ → Growth → ℕ → Option (List ℕ) → Type 0

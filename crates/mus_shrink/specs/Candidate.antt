@@ -1,12 +1,10 @@
 -- Candidates on the way to a minimal conflict: unsatisfiable sets of which some groups are known to be critical.
 use Rattle.std.specs.Prelude.{◌≡◌, ℕ, true, List, [], ◌∷◌, ◌++◌, Option, Some, None}
 use Rattle.std.specs.List.{filter}
-use Rattle.gm_base.specs.Sets.{IsSubset, IsGroupSet, has, without, all_groups}
+use Rattle.gm_base.specs.Sets.{IsSubset, IsGroupSet, has, without}
 use Rattle.gm_base.specs.Problem.{Problem}
 use Rattle.gm_base.specs.Evidence.{refutes, is_witness, each_passes}
-use Rattle.lrat_steps.specs.Log.{db_of}
-use Rattle.lrat_steps.specs.Undecided.{Undecided}
-use Rattle.evidence_rec.specs.Asking.{OracleState, selectors}
+use Rattle.evidence_rec.specs.Asking.{OracleState, IsDryAt}
 use Rattle.mus_shrink.specs.declared.candidate.Candidate.{Candidate}
 
 -- a refuted part of the set, with a witness for each of its groups that was tried, in order
@@ -15,13 +13,6 @@ pub record IsCandidate (p : Problem) (set tried : List ℕ) (candidate : Candida
   pub within : IsSubset candidate.set set
   pub refuted : refutes p candidate.set candidate.proof ≡ true
   pub witnessed : each_passes (λ g w. is_witness p (without candidate.set g) w) (filter (has candidate.set) tried) candidate.witnesses ≡ true
-
--- a set that was asked about, at which the purse was empty and the search stood before a conflict
-pub record IsDryAt (o : OracleState) (set : List ℕ) (left : ℕ) : Type 0 where
-  pub is_set : IsGroupSet set
-  pub within : IsSubset set (all_groups o.problem.groups)
-  pub empty : left ≡ 0
-  pub undecided : Undecided (db_of o.log) (selectors o.problem set)
 
 -- one group more was tried; or the purse was empty
 abbrev pub TellsTried : OracleState → Candidate → ℕ → Candidate → ℕ → Option (List ℕ) → Type 0

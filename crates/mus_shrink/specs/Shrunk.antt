@@ -1,13 +1,11 @@
 -- What shrinking ends with.
-use Rattle.std.specs.Prelude.{◌≡◌, ℕ, List}
-use Rattle.gm_base.specs.Sets.{IsSubset, IsGroupSet, all_groups}
+use Rattle.std.specs.Prelude.{ℕ, List}
+use Rattle.gm_base.specs.Sets.{IsSubset}
 use Rattle.gm_base.specs.Problem.{Problem}
-use Rattle.lrat_steps.specs.Log.{db_of}
-use Rattle.lrat_steps.specs.Undecided.{Undecided}
 use Rattle.evidence_rec.specs.declared.record.Record.{Record}
 use Rattle.evidence_rec.specs.declared.record.Record.TheVariants as record_of
 use Rattle.evidence_rec.specs.Records.{IsShaped, Accepts}
-use Rattle.evidence_rec.specs.Asking.{OracleState, selectors}
+use Rattle.evidence_rec.specs.Asking.{OracleState, IsDryAt}
 use Rattle.mus_shrink.specs.declared.shrunk.Shrunk.{Shrunk}
 use Rattle.mus_shrink.specs.declared.shrunk.Shrunk.TheVariants as shrunk
 
@@ -20,5 +18,4 @@ IsConflictWithin p set (record_of.Correction part witness proofs) = ⊥
 -- search stood before a conflict
 abbrev pub TellsShrunk : OracleState → List ℕ → ℕ → Shrunk → Type 0
 TellsShrunk o set left (shrunk.Done made) = IsConflictWithin o.problem set made × IsShaped o.problem made × Accepts o.problem made
-TellsShrunk o set left (shrunk.Dry part) =
-    IsGroupSet part × IsSubset part (all_groups o.problem.groups) × (left ≡ 0) × Undecided (db_of o.log) (selectors o.problem part)
+TellsShrunk o set left (shrunk.Dry part) = IsDryAt o part left
