@@ -1,11 +1,10 @@
 -- One step of a search.
-use Rattle.std.proofs.Common.{◌≡◌, ◌⊎◌, ℕ, zero, suc, ◌+◌, ◌-◌, ◌<◌, ◌≤◌, min, Bool, true, false, eqb, List, [], ◌∷◌, ◌++◌, map, length, get_or, take, Option, Some, None, refl, sym, ◌∙◌, ap, subst, inl, inr, arith, length-append, append_assoc}
+use Rattle.std.proofs.Common.{◌≡◌, ◌⊎◌, ℕ, zero, suc, ◌+◌, ◌-◌, ◌<◌, ◌≤◌, min, Bool, true, false, eqb, List, [], ◌∷◌, ◌++◌, map, length, get_or, take, Option, Some, None, refl, sym, ◌∙◌, ap, subst, inl, inr, arith, length-append}
 use Rattle.std.specs.Prelude.{ℤ, pos, negsuc, neg_ℤ, slice_get}
 use Rattle.std.specs.List.{find}
 use Rattle.std.specs.Option.{option_map}
 use Rattle.std.proofs.lemmas.Bool.{cases_lt, cond-true, cond-false, eq-eqb, ne_eqb}
 use Rattle.std.proofs.lemmas.Bool.Decides.{leb_tells}
-use Rattle.std.proofs.lemmas.List.{append-nil}
 use Rattle.sat_base.specs.Members.{In}
 use Rattle.sat_base.specs.Literals.{var_of, IsLiteral, AreLiterals, literal_true}
 use Rattle.sat_base.specs.Derivation.{numbered, clause_of, follows}
@@ -23,7 +22,8 @@ use Rattle.propagate.specs.Propagation.{Grows}
 use Rattle.learn_step.specs.Reasons.{before_last, IsConflict, IsDecision}
 use Rattle.learn_step.specs.Learnt.{IsUsed, IsLearnt, IsCore}
 use Rattle.cdcl_core.specs.State.{IsSoundEntry, IsSound, IsRecorded, IsState}
-use Rattle.cdcl_core.specs.Answers.{IsConsistent, IsModel, IsRefuted, IsPaid}
+use Rattle.lrat_steps.proofs.PaidLemmas.{IsPaid-none, IsPaid-then}
+use Rattle.cdcl_core.specs.Answers.{IsConsistent, IsModel, IsRefuted, IsHonestlyPaid}
 use Rattle.cdcl_core.specs.Search.{IsCoreAdded}
 use Rattle.cdcl_core.proofs.SearchLemmas.{top_grows, sound_grows, sound_keep, sound_recount, sound_learned, sound_core, fixpoint_before, not_subsumed, top_literal, decisions_assumed, marked, marked-lits, marked-list, marked-choice}
 
@@ -93,30 +93,22 @@ used_has_var : (log : List LogStep) (db : List StoredClause) (l : ℤ) → db_of
 used_has_var log db l same honest u = honest_vars log honest u.clause (subst (In u.clause) (sym same) u.in_db) l u.has
 
 -- what was logged is paid
-pub paid_none : (log : List LogStep) (left : ℕ) → IsHonest log → IsPaid log log left left
-paid_none log left honest = record { more = []; grown = sym (append-nil log); inputs = refl; honest = honest; paid = refl }
+pub paid_none : (log : List LogStep) (left : ℕ) → IsHonest log → IsHonestlyPaid log log left left
+paid_none log left honest = record { paid = IsPaid-none log left; honest = honest }
 
-pub paid_learned : (log : List LogStep) (lits : List ℤ) (hints : List ℕ) (before left : ℕ) → IsHonest (log ++ Learned lits hints ∷ []) → left + 1 ≡ before → IsPaid log (log ++ Learned lits hints ∷ []) before left
+pub paid_learned : (log : List LogStep) (lits : List ℤ) (hints : List ℕ) (before left : ℕ) → IsHonest (log ++ Learned lits hints ∷ []) → left + 1 ≡ before
+    → IsHonestlyPaid log (log ++ Learned lits hints ∷ []) before left
 paid_learned log lits hints before left honest paid =
     let one = learned-push log (Learned lits hints) in
-    record { more = Learned lits hints ∷ []; grown = refl; inputs = inputs-push_learned log lits hints; honest = honest; paid = omega (arith, one, paid) }
+    record { paid = record { more = Learned lits hints ∷ []; grown = refl; inputs = inputs-push_learned log lits hints; paid = omega (arith, one, paid) }; honest = honest }
 
-pub paid_core : (log : List LogStep) (lits : List ℤ) (hints : List ℕ) (left : ℕ) → IsHonest (log ++ Core lits hints ∷ []) → IsPaid log (log ++ Core lits hints ∷ []) left left
+pub paid_core : (log : List LogStep) (lits : List ℤ) (hints : List ℕ) (left : ℕ) → IsHonest (log ++ Core lits hints ∷ []) → IsHonestlyPaid log (log ++ Core lits hints ∷ []) left left
 paid_core log lits hints left honest =
     let one = learned-push log (Core lits hints) in
-    record { more = Core lits hints ∷ []; grown = refl; inputs = inputs-push_core log lits hints; honest = honest; paid = omega (arith, one) }
+    record { paid = record { more = Core lits hints ∷ []; grown = refl; inputs = inputs-push_core log lits hints; paid = omega (arith, one) }; honest = honest }
 
-pub paid_join : (a b c : List LogStep) (before mid left : ℕ) → IsPaid a b before mid → IsPaid b c mid left → IsPaid a c before left
-paid_join a b c before mid left h k =
-    let p = h.paid in
-    let q = k.paid in
-    record {
-      more = h.more ++ k.more;
-      grown = k.grown ∙ ap (λ (log : List LogStep). log ++ k.more) h.grown ∙ append_assoc a h.more k.more;
-      inputs = k.inputs ∙ h.inputs;
-      honest = k.honest;
-      paid = omega (arith, p, q);
-    }
+pub paid_join : (a b c : List LogStep) (before mid left : ℕ) → IsHonestlyPaid a b before mid → IsHonestlyPaid b c mid left → IsHonestlyPaid a c before left
+paid_join a b c before mid left h k = record { paid = IsPaid-then a b c before mid left h.paid k.paid; honest = k.honest }
 
 -- the facts that `learn` asks for
 pub conflict_of : (vars : ℕ) (db : List StoredClause) (log : List LogStep) (es : List Entry) (assumed : List ℤ) (count id : ℕ) → IsState vars db log es assumed count → IsFalsified db (trues es) id → count < top es

@@ -1,9 +1,10 @@
 -- What the answers of a solver mean (incremental SAT under assumed literals: Eén and Sörensson 2003).
-use Rattle.std.specs.Prelude.{◌≡◌, ℕ, ◌+◌, ◌-◌, ◌<◌, Bool, true, List, ◌++◌, ℤ, neg_ℤ, length, Some, slice_get}
+use Rattle.std.specs.Prelude.{◌≡◌, ℕ, ◌-◌, ◌<◌, Bool, true, List, ℤ, neg_ℤ, length, Some, slice_get}
 use Rattle.sat_base.specs.Members.{In}
 use Rattle.sat_base.specs.Literals.{literal_true, clause_true}
-use Rattle.lrat_steps.specs.Log.{LogStep, Core, db_of, inputs_of, learned_count}
+use Rattle.lrat_steps.specs.Log.{LogStep, Core, db_of, inputs_of}
 use Rattle.lrat_steps.specs.Honest.{IsHonest}
+use Rattle.lrat_steps.specs.Paid.{IsPaid}
 use Rattle.lrat_steps.specs.Undecided.{Undecided}
 use Rattle.cdcl_core.specs.declared.solved.Solved.{Solved}
 use Rattle.cdcl_core.specs.declared.solved.Solved.TheVariants as solved
@@ -32,10 +33,7 @@ Tells vars log assumed left (solved.Sat assign) = IsModel vars (inputs_of log) a
 Tells vars log assumed left (solved.Unsat id) = IsRefuted log assumed id
 Tells vars log assumed left solved.Dry = (left ≡ 0) × Undecided (db_of log) assumed
 
--- the log has grown by derived steps and is honest, and the purse has paid a unit for each clause that was learnt
-pub record IsPaid (old new : List LogStep) (before left : ℕ) : Type 0 where
-  pub more : List LogStep
-  pub grown : new ≡ old ++ more
-  pub inputs : inputs_of new ≡ inputs_of old
+-- what was learnt is paid, and the log is honest
+pub record IsHonestlyPaid (old new : List LogStep) (before left : ℕ) : Type 0 where
+  pub paid : IsPaid old new before left
   pub honest : IsHonest new
-  pub paid : left + learned_count new ≡ before + learned_count old

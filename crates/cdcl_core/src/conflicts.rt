@@ -9,7 +9,7 @@ ghost use Rattle.sat_base.specs.Units.{IsFalsified};
 ghost use Rattle.trail_book.specs.Trail.{trues, top};
 ghost use Rattle.learn_step.specs.Reasons.{IsFalse};
 ghost use Rattle.learn_step.specs.Learnt.{start_of};
-ghost use Rattle.cdcl_core.specs.Answers.{IsPaid, IsRefuted};
+ghost use Rattle.cdcl_core.specs.Answers.{IsHonestlyPaid, IsRefuted};
 ghost use Rattle.cdcl_core.specs.Search.{IsSearch, IsRound};
 
 use crate::search::Search;
@@ -39,7 +39,7 @@ impl Search {
         requires search { IsSearch self.old assumed.now }
         requires falsified { IsFalsified self.old.store.clauses (trues self.old.trail.entries) id }
         ensures round { IfOk result (λ answer. IsRound self.old self.new assumed.now purse.old.left purse.new.left answer) }
-        ensures paid { IsPaid self.old.log self.new.log purse.old.left purse.new.left }
+        ensures paid { IsHonestlyPaid self.old.log self.new.log purse.old.left purse.new.left }
         ensures vars { self.new.trail.vars ≡ self.old.trail.vars }
     {
         if self.trail.top() <= self.assumed_levels {
@@ -67,7 +67,7 @@ impl Search {
         requires purse { 0 < purse.old.left }
         ensures search { OnOk result (IsSearch self.new assumed.now) }
         ensures unit { OnOk result (purse.new.left + 1 ≡ purse.old.left) }
-        ensures paid { IsPaid self.old.log self.new.log purse.old.left purse.new.left }
+        ensures paid { IsHonestlyPaid self.old.log self.new.log purse.old.left purse.new.left }
         ensures vars { self.new.trail.vars ≡ self.old.trail.vars }
     {
         let learnt = learn(alloc, &self.store, &self.trail, id)?;
@@ -94,7 +94,7 @@ impl Search {
         requires start { (lit : ℤ) → In lit (start_of origin) → In (neg_ℤ lit) assumed.now }
         ensures refuted { IfOk result (λ id. IsRefuted self.new.log assumed.now id) }
         ensures search { OnOk result (IsSearch self.new assumed.now) }
-        ensures paid { (left : ℕ) → IsPaid self.old.log self.new.log left left }
+        ensures paid { (left : ℕ) → IsHonestlyPaid self.old.log self.new.log left left }
         ensures vars { self.new.trail.vars ≡ self.old.trail.vars }
     {
         let id = log_core(alloc, &mut self.log, &mut self.store, &self.trail, origin)?;

@@ -8,7 +8,7 @@ ghost use Rattle.sat_base.specs.Members.{In};
 ghost use Rattle.sat_base.specs.Literals.{AreLiterals, IsLiteral, literal_true};
 ghost use Rattle.sat_base.specs.Units.{AllTrue, IsFixpoint, HasValue};
 ghost use Rattle.trail_book.specs.Trail.{trues};
-ghost use Rattle.cdcl_core.specs.Answers.{IsConsistent, IsPaid};
+ghost use Rattle.cdcl_core.specs.Answers.{IsConsistent, IsHonestlyPaid};
 ghost use Rattle.cdcl_core.specs.Search.{IsSearch, IsRound, IsNext};
 
 use crate::search::Search;
@@ -85,7 +85,7 @@ impl Search {
         requires literals { AreLiterals self.old.trail.vars assumed.now }
         requires consistent { IsConsistent assumed.now }
         ensures round { IfOk result (λ answer. (left : ℕ) → IsRound self.old self.new assumed.now left left answer) }
-        ensures paid { (left : ℕ) → IsPaid self.old.log self.new.log left left }
+        ensures paid { (left : ℕ) → IsHonestlyPaid self.old.log self.new.log left left }
         ensures vars { self.new.trail.vars ≡ self.old.trail.vars }
     {
         match next_decision(&mut self.trail, assumed, &mut self.assumed_true) {

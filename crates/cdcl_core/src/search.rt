@@ -23,7 +23,7 @@ ghost use Rattle.std.specs.Prelude.{◌≡◌, ℕ, ◌≤◌, length, IfOk, OnO
 ghost use Rattle.sat_base.specs.Literals.{AreLiterals};
 ghost use Rattle.trail_book.specs.Trail.{trues};
 ghost use Rattle.propagate.specs.Propagation as propagation;
-ghost use Rattle.cdcl_core.specs.Answers.{IsConsistent, IsPaid, Tells};
+ghost use Rattle.cdcl_core.specs.Answers.{IsConsistent, IsHonestlyPaid, Tells};
 ghost use Rattle.cdcl_core.specs.Search.{IsSearch, IsAtRoot, IsRound, Ends};
 
 use crate::solved::Solved;
@@ -62,7 +62,7 @@ impl Search {
         requires consistent { IsConsistent assumed.now }
         ensures answer { IfOk result (λ answer. Tells self.new.trail.vars self.new.log assumed.now purse.new.left answer) }
         ensures at_root { OnOk result (IsAtRoot self.new) }
-        ensures paid { IsPaid self.old.log self.new.log purse.old.left purse.new.left }
+        ensures paid { IsHonestlyPaid self.old.log self.new.log purse.old.left purse.new.left }
         ensures vars { self.new.trail.vars ≡ self.old.trail.vars }
     {
         self.trail.start_at(turn);
@@ -83,7 +83,7 @@ impl Search {
         requires literals { AreLiterals self.old.trail.vars assumed.now }
         requires consistent { IsConsistent assumed.now }
         ensures ends { IfOk result (λ answer. Ends self.new assumed.now purse.new.left answer) }
-        ensures paid { IsPaid self.old.log self.new.log purse.old.left purse.new.left }
+        ensures paid { IsHonestlyPaid self.old.log self.new.log purse.old.left purse.new.left }
         ensures vars { self.new.trail.vars ≡ self.old.trail.vars }
     {
         loop {
@@ -104,7 +104,7 @@ impl Search {
         requires literals { AreLiterals self.old.trail.vars assumed.now }
         requires consistent { IsConsistent assumed.now }
         ensures round { IfOk result (λ answer. IsRound self.old self.new assumed.now purse.old.left purse.new.left answer) }
-        ensures paid { IsPaid self.old.log self.new.log purse.old.left purse.new.left }
+        ensures paid { IsHonestlyPaid self.old.log self.new.log purse.old.left purse.new.left }
         ensures vars { self.new.trail.vars ≡ self.old.trail.vars }
     {
         match self.spread(alloc, assumed)? {
@@ -119,7 +119,7 @@ impl Search {
         ensures tells { IfOk result (λ told. propagation.Tells self.new.store.clauses (trues self.new.trail.entries) told) }
         ensures search { OnOk result (IsSearch self.new assumed.now) }
         ensures grows { OnOk result (length self.old.trail.entries ≤ length self.new.trail.entries) }
-        ensures paid { (left : ℕ) → IsPaid self.old.log self.new.log left left }
+        ensures paid { (left : ℕ) → IsHonestlyPaid self.old.log self.new.log left left }
         ensures vars { self.new.trail.vars ≡ self.old.trail.vars }
     {
         let told = propagate(&self.store, &mut self.trail);

@@ -6,7 +6,7 @@ ghost use Rattle.std.specs.Prelude.{◌≡◌, ◌<◌, ◌^◌, ◌++◌, ◌�
 ghost use Rattle.sat_base.specs.Literals.{AreLiterals};
 ghost use Rattle.lrat_steps.specs.Log.{Input};
 ghost use Rattle.lrat_steps.specs.Honest.{IsHonest};
-ghost use Rattle.cdcl_core.specs.Answers.{IsConsistent, IsPaid, Tells};
+ghost use Rattle.cdcl_core.specs.Answers.{IsConsistent, IsHonestlyPaid, Tells};
 
 use crate::search::Search;
 use crate::solved::Solved;
@@ -97,7 +97,7 @@ impl Solver {
         requires literals { AreLiterals self.old.vars assumed.now }
         requires consistent { IsConsistent assumed.now }
         ensures answer { IfOk result (λ answer. Tells self.new.vars self.new.log assumed.now purse.new.left answer) }
-        ensures paid { IsPaid self.old.log self.new.log purse.old.left purse.new.left }
+        ensures paid { IsHonestlyPaid self.old.log self.new.log purse.old.left purse.new.left }
         ensures vars { self.new.vars ≡ self.old.vars }
         ensures stays_broken { self.old.broken ≡ true → IsErr result }
         ensures breaks { OnErr result (self.new.broken ≡ true) }

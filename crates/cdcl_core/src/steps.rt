@@ -7,7 +7,7 @@ ghost use Rattle.sat_base.specs.Literals.{AreLiterals};
 ghost use Rattle.lrat_steps.specs.Log.{step_of, lits_of, is_live, stored};
 ghost use Rattle.learn_step.specs.Reasons.{AreReasoned, IsFalse};
 ghost use Rattle.learn_step.specs.Learnt.{start_of};
-ghost use Rattle.cdcl_core.specs.Answers.{IsPaid};
+ghost use Rattle.cdcl_core.specs.Answers.{IsHonestlyPaid};
 ghost use Rattle.cdcl_core.specs.State.{IsRecorded};
 ghost use Rattle.cdcl_core.specs.Search.{IsCoreAdded};
 
@@ -67,7 +67,7 @@ pub fn log_core(
     requires reasoned { AreReasoned store.old.clauses trail.now.entries }
     requires is_false { IsFalse store.old.clauses trail.now.entries origin }
     ensures added { IfOk result (λ id. IsCoreAdded store.old.clauses store.new.clauses log.old log.new trail.now.entries (start_of origin) id) }
-    ensures paid { (left : ℕ) → IsPaid log.old log.new left left }
+    ensures paid { (left : ℕ) → IsHonestlyPaid log.old log.new left left }
     ensures vars { store.new.vars ≡ store.old.vars }
 {
     let core = core_of(alloc, store, trail, origin)?;

@@ -5,7 +5,7 @@
 //! step is not live and costs no unit, and the literal's reason stays the live clause that forced it. A literal whose
 //! clause is a unit already needs no such step.
 ghost use Rattle.std.specs.Prelude.{◌≡◌, ℕ, ◌<◌, length, OnOk};
-ghost use Rattle.cdcl_core.specs.Answers.{IsPaid};
+ghost use Rattle.cdcl_core.specs.Answers.{IsHonestlyPaid};
 ghost use Rattle.cdcl_core.specs.Search.{IsAtRoot, KeepsValues};
 
 use crate::search::Search;
@@ -19,7 +19,7 @@ impl Search {
         requires { IsAtRoot self.old }
         ensures at_root { OnOk result (IsAtRoot self.new) }
         ensures keeps { OnOk result (KeepsValues self.old self.new) }
-        ensures paid { (left : ℕ) → IsPaid self.old.log self.new.log left left }
+        ensures paid { (left : ℕ) → IsHonestlyPaid self.old.log self.new.log left left }
         ensures vars { self.new.trail.vars ≡ self.old.trail.vars }
     {
         let len = self.trail.len();
@@ -36,7 +36,7 @@ impl Search {
         requires place { place < length self.old.trail.entries }
         ensures at_root { OnOk result (IsAtRoot self.new) }
         ensures keeps { OnOk result (KeepsValues self.old self.new) }
-        ensures paid { (left : ℕ) → IsPaid self.old.log self.new.log left left }
+        ensures paid { (left : ℕ) → IsHonestlyPaid self.old.log self.new.log left left }
         ensures vars { self.new.trail.vars ≡ self.old.trail.vars }
     {
         let entry = self.trail.entry(place);

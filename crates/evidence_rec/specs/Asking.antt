@@ -1,10 +1,11 @@
 -- What an oracle tells, and what its answers say.
-use Rattle.std.specs.Prelude.{◌≡◌, ℕ, ◌+◌, ◌-◌, ◌^◌, min, true, List, ◌++◌, map, ℤ, pos, Option, Some, None}
+use Rattle.std.specs.Prelude.{◌≡◌, ℕ, ◌+◌, ◌-◌, ◌^◌, min, true, List, map, ℤ, pos, Option, Some, None}
 use Rattle.gm_base.specs.Sets.{IsSubset, IsGroupSet, all_groups}
 use Rattle.gm_base.specs.Problem.{Problem, Sat}
 use Rattle.gm_base.specs.Evidence.{selector_form, is_witness}
-use Rattle.lrat_steps.specs.Log.{LogStep, db_of, inputs_of, learned_count}
+use Rattle.lrat_steps.specs.Log.{LogStep, db_of, inputs_of}
 use Rattle.lrat_steps.specs.Honest.{IsHonest}
+use Rattle.lrat_steps.specs.Paid.{IsPaid}
 use Rattle.lrat_steps.specs.Undecided.{Undecided}
 use Rattle.evidence_rec.specs.declared.oracle.Asked.{Asked}
 use Rattle.evidence_rec.specs.declared.oracle.Asked.TheVariants as asked
@@ -41,14 +42,10 @@ refuted_by (asked.Sat assign) = None
 refuted_by (asked.Unsat core) = Some core
 refuted_by asked.Dry = None
 
--- what questions do to the problem, the log and the purse: the problem stays, the log grows by derived steps alone, and
--- the purse pays a unit for each clause that was learnt
+-- what questions do to the problem, the log and the purse: the problem stays, and what was learnt is paid
 pub record IsSpent (old new : OracleState) (before left : ℕ) : Type 0 where
   pub problem : new.problem ≡ old.problem
-  pub more : List LogStep
-  pub grown : new.log ≡ old.log ++ more
-  pub inputs : inputs_of new.log ≡ inputs_of old.log
-  pub paid : left + learned_count new.log ≡ before + learned_count old.log
+  pub paid : IsPaid old.log new.log before left
 
 -- the log is honest, over the clauses with their selectors
 pub record IsHonestOver (p : Problem) (log : List LogStep) : Type 0 where

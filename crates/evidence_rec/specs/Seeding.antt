@@ -1,11 +1,12 @@
 -- What a map engine tells, and what its answers say (MARCO: Liffiton, Previti, Malik and Marques-Silva 2016).
-use Rattle.std.specs.Prelude.{◌≡◌, ◌↔◌, ℕ, ◌+◌, Bool, true, false, List, [], ◌∷◌, ◌++◌, length, map, ℤ}
+use Rattle.std.specs.Prelude.{◌≡◌, ◌↔◌, ℕ, Bool, true, false, List, [], ◌∷◌, ◌++◌, length, map, ℤ}
 use Rattle.std.specs.List.{list_all}
 use Rattle.sat_base.specs.Literals.{clause_true}
 use Rattle.gm_base.specs.Explored.{Found, is_explored, block_clause, groups_true, IsUnexplored, AllExplored}
 use Rattle.sat_base.specs.Derivation.{Derivation, derives_within}
-use Rattle.lrat_steps.specs.Log.{LogStep, Input, db_of, inputs_of, learned_count}
+use Rattle.lrat_steps.specs.Log.{LogStep, Input, db_of, inputs_of}
 use Rattle.lrat_steps.specs.Honest.{IsHonest}
+use Rattle.lrat_steps.specs.Paid.{IsPaid}
 use Rattle.lrat_steps.specs.Undecided.{Undecided}
 use Rattle.evidence_rec.specs.declared.engine.Seed.{Seed}
 use Rattle.evidence_rec.specs.declared.engine.Seed.TheVariants as seed
@@ -38,14 +39,11 @@ is_empty (seed.Set set) = false
 is_empty seed.Empty = true
 is_empty seed.Dry = false
 
--- what a search does: the log grows by derived steps alone, and the purse pays a unit for each clause that was learnt
+-- what a search does: groups and blocks stay, and what was learnt is paid
 pub record IsSearched (old new : EngineState) (before left : ℕ) : Type 0 where
   pub groups : new.groups ≡ old.groups
   pub blocks : new.blocks ≡ old.blocks
-  pub more : List LogStep
-  pub grown : new.log ≡ old.log ++ more
-  pub inputs : inputs_of new.log ≡ inputs_of old.log
-  pub paid : left + learned_count new.log ≡ before + learned_count old.log
+  pub paid : IsPaid old.log new.log before left
 
 -- the log is honest, over the block clauses in the order given
 pub record IsHonestMap (blocks : List Found) (log : List LogStep) : Type 0 where

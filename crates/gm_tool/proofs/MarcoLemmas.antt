@@ -2,7 +2,7 @@
 use Rattle.std.proofs.Common.{◌≡◌, ◌≢◌, ◌⊎◌, ℕ, ◌+◌, ◌<◌, ◌≤◌, true, false, not, ◌&&◌, List, [], ◌∷◌, ◌++◌, length, Option, refl, sym, ◌∙◌, ap, subst, inl, inr, arith, eqb, length-append}
 use Rattle.std.proofs.lemmas.List.Elements.{filter-append}
 use Rattle.std.proofs.lemmas.List.Sums.{sum_by_push}
-use Rattle.lrat_steps.specs.Log.{LogStep, Input, Learned, Core, db_of, learned_count}
+use Rattle.lrat_steps.specs.Log.{LogStep, db_of, learned_count}
 use Rattle.lrat_steps.specs.Undecided.{Undecided}
 use Rattle.std.proofs.lemmas.Bool.{and_parts, and_from, false≢true, false_from_ne_true, true_from_ne_false, eqb-true, eq-eqb, not-true}
 use Rattle.gm_base.specs.Sets.{has, IsSubset, without, complement, all_groups}
@@ -10,6 +10,7 @@ use Rattle.gm_base.specs.Problem.{Problem, IsProblem}
 use Rattle.gm_base.specs.Minimal.{IsCorrection}
 use Rattle.gm_base.proofs.SetLemmas.{has-complement, has-without}
 use Rattle.gm_base.proofs.SatLemmas.{Sat-subset}
+use Rattle.lrat_steps.proofs.PaidLemmas.{learned-grows, left-within}
 use Rattle.evidence_rec.specs.declared.record.Record.{Record}
 use Rattle.evidence_rec.specs.declared.record.Record.TheVariants as record_of
 use Rattle.evidence_rec.specs.Records.{Accepts, IsAccepted}
@@ -63,17 +64,11 @@ steps-used {s} {t} {call} {used} {reply} st =
     omega arith
 
 -- what was learnt never becomes less
-learned-more : (log more : List LogStep) → learned_count log ≤ learned_count (log ++ more)
-learned-more [] more = omega arith
-learned-more (Input lits ∷ log) more = learned-more log more
-learned-more (Learned lits hints ∷ log) more = let rest = learned-more log more in omega arith
-learned-more (Core lits hints ∷ log) more = learned-more log more
-
 pub spent-grows : {old new : OracleState} {before left : ℕ} → IsSpent old new before left → learned_count old.log ≤ learned_count new.log
-spent-grows {old} {new} s = subst (λ log. learned_count old.log ≤ learned_count log) (sym s.grown) (learned-more old.log s.more)
+spent-grows s = learned-grows s.paid
 
 pub spent-within : {old new : OracleState} {before left : ℕ} → IsSpent old new before left → left ≤ before
-spent-within s = let grows = spent-grows s in let paid = s.paid in omega arith
+spent-within s = left-within s.paid
 
 -- the worker may call with what it used of its purse
 pub can-call : (p : Problem) (o : OracleState) (s : State) (used : ℕ) → IsWorking p o s → has_ended s ≡ false → used ≤ purse_of s
@@ -91,7 +86,7 @@ working-after p {o} {n} {s} {t} w spent honest rest st =
       honest = subst (λ q. IsHonestOver q n.log) (spent.problem ∙ w.asks_of) honest;
       paid =
           let grows = spent-grows spent in
-          let paid = spent.paid in
+          let paid = spent.paid.paid in
           let used = steps-used st in
           let was = w.paid in
           omega arith;

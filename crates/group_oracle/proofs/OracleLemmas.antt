@@ -13,7 +13,7 @@ use Rattle.gm_base.specs.Evidence.{is_witness, refutes}
 use Rattle.lrat_steps.specs.Log.{LogStep, lits_of, step_at, inputs_of, db_of}
 use Rattle.lrat_steps.specs.Honest.{IsHonest}
 use Rattle.lrat_steps.specs.Trimmed.{IsTrimmed}
-use Rattle.cdcl_core.specs.Answers.{IsConsistent, IsModel, IsRefuted, IsPaid}
+use Rattle.cdcl_core.specs.Answers.{IsConsistent, IsModel, IsRefuted, IsHonestlyPaid}
 use Rattle.evidence_rec.specs.Asking.{IsHonestOver}
 use Rattle.group_oracle.specs.declared.oracle.Refuted.{Refuted}
 use Rattle.group_oracle.specs.Selectors.{on, AreOff, AreGroupsOf, without_selector, problem_of}
@@ -37,12 +37,12 @@ problem_kept : (vars groups : ℕ) (old new : List LogStep) → inputs_of new �
 problem_kept vars groups old new same =
     ap (λ (cs : List (List ℤ)). (let made : Problem = record { vars = vars; groups = groups; clauses = map (without_selector vars) cs } in made)) same
 
-pub problem_after : (vars groups before left : ℕ) (old new : List LogStep) → IsProblem (problem_of vars groups old) → IsPaid old new before left → IsProblem (problem_of vars groups new)
-problem_after vars groups before left old new ok paid = subst IsProblem (sym (problem_kept vars groups old new paid.inputs)) ok
+pub problem_after : (vars groups before left : ℕ) (old new : List LogStep) → IsProblem (problem_of vars groups old) → IsHonestlyPaid old new before left → IsProblem (problem_of vars groups new)
+problem_after vars groups before left old new ok paid = subst IsProblem (sym (problem_kept vars groups old new paid.paid.inputs)) ok
 
-pub honest_after : (vars groups before left : ℕ) (old new : List LogStep) → IsHonestOver (problem_of vars groups old) old → IsPaid old new before left → IsHonestOver (problem_of vars groups new) new
+pub honest_after : (vars groups before left : ℕ) (old new : List LogStep) → IsHonestOver (problem_of vars groups old) old → IsHonestlyPaid old new before left → IsHonestOver (problem_of vars groups new) new
 honest_after vars groups before left old new h paid =
-    subst (λ (p : Problem). IsHonestOver p new) (sym (problem_kept vars groups old new paid.inputs)) (record { inputs = paid.inputs ∙ h.inputs; honest = paid.honest })
+    subst (λ (p : Problem). IsHonestOver p new) (sym (problem_kept vars groups old new paid.paid.inputs)) (record { inputs = paid.paid.inputs ∙ h.inputs; honest = paid.honest })
 
 -- a model
 pub witness_found : (vars groups n : ℕ) (set : List ℕ) (log : List LogStep) (assumed : List ℤ) (assign values : List Bool) → IsProblem (problem_of vars groups log) → IsHonestOver (problem_of vars groups log) log

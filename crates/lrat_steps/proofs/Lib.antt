@@ -5,3 +5,4 @@ pub mod ConeLemmas
 pub mod FollowLemmas
 pub mod TrimLemmas
 pub mod SoundLemmas
+pub mod PaidLemmas

@@ -6,3 +6,4 @@ pub mod Parts
 pub mod Layout
 pub mod Cone
 pub mod Rows
+pub mod Paid

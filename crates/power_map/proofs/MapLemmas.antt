@@ -23,7 +23,7 @@ use Rattle.lrat_steps.specs.Trimmed.{IsTrimmed}
 use Rattle.lrat_steps.proofs.LogLemmas.{inputs-push_input, honest-input}
 use Rattle.lrat_steps.proofs.SoundLemmas.{honest-sound}
 use Rattle.cdcl_core.specs.Solver.{Solver}
-use Rattle.cdcl_core.specs.Answers.{IsModel, IsRefuted, IsPaid}
+use Rattle.cdcl_core.specs.Answers.{IsModel, IsRefuted, IsHonestlyPaid}
 use Rattle.evidence_rec.specs.Seeding.{EngineState, HasModels, blocked, shows_all_explored}
 use Rattle.power_map.specs.Blocks.{blocks_of}
 use Rattle.power_map.specs.Inside.{is_kept, IsKept}
@@ -134,9 +134,9 @@ told_block old new sides more step side set lits h added clause side_added =
 -- a search leaves the blocks
 
 pub kept_searched : (groups before left : ℕ) (old new : List LogStep) (sides : List Side) (step : Option ℕ)
-    → IsKept groups old sides step → IsPaid old new before left → IsKept groups new sides step
+    → IsKept groups old sides step → IsHonestlyPaid old new before left → IsKept groups new sides step
 kept_searched groups before left old new sides step h paid =
-    let same = paid.inputs in
+    let same = paid.paid.inputs in
     record {
       small = h.small;
       each_side = h.each_side ∙ sym (ap length same);
@@ -148,12 +148,12 @@ kept_searched groups before left old new sides step h paid =
         honest = paid.honest;
       };
       empty =
-          subst (λ (log : List LogStep). IfSome step (λ id. IsRefuted log [] id)) (sym paid.grown)
-          (kept_more old paid.more step h.empty);
+          subst (λ (log : List LogStep). IfSome step (λ id. IsRefuted log [] id)) (sym paid.paid.grown)
+          (kept_more old paid.paid.more step h.empty);
     }
 
 pub kept_after : (old new : Solver) (before left : ℕ) (sides : List Side) (step : Option ℕ)
-    → IsKept old.vars old.log sides step → IsPaid old.log new.log before left → new.vars ≡ old.vars
+    → IsKept old.vars old.log sides step → IsHonestlyPaid old.log new.log before left → new.vars ≡ old.vars
     → IsKept new.vars new.log sides step
 kept_after old new before left sides step h paid vars =
     subst (λ n. IsKept n new.log sides step) (sym vars) (kept_searched old.vars before left old.log new.log sides step h paid)

@@ -4,7 +4,7 @@ use Rattle.sat_base.specs.Members.{In}
 use Rattle.sat_base.specs.Literals.{IsLiteral, AreLiterals}
 use Rattle.learn_step.specs.Learnt.{start_of}
 use Rattle.lrat_steps.specs.Log.{LogStep, Core}
-use Rattle.cdcl_core.specs.Answers.{IsPaid}
+use Rattle.cdcl_core.specs.Answers.{IsHonestlyPaid}
 use Rattle.cdcl_core.proofs.StateLemmas.{literals_from, used_literal, core_recorded, paid_core}
 use Rattle.cdcl_core.proofs.steps.log_core.Goals as goal
 
@@ -28,4 +28,4 @@ returns-clause-paid c =
     ∙ ap (λ (hs : List ℕ). log ++ Core lits hs ∷ []) hints_are in
     let recorded =
     core_recorded c.args.trail.now.vars c.args.store.now.clauses log c.args.trail.now.entries (start_of c.args.origin) lits hints c.requires.recorded c.in_ok-core.ensures.core in
-    λ left. subst (λ (k : List LogStep). IsPaid log k left left) (sym logged) (paid_core log lits hints left recorded.honest)
+    λ left. subst (λ (k : List LogStep). IsHonestlyPaid log k left left) (sym logged) (paid_core log lits hints left recorded.honest)

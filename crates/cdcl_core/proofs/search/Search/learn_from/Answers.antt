@@ -6,7 +6,7 @@ use Rattle.sat_base.specs.Units.{IsUnset}
 use Rattle.trail_book.specs.declared.entry.Entry.{Entry}
 use Rattle.trail_book.specs.Trail.{trues, keep}
 use Rattle.lrat_steps.specs.Log.{LogStep, Learned}
-use Rattle.cdcl_core.specs.Answers.{IsPaid}
+use Rattle.cdcl_core.specs.Answers.{IsHonestlyPaid}
 use Rattle.cdcl_core.proofs.SearchLemmas.{sound_reasoned}
 use Rattle.cdcl_core.proofs.StateLemmas.{conflict_of, learned_state, learned_recorded, learned_first, reached_below, paid_learned, state_is, first_is, literals_from, used_literal}
 use Rattle.cdcl_core.proofs.search.Search.learn_from.Goals as goal
@@ -96,4 +96,4 @@ returns-clause-paid c =
     ∙ ap (λ (hs : List ℕ). s.log ++ Learned lits hs ∷ []) hints_are in
     let recorded =
     learned_recorded s.trail.vars s.store.clauses s.log s.trail.entries c.args.assumed.now s.assumed_levels c.in_ok-learnt.learnt.back_level lits hints c.requires.search.state c.in_ok-learnt.ensures c.requires.choice in
-    subst (λ (k : List LogStep). IsPaid s.log k left (left - 1)) (sym logged) (paid_learned s.log lits hints left (left - 1) recorded.honest (omega (arith, c.requires.purse)))
+    subst (λ (k : List LogStep). IsHonestlyPaid s.log k left (left - 1)) (sym logged) (paid_learned s.log lits hints left (left - 1) recorded.honest (omega (arith, c.requires.purse)))

@@ -1,5 +1,5 @@
 use Rattle.std.proofs.Common.{◌≡◌, ℕ, length}
-use Rattle.cdcl_core.specs.Answers.{IsPaid}
+use Rattle.cdcl_core.specs.Answers.{IsHonestlyPaid}
 use Rattle.cdcl_core.specs.Search.{IsAtRoot, KeepsValues}
 use Rattle.cdcl_core.proofs.search.Search.log_units.Given as goal
 
@@ -7,7 +7,7 @@ abbrev pub invariant-loop-place : goal.invariant-loop-place
 invariant-loop-place l = record {
   at_root : IsAtRoot l.self;
   keeps : KeepsValues l.fn.self l.self;
-  paid : (left : ℕ) → IsPaid l.fn.self.log l.self.log left left;
+  paid : (left : ℕ) → IsHonestlyPaid l.fn.self.log l.self.log left left;
   vars : l.self.trail.vars ≡ l.fn.self.trail.vars;
   len : l.len ≡ length l.self.trail.entries;
 }

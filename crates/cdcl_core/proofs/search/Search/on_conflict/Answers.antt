@@ -13,3 +13,7 @@ returns-then-purse-eq0-clause-round c =
         dry_of s.trail.vars s.store.clauses s.log s.trail.entries c.args.assumed.now s.assumed_levels c.args.id c.requires.search.state c.requires.falsified (omega (arith, c.top.ensures, c.if-top-self.false)),
       );
     }
+
+-- a core costs nothing
+pub returns-in_err-core-clause-paid : goal.returns-in_err-core-clause-paid
+returns-in_err-core-clause-paid c = c.refute.ensures.paid c.args.purse.now.left

@@ -19,3 +19,7 @@ pub returns-in-Fixpoint-clause-paid : goal.returns-in-Fixpoint-clause-paid
 returns-in-Fixpoint-clause-paid c =
     let left = c.args.purse.now.left in
     paid_join c.args.self.now.log c.spread.new.self.log c.on_fixpoint.new.self.log left left left (c.spread.ensures.paid left) (c.on_fixpoint.ensures.paid left)
+
+-- propagation costs nothing
+pub returns-in_err-id-clause-paid : goal.returns-in_err-id-clause-paid
+returns-in_err-id-clause-paid c = c.spread.ensures.paid c.args.purse.now.left

@@ -1,12 +1,12 @@
 use Rattle.std.proofs.Common.{◌≡◌, ◌+◌, ◌-◌, ◌*◌, length}
-use Rattle.cdcl_core.specs.Answers.{IsPaid}
+use Rattle.cdcl_core.specs.Answers.{IsHonestlyPaid}
 use Rattle.cdcl_core.specs.Search.{IsSearch}
 use Rattle.cdcl_core.proofs.search.Search.search.Given as goal
 
 abbrev pub invariant-loop-answer : goal.invariant-loop-answer
 invariant-loop-answer l = record {
   search : IsSearch l.self l.assumed;
-  paid : IsPaid l.fn.self.log l.self.log l.fn.purse.left l.purse.left;
+  paid : IsHonestlyPaid l.fn.self.log l.self.log l.fn.purse.left l.purse.left;
   vars : l.self.trail.vars ≡ l.fn.self.trail.vars;
 }
 
