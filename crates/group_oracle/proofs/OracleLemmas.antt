@@ -15,12 +15,11 @@ use Rattle.lrat_steps.specs.Honest.{IsHonest}
 use Rattle.lrat_steps.specs.Trimmed.{IsTrimmed}
 use Rattle.cdcl_core.specs.Answers.{IsConsistent, IsModel, IsRefuted, IsHonestlyPaid}
 use Rattle.evidence_rec.specs.Asking.{IsHonestOver}
-use Rattle.group_oracle.specs.declared.oracle.Refuted.{Refuted}
 use Rattle.group_oracle.specs.Selectors.{on, AreOff, AreGroupsOf, without_selector, problem_of}
-use Rattle.group_oracle.specs.Inside.{IsRefutedBy}
+use Rattle.group_oracle.specs.Inside.{IsRefutedBy, refuted_at}
 use Rattle.group_oracle.proofs.SelectorLemmas.{group_range, selectors_over, selectors_consistent}
 use Rattle.group_oracle.proofs.WitnessLemmas.{witness-from_model}
-use Rattle.group_oracle.proofs.RefutedLemmas.{core_at, core_off, core_within, core_refuted, refuted-unsat, refuted-refutes}
+use Rattle.group_oracle.proofs.RefutedLemmas.{core_at, core_off, core_within, core_refuted, switched_off-one, refuted-unsat, refuted-refutes}
 
 -- before the search
 
@@ -66,39 +65,55 @@ pub core_is_off : (vars groups id : ℕ) (set : List ℕ) (log same : List LogSt
 core_is_off vars groups id set log same assumed lits within is r e lits_are =
     subst (AreOff vars) (sym (core_lits log same id lits e lits_are)) (core_off vars groups id set log within (subst (λ (a : List ℤ). IsRefuted log a id) is r))
 
-pub core_kept : (vars groups id : ℕ) (set core copy : List ℕ) (log same : List LogStep) (assumed lits : List ℤ) → IsSubset set (all_groups groups) → assumed ≡ map (on vars) set → IsRefuted log assumed id → same ≡ log
-    → lits ≡ lits_of (step_at same id) → AreGroupsOf vars lits core → copy ≡ core → IsRefutedBy vars log copy id
-core_kept vars groups id set core copy log same assumed lits within is r e lits_are a copied =
+core_refuted_by : (vars groups id : ℕ) (set core : List ℕ) (log same : List LogStep) (assumed lits : List ℤ) → IsSubset set (all_groups groups) → assumed ≡ map (on vars) set → IsRefuted log assumed id → same ≡ log
+    → lits ≡ lits_of (step_at same id) → AreGroupsOf vars lits core → IsRefutedBy vars log core id
+core_refuted_by vars groups id set core log same assumed lits within is r e lits_are a =
     let of_log = core_lits log same id lits e lits_are in
-    subst (λ (s : List ℕ). IsRefutedBy vars log s id) (sym copied)
-    (core_refuted vars id core assumed log r (subst (AreOff vars) of_log (core_is_off vars groups id set log same assumed lits within is r e lits_are))
-    (subst (λ (ls : List ℤ). AreGroupsOf vars ls core) of_log a))
+    core_refuted vars id core assumed log r (subst (AreOff vars) of_log (core_is_off vars groups id set log same assumed lits within is r e lits_are))
+    (subst (λ (ls : List ℤ). AreGroupsOf vars ls core) of_log a)
+
+core_of_set : (vars groups id : ℕ) (set core : List ℕ) (log same : List LogStep) (assumed lits : List ℤ) → assumed ≡ map (on vars) set → IsRefuted log assumed id → same ≡ log
+    → lits ≡ lits_of (step_at same id) → AreGroupsOf vars lits core → IsSubset core set
+core_of_set vars groups id set core log same assumed lits is r e lits_are a =
+    core_within vars id set core log (subst (λ (xs : List ℤ). IsRefuted log xs id) is r) (subst (λ (ls : List ℤ). AreGroupsOf vars ls core) (core_lits log same id lits e lits_are) a)
+
+-- the core is the set that is read off the step
+pub core_read : (vars groups id : ℕ) (set core : List ℕ) (log same : List LogStep) (assumed lits : List ℤ) → IsSubset set (all_groups groups) → assumed ≡ map (on vars) set → IsRefuted log assumed id → same ≡ log
+    → lits ≡ lits_of (step_at same id) → AreGroupsOf vars lits core → core ≡ refuted_at vars groups log id
+core_read vars groups id set core log same assumed lits within is r e lits_are a =
+    let sub = core_of_set vars groups id set core log same assumed lits is r e lits_are a in
+    switched_off-one vars groups (lits_of (step_at log id)) core (subst (λ (ls : List ℤ). AreGroupsOf vars ls core) (core_lits log same id lits e lits_are) a) (λ g i. within g (sub g i))
+
+pub core_kept : (vars groups id : ℕ) (set core : List ℕ) (log same : List LogStep) (assumed lits : List ℤ) → IsSubset set (all_groups groups) → assumed ≡ map (on vars) set → IsRefuted log assumed id → same ≡ log
+    → lits ≡ lits_of (step_at same id) → AreGroupsOf vars lits core → IsRefutedBy vars log (refuted_at vars groups log id) id
+core_kept vars groups id set core log same assumed lits within is r e lits_are a =
+    subst (λ (s : List ℕ). IsRefutedBy vars log s id) (core_read vars groups id set core log same assumed lits within is r e lits_are a)
+    (core_refuted_by vars groups id set core log same assumed lits within is r e lits_are a)
 
 pub core_answer : (vars groups id : ℕ) (set core : List ℕ) (log same : List LogStep) (assumed lits : List ℤ) → IsProblem (problem_of vars groups log) → IsHonestOver (problem_of vars groups log) log
     → IsSubset set (all_groups groups) → assumed ≡ map (on vars) set → IsRefuted log assumed id → same ≡ log → lits ≡ lits_of (step_at same id) → AreGroupsOf vars lits core
     → IsGroupSet core × IsSubset core set × (¬ Sat (problem_of vars groups log) core)
 core_answer vars groups id set core log same assumed lits ok h within is r e lits_are a =
-    let of_log = core_lits log same id lits e lits_are in
-    let sub : IsSubset core set = core_within vars id set core log (subst (λ (xs : List ℤ). IsRefuted log xs id) is r) (subst (λ (ls : List ℤ). AreGroupsOf vars ls core) of_log a) in (
+    let sub = core_of_set vars groups id set core log same assumed lits is r e lits_are a in (
       a.is_set,
       sub,
       refuted-unsat (problem_of vars groups log) log core id ok h (λ g i. within g (sub g i))
-          (core_kept vars groups id set core core log same assumed lits within is r e lits_are a refl),
+          (core_refuted_by vars groups id set core log same assumed lits within is r e lits_are a),
     )
 
 -- what is derived for a set that was refuted
-pub derivation_refutes : {E : Type 0} (vars groups : ℕ) (log same : List LogStep) (refuted : Option Refuted) (r : Refuted) (made : Result Derivation E) → IsProblem (problem_of vars groups log)
-    → IsHonestOver (problem_of vars groups log) log → IfSome refuted (λ (r : Refuted). IsRefutedBy vars log r.set r.step) → refuted ≡ Some r → same ≡ log
-    → IfOk made (λ d. (lits : List ℤ) → clause_of (known_of (db_of same)) r.step ≡ Some lits → IsTrimmed same lits d)
-    → IfOk made (λ d. (set : List ℕ) → option_map (λ (r : Refuted). r.set) refuted ≡ Some set → refutes (problem_of vars groups log) set d ≡ true)
-derivation_refutes vars groups log same refuted r made ok h known is e derived =
-    let by : IsRefutedBy vars log r.set r.step = subst (λ (o : Option Refuted). IfSome o (λ (r : Refuted). IsRefutedBy vars log r.set r.step)) is known in
-    IfOk-weaker made (λ d. (lits : List ℤ) → clause_of (known_of (db_of same)) r.step ≡ Some lits → IsTrimmed same lits d)
-    (λ d. (set : List ℕ) → option_map (λ (r : Refuted). r.set) refuted ≡ Some set → refutes (problem_of vars groups log) set d ≡ true)
+pub derivation_refutes : {E : Type 0} (vars groups : ℕ) (log same : List LogStep) (refuted : Option ℕ) (id : ℕ) (made : Result Derivation E) → IsProblem (problem_of vars groups log)
+    → IsHonestOver (problem_of vars groups log) log → IfSome refuted (λ k. IsRefutedBy vars log (refuted_at vars groups log k) k) → refuted ≡ Some id → same ≡ log
+    → IfOk made (λ d. (lits : List ℤ) → clause_of (known_of (db_of same)) id ≡ Some lits → IsTrimmed same lits d)
+    → IfOk made (λ d. (set : List ℕ) → option_map (refuted_at vars groups log) refuted ≡ Some set → refutes (problem_of vars groups log) set d ≡ true)
+derivation_refutes vars groups log same refuted id made ok h known is e derived =
+    let by : IsRefutedBy vars log (refuted_at vars groups log id) id = subst (λ (o : Option ℕ). IfSome o (λ k. IsRefutedBy vars log (refuted_at vars groups log k) k)) is known in
+    IfOk-weaker made (λ d. (lits : List ℤ) → clause_of (known_of (db_of same)) id ≡ Some lits → IsTrimmed same lits d)
+    (λ d. (set : List ℕ) → option_map (refuted_at vars groups log) refuted ≡ Some set → refutes (problem_of vars groups log) set d ≡ true)
     (λ d trimmed set asked.
-    let one : Some r.set ≡ Some set = sym (ap (option_map (λ (r : Refuted). r.set)) is) ∙ asked in
-    let same_set : r.set ≡ set = cc in
+    let one : Some (refuted_at vars groups log id) ≡ Some set = sym (ap (option_map (refuted_at vars groups log)) is) ∙ asked in
+    let same_set : refuted_at vars groups log id ≡ set = cc in
     subst (λ (s : List ℕ). refutes (problem_of vars groups log) s d ≡ true) same_set
-    (refuted-refutes (problem_of vars groups log) log r.set r.step d ok h by
-    (subst (λ (l : List LogStep). (lits : List ℤ) → clause_of (known_of (db_of l)) r.step ≡ Some lits → IsTrimmed l lits d) e trimmed)))
+    (refuted-refutes (problem_of vars groups log) log (refuted_at vars groups log id) id d ok h by
+    (subst (λ (l : List LogStep). (lits : List ℤ) → clause_of (known_of (db_of l)) id ≡ Some lits → IsTrimmed l lits d) e trimmed)))
     derived

@@ -4,16 +4,18 @@ use Rattle.std.specs.Prelude.{ℤ, pos, negsuc, neg_ℤ, slice_get}
 use Rattle.std.specs.Ordering.{int_eq}
 use Rattle.std.specs.List.{list_any, list_all}
 use Rattle.std.specs.Option.{option_map_or}
-use Rattle.std.proofs.lemmas.Bool.{false≢true, and_from}
+use Rattle.std.proofs.lemmas.Bool.{false≢true, and_from, and_parts}
 use Rattle.std.proofs.lemmas.Bool.Decides.{Decides-int_eq}
 use Rattle.std.proofs.lemmas.List.{length-map, get_or-map}
 use Rattle.sat_base.specs.Members.{In}
 use Rattle.sat_base.specs.Literals.{AreLiterals, literal_true, clause_true}
 use Rattle.gm_base.specs.Sets.{has, IsSubset, IsGroupSet, all_groups}
 use Rattle.gm_base.specs.Problem.{Problem, IsProblem, Sat}
-use Rattle.sat_base.specs.Derivation.{Derivation, clause_of, all_known, is_derivation}
+use Rattle.sat_base.specs.Derivation.{Derivation, clause_of, all_known, is_derivation, contains_lit}
 use Rattle.sat_base.specs.Database.{StoredClause, known_of}
 use Rattle.gm_base.specs.Evidence.{left_out, selector_form, refutes}
+use Rattle.gm_base.proofs.SetLemmas.{AscendsAbove-filter, AscendsAbove-range, AscendsAbove-same, has-filter}
+use Rattle.learn_step.proofs.AnalysisLemmas.{lit_in, in_lit}
 use Rattle.sat_base.proofs.Members.{In-from_map, all_from, any_at, any_from}
 use Rattle.sat_base.proofs.DatabaseLemmas.{get_in, named_at}
 use Rattle.sat_base.proofs.FollowsLemmas.{Holds}
@@ -23,7 +25,7 @@ use Rattle.lrat_steps.specs.Trimmed.{IsTrimmed}
 use Rattle.lrat_steps.proofs.SoundLemmas.{honest-sound}
 use Rattle.cdcl_core.specs.Answers.{IsRefuted}
 use Rattle.evidence_rec.specs.Asking.{IsHonestOver}
-use Rattle.group_oracle.specs.Selectors.{on, off, IsOff, AreOff, AreGroupsOf}
+use Rattle.group_oracle.specs.Selectors.{on, off, IsOff, AreOff, AreGroupsOf, switched_off}
 use Rattle.group_oracle.specs.Inside.{IsRefutedBy}
 use Rattle.group_oracle.proofs.GroupLemmas.{in_has, has_in, group_of, group_off}
 use Rattle.group_oracle.proofs.SelectorLemmas.{group_range, form_over, get_or-from}
@@ -64,6 +66,16 @@ core_within vars id set core log r a g inside =
     let there : In (off vars g) r.lits = subst (λ (s : LogStep). In (off vars g) (lits_of s)) same ((a.groups g).0 inside) in
     let (h, found, is) = negated_off vars set (off vars g) (r.negated (off vars g) there) in
     ap (has set) (off_same vars g h is) ∙ found
+
+-- the groups that literals switch off are one set
+pub switched_off-one : (vars groups : ℕ) (lits : List ℤ) (core : List ℕ) → AreGroupsOf vars lits core → IsSubset core (all_groups groups) → core ≡ switched_off vars groups lits
+switched_off-one vars groups lits core a within =
+    AscendsAbove-same 0 core (switched_off vars groups lits) a.is_set (AscendsAbove-filter is_off 0 (all_groups groups) (AscendsAbove-range 0 groups))
+    (λ g i. has-filter is_off (all_groups groups) g ∙ and_from (is_off g) (has (all_groups groups) g) (lit_in lits (off vars g) ((a.groups g).0 i)) (within g i))
+    (λ g i. (a.groups g).1 (in_lit lits (off vars g) (and_parts (is_off g) (has (all_groups groups) g) (sym (has-filter is_off (all_groups groups) g) ∙ i)).0))
+  where
+    is_off : ℕ → Bool
+    is_off g = contains_lit lits (off vars g)
 
 pub core_refuted : (vars id : ℕ) (core : List ℕ) (assumed : List ℤ) (log : List LogStep) → IsRefuted log assumed id → AreOff vars (lits_of (step_at log id)) → AreGroupsOf vars (lits_of (step_at log id)) core
     → IsRefutedBy vars log core id

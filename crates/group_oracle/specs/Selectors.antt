@@ -4,7 +4,8 @@ use Rattle.std.specs.List.{filter}
 use Rattle.gm_base.specs.declared.clause.Clause.{Clause}
 use Rattle.sat_base.specs.Members.{In}
 use Rattle.sat_base.specs.Literals.{var_of}
-use Rattle.gm_base.specs.Sets.{has, IsGroupSet}
+use Rattle.sat_base.specs.Derivation.{contains_lit}
+use Rattle.gm_base.specs.Sets.{has, IsGroupSet, all_groups}
 use Rattle.gm_base.specs.Problem.{Problem}
 use Rattle.lrat_steps.specs.Log.{LogStep, inputs_of}
 
@@ -28,6 +29,10 @@ AreOff vars lits = (l : ℤ) → In l lits → IsOff vars l
 pub record AreGroupsOf (vars : ℕ) (lits : List ℤ) (set : List ℕ) : Type 0 where
   pub is_set : IsGroupSet set
   pub groups : (g : ℕ) → (has set g ≡ true) ↔ In (off vars g) lits
+
+-- the groups up to some one that the literals switch off
+abbrev pub switched_off : ℕ → ℕ → List ℤ → List ℕ
+switched_off vars groups lits = filter (λ g. contains_lit lits (off vars g)) (all_groups groups)
 
 -- the group of a clause with its selector, which is the one literal behind the variables; the background has none
 abbrev pub group_in : ℕ → List ℤ → ℕ

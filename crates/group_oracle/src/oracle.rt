@@ -22,20 +22,14 @@ use lrat_steps::Log;
 use std::alloc::{AllocError, Global};
 use std::marker::Model;
 
-// A set that is unsatisfiable, and the id of the step whose clause says so.
-#[derive(Drop)]
-struct Refuted {
-    set: GroupSet,
-    step: u64,
-}
-
 /// Answers questions about a problem by the learning solver.
 #[derive(Drop)]
 pub struct GroupOracle {
     solver: Solver,
     vars: u32,
     groups: u32,
-    refuted: Option<Refuted>,
+    // The id of the step whose clause says that the last set is unsatisfiable: its literals are the set.
+    refuted: Option<u64>,
     asks: u64,
 }
 
@@ -94,8 +88,7 @@ impl Oracle for GroupOracle {
             Solved::Sat(assign) => Ok(Asked::Sat(assign.prefix(self.vars))),
             Solved::Unsat(step) => {
                 let core = groups_off(alloc, self.vars, self.solver.log().lits(step))?;
-                let set = core.copy(alloc)?;
-                self.refuted = Some(Refuted { set, step });
+                self.refuted = Some(step);
                 Ok(Asked::Unsat(core))
             }
             Solved::Dry => Ok(Asked::Dry),
@@ -103,10 +96,10 @@ impl Oracle for GroupOracle {
     }
 
     fn proof(&self, alloc: Global) -> Result<Derivation, AllocError> {
-        let Some(refuted) = &self.refuted else {
+        let Some(step) = self.refuted else {
             unreachable!();
         };
-        self.solver.log().trim(alloc, refuted.step)
+        self.solver.log().trim(alloc, step)
     }
 
     fn into_log(self) -> Log {

@@ -1,4 +1,4 @@
-use Rattle.std.proofs.Common.{◌≡◌, ◌∙◌, ◌+◌, ◌<◌, ℕ, List, map, sym, subst, arith}
+use Rattle.std.proofs.Common.{◌≡◌, ◌∙◌, ◌+◌, ◌<◌, ℕ, List, map, Some, sym, ap, subst, arith}
 use Rattle.gm_base.specs.Sets.{IsSubset, all_groups}
 use Rattle.cdcl_core.specs.Answers.{IsModel, IsRefuted, Tells}
 use Rattle.cdcl_core.specs.declared.solved.Solved.{Solved}
@@ -6,7 +6,7 @@ use Rattle.evidence_rec.specs.Asking.{OracleState}
 use Rattle.group_oracle.specs.declared.oracle.GroupOracle.TheInside.{Inside}
 use Rattle.group_oracle.specs.Inside.{view_of}
 use Rattle.group_oracle.proofs.SelectorLemmas.{group_range}
-use Rattle.group_oracle.proofs.OracleLemmas.{assumed_over, assumed_consistent, problem_after, honest_after, witness_found, core_low, core_is_off, core_kept, core_answer}
+use Rattle.group_oracle.proofs.OracleLemmas.{assumed_over, assumed_consistent, problem_after, honest_after, witness_found, core_low, core_is_off, core_read, core_kept, core_answer}
 use Rattle.group_oracle.proofs.oracle.GroupOracleOracle.ask.Goals as goal
 
 -- the groups that are asked for are groups of the problem
@@ -71,9 +71,9 @@ invariant_of-self-in-Unsat c =
       well_formed = problem_after a.vars a.groups c.args.purse.now.left c.solve.new.purse.left a.solver.log solver.log c.self.invariant.well_formed paid;
       honest = honest_after a.vars a.groups c.args.purse.now.left c.solve.new.purse.left a.solver.log solver.log c.self.invariant.honest paid;
       refuted =
-          core_kept a.vars a.groups c.in-Unsat.step c.args.set.now c.in_ok-core-in-Unsat.core c.in_ok-set-in-Unsat.set solver.log c.log.result.now c.deref.result.now c.lits.result.now
+          core_kept a.vars a.groups c.in-Unsat.step c.args.set.now c.in_ok-core-in-Unsat.core solver.log c.log.result.now c.deref.result.now c.lits.result.now
           (asked_within c.self.inside c.args.self.now c.args.set.now c.self.view_is c.requires) (c.deref.ensures.value ∙ c.in_ok-assumed.ensures) r c.log.ensures.log c.lits.ensures
-          c.in_ok-core-in-Unsat.ensures c.in_ok-set-in-Unsat.ensures;
+          c.in_ok-core-in-Unsat.ensures;
     }
 
 pub returns-in-Unsat-clause-answer : goal.returns-in-Unsat-clause-answer
@@ -87,3 +87,15 @@ returns-in-Unsat-clause-answer c =
     (honest_after a.vars a.groups c.args.purse.now.left c.solve.new.purse.left a.solver.log solver.log c.self.invariant.honest paid)
     (asked_within c.self.inside c.args.self.now c.args.set.now c.self.view_is c.requires) (c.deref.ensures.value ∙ c.in_ok-assumed.ensures) r c.log.ensures.log c.lits.ensures
     c.in_ok-core-in-Unsat.ensures
+
+-- the core is what is read off the step
+pub returns-in-Unsat-clause-refuted : goal.returns-in-Unsat-clause-refuted
+returns-in-Unsat-clause-refuted c =
+    let a = c.self.inside in
+    let solver = c.solve.new.self in
+    let r : IsRefuted solver.log c.deref.result.now c.in-Unsat.step = rw c.in-Unsat.is at c.in_ok-assign.ensures.answer in
+    ap Some
+    (sym
+    (core_read a.vars a.groups c.in-Unsat.step c.args.set.now c.in_ok-core-in-Unsat.core solver.log c.log.result.now c.deref.result.now c.lits.result.now
+    (asked_within c.self.inside c.args.self.now c.args.set.now c.self.view_is c.requires) (c.deref.ensures.value ∙ c.in_ok-assumed.ensures) r c.log.ensures.log c.lits.ensures
+    c.in_ok-core-in-Unsat.ensures))

@@ -10,4 +10,4 @@ returns c =
     let a = c.self.inside in
     let inv = c.self.invariant in
     subst (λ (o : OracleState). IfOk c.trim.result (λ d. (set : List ℕ) → o.refuted ≡ Some set → refutes o.problem set d ≡ true)) c.self.view_is
-    (derivation_refutes a.vars a.groups a.solver.log c.log.result.now a.refuted c.in-Some.refuted c.trim.result inv.well_formed inv.honest inv.refuted c.in-Some.is c.log.ensures.log c.trim.ensures)
+    (derivation_refutes a.vars a.groups a.solver.log c.log.result.now a.refuted c.in-Some.step c.trim.result inv.well_formed inv.honest inv.refuted c.in-Some.is c.log.ensures.log c.trim.ensures)
