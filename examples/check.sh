@@ -1,0 +1,153 @@
+#!/bin/sh
+# Runs the program on the examples, and once for each way in which a run can end, but for want of memory. Compares what
+# it wrote, its status and its line on standard error.
+#
+#     examples/check.sh [PROGRAM]       without PROGRAM: ./gmus, which builds where that is due
+#
+# No proof says what the system does with what it is handed, so this looks at it from outside: reports that come whole
+# through a slow pipe, and devices, pipes and files that take only a part of one.
+here=$(CDPATH= cd -- "$(dirname -- "$0")" && pwd) || exit 1
+program=${1:-$here/../gmus}
+case $program in /*) ;; *) program=$PWD/$program ;; esac
+room=$(mktemp -d) || exit 1
+trap 'rm -rf "$room"' EXIT
+cd "$room" || exit 1
+failed=0
+
+differs() { # what was tried, and what is wrong with it
+    echo "differs $1: $2"
+    failed=1
+}
+
+# Judges the run before: its status, its line on standard error, and its output in the file out.
+judge() { # what was tried, wanted status, wanted line, file with the wanted output
+    if [ "$status" != "$2" ]; then
+        differs "$1" "status $status in place of $2"
+    elif [ "$(cat err)" != "$3" ]; then
+        differs "$1" "standard error has '$(cat err)' in place of '$3'"
+    elif ! cmp -s out "$4"; then
+        differs "$1" "the output is another one"
+    else
+        echo "ok      $1"
+    fi
+}
+
+try() { # what to try, wanted status, wanted line, file with the wanted output, the program's words
+    what=$1 wanted=$2 line=$3 output=$4
+    shift 4
+    "$program" "$@" >out 2>err </dev/null
+    status=$?
+    judge "$what" "$wanted" "$line" "$output"
+}
+
+# A partial report: lines of the whole one, in its order, with their counts.
+try_partial() { # what to try, wanted status, wanted line, the whole report, wanted number of sets (or none), the program's words
+    what=$1 wanted=$2 line=$3 whole=$4 sets=$5
+    shift 5
+    "$program" "$@" >out 2>err </dev/null
+    status=$?
+    grep '^[um]' out >found
+    conflicts=$(grep -c '^u' found)
+    corrections=$(grep -c '^m' found)
+    {
+        head -n 1 "$whole"
+        echo 's PARTIAL'
+        grep -xF -f found "$whole"
+        echo "e $conflicts $corrections"
+    } >partial
+    judge "$what" "$wanted" "$line" partial
+    [ -z "$sets" ] || [ "$sets" -eq $((conflicts + corrections)) ] || differs "$what" "another number of sets"
+}
+
+: >nothing
+printf 'p gcnf 1 2 1\n{2} 1 0\n' >refused
+
+# As many pairs of opposite groups: so many conflicts, and 2 to the power of that many corrections.
+pairs() {
+    awk -v n="$1" 'BEGIN { print "p gcnf", n, 2 * n, 2 * n; for (v = 1; v <= n; v++) printf "{%d} %d 0\n{%d} -%d 0\n", 2 * v - 1, v, 2 * v, v }'
+}
+pairs_report() {
+    awk -v n="$1" '
+        function corrections(v, set) {
+            if (v > n) { print "m" set " 0"; return }
+            corrections(v + 1, set " " 2 * v - 1)
+            corrections(v + 1, set " " 2 * v)
+        }
+        BEGIN {
+            print "p gmus", 2 * n; print "s COMPLETE"
+            for (v = 1; v <= n; v++) print "u", 2 * v - 1, 2 * v, 0
+            corrections(1, "")
+            print "e", n, 2 ^ n
+        }'
+}
+pairs 8 >pairs.gcnf
+pairs_report 8 >pairs.report
+
+for file in "$here"/*.gcnf; do
+    name=${file##*/}
+    try "$name" 0 '' "${file%.gcnf}.report" list "$file"
+done
+try 'many sets' 0 '' pairs.report list pairs.gcnf
+
+bad='gmus: bad command line'
+try 'no words' 2 "$bad" nothing
+try 'another command' 2 "$bad" nothing lost "$here/first.gcnf"
+try 'no file' 2 "$bad" nothing list
+try 'a limit of 0' 2 "$bad" nothing list "$here/first.gcnf" --limit 0
+try_partial 'no budget' 3 'gmus: budget of 0 conflicts spent' "$here/door.report" '' list "$here/door.gcnf" --conflicts 0
+try_partial 'a small budget' 3 'gmus: budget of 9 conflicts spent' pairs.report '' list --conflicts=9 pairs.gcnf
+try_partial 'a limit of 1' 4 'gmus: limit of 1 records reached' "$here/first.report" 1 list "$here/first.gcnf" --limit 1
+try_partial 'a limit of 5' 4 'gmus: limit of 5 records reached' "$here/laptop.report" 5 list "$here/laptop.gcnf" --limit 5
+try_partial 'a limit of all' 4 'gmus: limit of 5 records reached' "$here/first.report" 5 list "$here/first.gcnf" --limit 5
+try 'a refused file' 5 'gmus: input refused: 5 GroupTooBig at line 2 byte 2' nothing list refused
+try 'an empty file' 5 'gmus: input refused: 1 NoHeader at line 1 byte 1' nothing list nothing
+try 'a file that is not there' 6 'gmus: read fault on input' nothing list lost
+try 'a folder' 6 'gmus: read fault on input' nothing list .
+
+fault='gmus: write fault on report'
+if [ -c /dev/full ]; then
+    "$program" list "$here/first.gcnf" >/dev/full 2>err </dev/null
+    status=$?
+    cp nothing out
+    judge 'a full device' 7 "$fault" nothing
+    "$program" list refused >out 2>/dev/full </dev/null
+    status=$?
+    cp nothing err
+    judge 'a full device for errors' 5 '' nothing
+fi
+
+"$program" list "$here/first.gcnf" >&- 2>err </dev/null
+status=$?
+cp nothing out
+judge 'a closed output' 7 "$fault" nothing
+
+# A file that may have so many blocks takes a part of the last write, and the next one fails.
+(
+    trap '' XFSZ
+    ulimit -f 2 || exit 0
+    "$program" list pairs.gcnf >out 2>err </dev/null
+    echo $? >status
+)
+status=$(cat status)
+size=$(wc -c <out)
+head -c "$size" pairs.report >front
+[ "$size" -gt 0 ] || differs 'a file with little room' 'nothing was written'
+[ "$size" -lt "$(wc -c <pairs.report)" ] || differs 'a file with little room' 'it took all'
+judge 'a file with little room' 7 "$fault" front
+
+# Pipes whose reader is slow, takes few bytes, or goes away.
+if command -v python3 >/dev/null; then
+    for reader in slow gone; do
+        case $reader in
+            slow) wanted=0 line='' output=pairs.report ;;
+            gone) wanted=7 line=$fault output=nothing ;;
+        esac
+        python3 "$here/reader.py" "$reader" "$program" list pairs.gcnf >out 2>err
+        status=$?
+        judge "a pipe whose reader is $reader" "$wanted" "$line" "$output"
+    done
+else
+    echo 'skipped pipes: no python3'
+fi
+
+exit $failed
