@@ -1,6 +1,6 @@
 #!/bin/sh
-# Runs the program on the examples, and once for each way in which a run can end, but for want of memory. Compares what
-# it wrote, its status and its line on standard error.
+# Runs the program on the examples, and once for each way in which a run can end. Compares what it wrote, its status and
+# its line on standard error.
 #
 #     examples/check.sh [PROGRAM]       without PROGRAM: ./gmus, which builds where that is due
 #
@@ -122,18 +122,35 @@ cp nothing out
 judge 'a closed output' 7 "$fault" nothing
 
 # A file that may have so many blocks takes a part of the last write, and the next one fails.
-(
+if (
     trap '' XFSZ
-    ulimit -f 2 || exit 0
+    ulimit -f 2 || exit 1
     "$program" list pairs.gcnf >out 2>err </dev/null
     echo $? >status
-)
-status=$(cat status)
-size=$(wc -c <out)
-head -c "$size" pairs.report >front
-[ "$size" -gt 0 ] || differs 'a file with little room' 'nothing was written'
-[ "$size" -lt "$(wc -c <pairs.report)" ] || differs 'a file with little room' 'it took all'
-judge 'a file with little room' 7 "$fault" front
+); then
+    status=$(cat status)
+    size=$(wc -c <out)
+    head -c "$size" pairs.report >front
+    [ "$size" -gt 0 ] || differs 'a file with little room' 'nothing was written'
+    [ "$size" -lt "$(wc -c <pairs.report)" ] || differs 'a file with little room' 'it took all'
+    judge 'a file with little room' 7 "$fault" front
+else
+    echo 'skipped a file with little room: no limit for files'
+fi
+
+# More bytes to read than there is memory for.
+head -c 8000000 /dev/zero | tr '\0' c >long
+if (
+    ulimit -v 6000 || exit 1
+    "$program" list long >out 2>err </dev/null
+    echo $? >status
+); then
+    status=$(cat status)
+    judge 'little memory' 8 'gmus: out of memory' nothing
+else
+    echo 'skipped little memory: no limit for memory'
+fi
+try 'the same with memory' 5 'gmus: input refused: 1 NoHeader at line 1 byte 8000001' nothing list long
 
 # Pipes whose reader is slow, takes few bytes, or goes away.
 if command -v python3 >/dev/null; then
