@@ -6,7 +6,7 @@
 #
 # No proof says what the system does with what it is handed, so this looks at it from outside: reports that come whole
 # through a slow pipe, and devices, pipes and files that take only a part of one.
-here=$(CDPATH= cd -- "$(dirname -- "$0")" && pwd) || exit 1
+here=$(CDPATH='' cd -- "$(dirname -- "$0")" && pwd) || exit 1
 program=${1:-$here/../gmus}
 case $program in /*) ;; *) program=$PWD/$program ;; esac
 room=$(mktemp -d) || exit 1

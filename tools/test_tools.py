@@ -1,5 +1,5 @@
 #!/usr/bin/env python3
-"""Tests of the tools: python3 -m unittest discover -s tools (nothing but Python 3.9 is needed)."""
+"""Tests of gcnf.py and names.py: python3 -m unittest discover -s tools (nothing but Python 3.9 is needed)."""
 import html.parser
 import os
 import subprocess
