@@ -44,4 +44,4 @@ pub use rooms::Rooms;
 pub use sink::Sink;
 pub use sure_files::SureFiles;
 pub use texts::Texts;
-pub use whole::{Reading, read_whole};
+pub use whole::{Reading, read_whole, write_all};

@@ -1,13 +1,15 @@
-//! A whole file, read in pieces.
+//! A whole file, read in pieces, and a whole text, written in pieces.
 //!
-//! Each turn reads at least one byte or ends the reading, and never asks for more than one byte past the limit, so the
+//! Each turn of the reading reads at least one byte or ends the reading, and never asks for more than one byte past the limit, so the
 //! reading ends whatever the files answer. That one byte more is what tells a file that is too long from one that just
 //! fits.
-ghost use Rattle.std.specs.Prelude.{◌≡◌, ◌≤◌, ℕ, length, vec_len, IfOk, IfSome};
+ghost use Rattle.std.specs.Prelude.{◌≡◌, ◌≤◌, ℕ, length, vec_len, IfOk, IfSome, OnOk, OnErr};
+ghost use Rattle.gm_ports.specs.Faults.{Rose};
 ghost use Rattle.gm_ports.specs.FilesState.{ReadingLeaves};
 ghost use Rattle.gm_ports.specs.Reading.{SaysOfName, SaysOfText, IsWithin, ReadingHasCause};
+ghost use Rattle.gm_ports.specs.Told.{ToldAppends, ToldGrowsWithin};
 
-use crate::{Failed, Files};
+use crate::{Failed, Files, Sink};
 use std::alloc::{AllocError, Global};
 
 /// What came of reading a whole file.
@@ -78,4 +80,24 @@ fn blank_piece(alloc: Global) -> Result<Vec<u8>, AllocError>
     ensures { IfOk result (λ piece. vec_len piece ≡ PIECE) }
 {
     vec![in alloc; 0u8; PIECE]
+}
+
+/// Hands the text to the sink as one piece, and after each write what is left of it, until nothing is left.
+pub fn write_all<S: Sink>(sink: &mut S, text: &[u8]) -> Result<(), Failed>
+    ensures whole { OnOk result (ToldAppends (S.got sink.old) (S.got sink.new) text.now) }
+    ensures failed { OnErr result (ToldGrowsWithin (S.got sink.old) (S.got sink.new) text.now) }
+    ensures cause { OnErr result (Rose (S.faults sink.old) (S.faults sink.new)) }
+    ensures quiet { OnOk result (S.faults sink.new ≡ S.faults sink.old) }
+{
+    let mut at = 0;
+    while at < text.len() {
+        let Ok(taken) = sink.write(&text[at..]) else {
+            return Err(Failed);
+        };
+        if taken == 0 {
+            return Err(Failed);
+        }
+        at += taken;
+    }
+    Ok(())
 }
