@@ -1,4 +1,5 @@
 pub mod Grammar
+pub mod Names
 pub mod Table
 pub mod Read
 pub mod Steps

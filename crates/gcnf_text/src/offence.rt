@@ -1,5 +1,6 @@
 //! What is wrong with a text that is refused.
 ghost use Rattle.std.specs.Prelude.{◌≡◌, Some, None};
+ghost use Rattle.gcnf_text.specs.Names.{offence_name};
 ghost use Rattle.gcnf_text.specs.Table.{offence_at};
 ghost use Rattle.gcnf_text.specs.declared.offence.Stop.TheVariants as stop;
 
@@ -60,6 +61,25 @@ pub(crate) const TOO_MANY_CLAUSES: u32 = 8;
 
 /// A number, or the text, is above a limit.
 pub(crate) const TOO_LARGE: u32 = 9;
+
+impl Offence {
+    /// The offence's name, as the line of a refusal has it behind the number.
+    pub fn name(self) -> &'static str
+        ensures { result.now ≡ offence_name self.number }
+    {
+        match self.number {
+            NO_HEADER => "NoHeader",
+            BAD_HEADER => "BadHeader",
+            BAD_TOKEN => "BadToken",
+            VAR_TOO_BIG => "VarTooBig",
+            GROUP_TOO_BIG => "GroupTooBig",
+            NO_GROUP => "NoGroup",
+            TRUNCATED => "Truncated",
+            TOO_MANY_CLAUSES => "TooManyClauses",
+            _ => "TooLarge",
+        }
+    }
+}
 
 /// The offence of what was found there.
 pub(crate) fn refusal(number: u32, answer: Answer<'_>) -> Offence
