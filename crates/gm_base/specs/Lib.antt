@@ -1,7 +1,7 @@
 pub mod Sets
 pub mod Problem
+pub mod Lent
 pub mod Minimal
-pub mod Report
 pub mod Laws
 pub mod Index
 pub mod Evidence

@@ -1,27 +1,29 @@
-//! Lists of sets of groups.
+//! Lists of sets of groups that are lent.
 ghost use Rattle.std.specs.Prelude.{◌≡◌, ◌↔◌, [], ◌∷◌, ◌++◌, IsTrue, OnOk, OnErr, length};
+ghost use Rattle.gm_base.specs.Lent.{lists_of};
 
 use crate::group_set::GroupSet;
 use std::alloc::{AllocError, Global};
 use std::marker::Model;
 
-/// Sets of groups, in the order in which they were added.
+/// Sets of groups, in the order in which they were added. They stay where they are: the list holds references.
 #[derive(Debug, Drop)]
-pub struct Sets {
-    items: Vec<GroupSet>,
+pub struct Sets<'a> {
+    items: Vec<&'a GroupSet>,
 }
 
-impl Model for Sets {
+impl<'a> Model for Sets<'a> {
     ghost use Rattle.std.specs.Prelude.{List, ℕ};
+    ghost use Rattle.gm_base.specs.Lent.{lists_of};
 
     ghost Value = { List (List ℕ) };
 
-    ghost view = { λ sets. sets.items.items };
+    ghost view = { λ sets. lists_of sets.items.items };
 }
 
-impl Sets {
+impl<'a> Sets<'a> {
     /// No sets. It takes no memory.
-    pub fn new(alloc: Global) -> Sets
+    pub fn new(alloc: Global) -> Sets<'a>
         ensures { result ≡ [] }
     {
         Sets {
@@ -30,16 +32,16 @@ impl Sets {
     }
 
     /// Adds a set at the end.
-    pub fn push(&mut self, set: GroupSet) -> Result<(), AllocError>
-        ensures ok { OnOk result (self.new ≡ self.old ++ set ∷ []) }
+    pub fn push(&mut self, set: &'a GroupSet) -> Result<(), AllocError>
+        ensures ok { OnOk result (self.new ≡ self.old ++ set.now ∷ []) }
         ensures err { OnErr result (self.new ≡ self.old) }
     {
         self.items.push(set)?;
         Ok(())
     }
 
-    pub fn as_slice(&self) -> &[GroupSet]
-        ensures { result.now ≡ self.now }
+    pub fn as_slice(&self) -> &[&'a GroupSet]
+        ensures { lists_of result.now ≡ self.now }
     {
         self.items.as_slice()
     }

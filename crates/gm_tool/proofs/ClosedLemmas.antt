@@ -1,68 +1,59 @@
 -- What a listing that is over tells, by the status that it ends with.
-use Rattle.std.proofs.Common.{◌≡◌, ◌≢◌, ℕ, Bool, true, false, List, length, Some, refl, sym, ◌∙◌, ap, subst, arith}
+use Rattle.std.proofs.Common.{◌≡◌, ◌≢◌, ℕ, Bool, true, false, List, length, Option, refl, sym, ◌∙◌, ap, subst, arith}
 use Rattle.std.specs.Prelude.{if◌then◌else◌}
 use Rattle.std.proofs.lemmas.Bool.{false≢true, leb-true}
 use Rattle.gm_base.specs.Problem.{Problem}
+use Rattle.gm_ports.specs.Told.{ToldAppends, ToldGrowsWithin}
 use Rattle.lrat_steps.specs.Log.{LogStep}
 use Rattle.map_core.specs.declared.closing.Verdict.{Verdict}
 use Rattle.map_core.specs.declared.closing.Verdict.TheVariants as verdict
 use Rattle.map_core.specs.declared.closing.Closing.{Closing}
-use Rattle.map_core.specs.Closings.{verdict_by}
-use Rattle.gm_tool.specs.declared.listing.Bounds.{Bounds}
-use Rattle.gm_tool.specs.declared.list.Ending.{Ending}
-use Rattle.gm_tool.specs.declared.list.Prepared.{Prepared}
-use Rattle.gm_tool.specs.Closed.{IsClosedFor, IsBudgetSpent, AreDistinctMinimal, full_report, held_report, is_complete, learned_in}
-use Rattle.gm_tool.specs.Run.{IsPrepared, IsEndingOf, IsPartial, IsListingStatus, HasLimit, HasVerdict, status_of, status_by, line_of, error_line}
+use Rattle.map_core.specs.Closings.{HoldsAll, verdict_by}
+use Rattle.gm_tool.specs.declared.enumeration.Bounds.{Bounds}
+use Rattle.gm_tool.specs.Closed.{IsClosedFor, IsBudgetSpent, AreDistinctMinimal, full_report, held_report, report_for, is_complete, learned_in}
+use Rattle.gm_tool.specs.Endings.{status_by}
+use Rattle.gm_tool.specs.Listing.{IsAfterwards, IsPartial, IsEnumerated, IsListed, HasLimit}
 use Rattle.gm_tool.proofs.HeldLemmas.{AreDistinctMinimal-from}
 use Rattle.gm_tool.proofs.ReportLemmas.{of-problem}
 
--- an ending has the status of its verdict
-pub status-by : (b : Bounds) (v : Verdict) (e : Ending) → IsEndingOf b v e → status_by v ≡ status_of e
-status-by b verdict.Complete e is = sym (ap status_of is)
-status-by b verdict.Limit e is = sym is.0
-status-by b verdict.Budget e is = sym is.0
-status-by b verdict.Memory e is = absurd is
-
--- its line is that of the status
-pub line-by : (b : Bounds) (v : Verdict) (e : Ending) → IsEndingOf b v e → line_of e ≡ error_line b (status_of e)
-line-by b verdict.Complete e is = ap line_of is ∙ ap (error_line b) (sym (ap status_of is))
-line-by b verdict.Limit e is = is.1 ∙ ap (error_line b) (sym is.0)
-line-by b verdict.Budget e is = is.1 ∙ ap (error_line b) (sym is.0)
-line-by b verdict.Memory e is = absurd is
-
-is_listing : (v : Verdict) → IsListingStatus (status_by v)
-is_listing verdict.Complete = refl
-is_listing verdict.Limit = refl
-is_listing verdict.Budget = refl
-is_listing verdict.Memory = refl
-
-pub listing-status : (b : Bounds) (v : Verdict) (e : Ending) → IsEndingOf b v e → IsListingStatus (status_of e)
-listing-status b v e is = subst IsListingStatus (status-by b v e is) (is_listing v)
-
-pub complete_by : (v : Verdict) → status_by v ≡ 0 → v ≡ verdict.Complete
+-- the verdict of each status
+complete_by : (v : Verdict) → status_by v ≡ 0 → v ≡ verdict.Complete
 complete_by verdict.Complete e = refl
 complete_by verdict.Limit e = absurd (omega arith)
 complete_by verdict.Budget e = absurd (omega arith)
 complete_by verdict.Memory e = absurd (omega arith)
 
-pub budget_by : (v : Verdict) → status_by v ≡ 3 → v ≡ verdict.Budget
+budget_by : (v : Verdict) → status_by v ≡ 3 → v ≡ verdict.Budget
 budget_by verdict.Complete e = absurd (omega arith)
 budget_by verdict.Limit e = absurd (omega arith)
 budget_by verdict.Budget e = refl
 budget_by verdict.Memory e = absurd (omega arith)
 
-pub limit_by : (v : Verdict) → status_by v ≡ 4 → v ≡ verdict.Limit
+limit_by : (v : Verdict) → status_by v ≡ 4 → v ≡ verdict.Limit
 limit_by verdict.Complete e = absurd (omega arith)
 limit_by verdict.Limit e = refl
 limit_by verdict.Budget e = absurd (omega arith)
 limit_by verdict.Memory e = absurd (omega arith)
 
+never-7 : (v : Verdict) → status_by v ≢ 7
+never-7 verdict.Complete = omega arith
+never-7 verdict.Limit = omega arith
+never-7 verdict.Budget = omega arith
+never-7 verdict.Memory = omega arith
+
+-- a verdict without want of memory has a status that comes after an enumeration
+pub is_afterwards : (v : Verdict) → v ≢ verdict.Memory → IsAfterwards (status_by v)
+is_afterwards verdict.Complete enough = refl
+is_afterwards verdict.Limit enough = refl
+is_afterwards verdict.Budget enough = refl
+is_afterwards verdict.Memory enough = absurd (enough refl)
+
 -- a partial report is not complete
-partial-not : (v : Verdict) (n : ℕ) → status_by v ≡ n → IsPartial n → is_complete v ≡ false
-partial-not verdict.Complete n e partial = absurd (false≢true (subst IsPartial (sym e) partial))
-partial-not verdict.Limit n e partial = refl
-partial-not verdict.Budget n e partial = refl
-partial-not verdict.Memory n e partial = refl
+partial-not : (v : Verdict) → IsPartial (status_by v) → is_complete v ≡ false
+partial-not verdict.Complete partial = absurd (false≢true partial)
+partial-not verdict.Limit partial = refl
+partial-not verdict.Budget partial = refl
+partial-not verdict.Memory partial = refl
 
 limited-by : (a b c : Bool) → verdict_by a b c ≡ verdict.Limit → c ≡ true
 limited-by true b c e = cc
@@ -70,26 +61,21 @@ limited-by false true c e = cc
 limited-by false false true e = refl
 limited-by false false false e = cc
 
--- the text of a complete listing has all
-pub complete-text : (p : Problem) (b : Bounds) (x : Prepared) → IsPrepared p b x → status_of x.ending ≡ 0 → x.text.items ≡ full_report p
-complete-text p b x h zero =
-    let v = complete_by x.closing.verdict (status-by b x.closing.verdict x.ending h.ending ∙ zero) in
-    h.text ∙ ap (λ w. if is_complete w then full_report p else held_report p x.closing.records) v
+-- the report with status 0 has all, and a partial one has what is held
+whole-text : (p : Problem) (c : Closing) → status_by c.verdict ≡ 0 → report_for p c ≡ full_report p
+whole-text p c zero = ap (λ v. if is_complete v then full_report p else held_report p c.records) (complete_by c.verdict zero)
 
-pub partial-text : (p : Problem) (b : Bounds) (x : Prepared) → IsPrepared p b x → IsPartial (status_of x.ending) → x.text.items ≡ held_report p x.closing.records
-partial-text p b x h partial =
-    h.text
-    ∙ ap (λ complete. if complete then full_report p else held_report p x.closing.records)
-    (partial-not x.closing.verdict (status_of x.ending) (status-by b x.closing.verdict x.ending h.ending) partial)
+partial-text : (p : Problem) (c : Closing) → IsPartial (status_by c.verdict) → report_for p c ≡ held_report p c.records
+partial-text p c partial = ap (λ whole. if whole then full_report p else held_report p c.records) (partial-not c.verdict partial)
 
 -- what is held is minimal
-pub held-minimal : {p : Problem} {b : Bounds} {logs : List (List LogStep)} {c : Closing} → IsClosedFor p b logs c → AreDistinctMinimal p c.records
+held-minimal : {p : Problem} {b : Bounds} {logs : List (List LogStep)} {c : Closing} → IsClosedFor p b logs c → AreDistinctMinimal p c.records
 held-minimal {c = c} h =
     subst (λ q. AreDistinctMinimal q c.records) (of-problem h)
     (subst (AreDistinctMinimal h.state.opening.problem) (sym h.closing_is.records) (AreDistinctMinimal-from h.state h.closing_is.sound))
 
 -- as many clauses were learnt as the enumeration spent
-pub learned-spent : {p : Problem} {b : Bounds} {logs : List (List LogStep)} {c : Closing} (h : IsClosedFor p b logs c) → learned_in logs ≡ h.state.spent
+learned-spent : {p : Problem} {b : Bounds} {logs : List (List LogStep)} {c : Closing} (h : IsClosedFor p b logs c) → learned_in logs ≡ h.state.spent
 learned-spent h =
     let both = ap learned_in h.logs_are in
     let mine = h.paid in
@@ -98,7 +84,7 @@ learned-spent h =
     omega arith
 
 -- where the budget is spent
-pub budget-spent : {p : Problem} {b : Bounds} {logs : List (List LogStep)} {c : Closing} → IsClosedFor p b logs c → c.verdict ≡ verdict.Budget → IsBudgetSpent p b logs c
+budget-spent : {p : Problem} {b : Bounds} {logs : List (List LogStep)} {c : Closing} → IsClosedFor p b logs c → c.verdict ≡ verdict.Budget → IsBudgetSpent p b logs c
 budget-spent h v =
     let k = h.closing_is in
     let d = k.dry v in
@@ -116,7 +102,7 @@ budget-spent h v =
     }
 
 -- where the limit is reached
-pub limit-reached : {p : Problem} {b : Bounds} {logs : List (List LogStep)} {c : Closing} → IsClosedFor p b logs c → c.verdict ≡ verdict.Limit → HasLimit b c
+limit-reached : {p : Problem} {b : Bounds} {logs : List (List LogStep)} {c : Closing} → IsClosedFor p b logs c → c.verdict ≡ verdict.Limit → HasLimit b c
 limit-reached {b = b} {c = c} h v =
     let k = h.closing_is in
     let s = h.state in
@@ -128,18 +114,49 @@ limit-reached {b = b} {c = c} h v =
     let same = ap length k.records in
     omega arith
 
-pub has-verdict : (b : Bounds) (c : Closing) (e : Ending) → IsEndingOf b c.verdict e → HasVerdict (status_of e) (Some c)
-has-verdict b c e is = (λ _. status-by b c.verdict e is, λ seven. absurd (never-7 c.verdict (status-by b c.verdict e is ∙ seven)))
-  where
-    never-7 : (v : Verdict) → ¬ (status_by v ≡ 7)
-    never-7 verdict.Complete n = omega arith
-    never-7 verdict.Limit n = omega arith
-    never-7 verdict.Budget n = omega arith
-    never-7 verdict.Memory n = omega arith
+-- where nothing is missing
+holds-all : {p : Problem} {b : Bounds} {logs : List (List LogStep)} {c : Closing} → IsClosedFor p b logs c → c.verdict ≡ verdict.Complete → HoldsAll p c.records
+holds-all {p} {c = c} h v =
+    subst (HoldsAll p) (sym h.closing_is.records) (subst (λ q. HoldsAll q h.state.records) (of-problem h) (h.closing_is.all v))
 
--- an enumeration that wanted memory has no ending
-pub not-memory : (b : Bounds) (v : Verdict) (e : Ending) → IsEndingOf b v e → v ≢ verdict.Memory
-not-memory b verdict.Complete e is same = cc
-not-memory b verdict.Limit e is same = cc
-not-memory b verdict.Budget e is same = cc
-not-memory b verdict.Memory e is same = is
+-- the verdict's status where the report was written
+by-status : (v : Verdict) (status n : ℕ) → (status ≢ 7 → status_by v ≡ status) → status ≡ n → n ≢ 7 → status_by v ≡ n
+by-status v status n is same other = is (λ seven. other (sym same ∙ seven)) ∙ same
+
+-- what the logs and the closing tell
+enumerated : {p : Problem} {b : Bounds} {logs : List (List LogStep)} {c : Closing} → IsClosedFor p b logs c → c.verdict ≢ verdict.Memory
+    → (status : ℕ) → (status ≢ 7 → status_by c.verdict ≡ status) → IsEnumerated p b status logs c
+enumerated {c = c} h enough status is =
+    record {
+      closed = h;
+      minimal = held-minimal h;
+      all = λ zero. holds-all h (complete_by c.verdict (by-status c.verdict status 0 is zero (omega arith)));
+      verdict = is;
+      enough_memory = enough;
+      budget = λ three. budget-spent h (budget_by c.verdict (by-status c.verdict status 3 is three (omega arith)));
+      limit = λ four. limit-reached h (limit_by c.verdict (by-status c.verdict status 4 is four (omega arith)));
+    }
+
+-- the report is written
+pub listed : (p : Problem) (b : Bounds) (logs : List (List LogStep)) (c : Closing) (text : List ℕ) (old new : Option (List ℕ))
+    → IsClosedFor p b logs c → c.verdict ≢ verdict.Memory → text ≡ report_for p c → ToldAppends old new text
+    → IsListed p b (status_by c.verdict) logs old new c
+listed p b logs c text old new h enough report got =
+    record {
+      enumerated = enumerated h enough (status_by c.verdict) (λ _. refl);
+      whole = λ zero. subst (ToldAppends old new) (report ∙ whole-text p c zero) got;
+      partial = λ partial. subst (ToldAppends old new) (report ∙ partial-text p c partial) got;
+      cut_off = λ seven. absurd (never-7 c.verdict seven);
+    }
+
+-- a front part of it is written
+pub listed-in_part : (p : Problem) (b : Bounds) (logs : List (List LogStep)) (c : Closing) (text : List ℕ) (old new : Option (List ℕ))
+    → IsClosedFor p b logs c → c.verdict ≢ verdict.Memory → text ≡ report_for p c → ToldGrowsWithin old new text
+    → IsListed p b 7 logs old new c
+listed-in_part p b logs c text old new h enough report got =
+    record {
+      enumerated = enumerated h enough 7 (λ other. absurd (other refl));
+      whole = λ zero. absurd (omega arith);
+      partial = λ partial. absurd (false≢true partial);
+      cut_off = λ _. subst (ToldGrowsWithin old new) report got;
+    }

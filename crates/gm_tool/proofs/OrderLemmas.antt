@@ -14,7 +14,7 @@ use Rattle.gm_base.proofs.SetLemmas.{AscendsAbove-range}
 use Rattle.gm_base.specs.Problem.{Problem, IsProblem}
 use Rattle.gm_base.specs.declared.kind.Kind.TheVariants.{Conflict, Correction}
 use Rattle.gm_base.specs.Minimal.{is_conflict, is_correction, conflicts, corrections}
-use Rattle.gm_base.specs.Report.{report_text}
+use Rattle.report_text.specs.Report.{report_text}
 use Rattle.report_text.specs.Sorted.{IsSortedOf}
 use Rattle.report_text.specs.Reports.{IsReportOf}
 use Rattle.evidence_rec.specs.declared.record.Record.{Record}

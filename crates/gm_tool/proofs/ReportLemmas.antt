@@ -12,7 +12,7 @@ use Rattle.map_core.specs.declared.closing.Verdict.TheVariants as verdict
 use Rattle.map_core.specs.declared.closing.Closing.{Closing}
 use Rattle.map_core.specs.Sound.{AreNew}
 use Rattle.map_core.specs.Closings.{HoldsAll}
-use Rattle.gm_tool.specs.declared.listing.Bounds.{Bounds}
+use Rattle.gm_tool.specs.declared.enumeration.Bounds.{Bounds}
 use Rattle.gm_tool.specs.Closed.{IsClosedFor, conflicts_in, corrections_in, is_complete, full_report, held_report, report_for}
 use Rattle.gm_tool.proofs.OrderLemmas.{records_report, held_report-from, full_report-from}
 
@@ -33,16 +33,12 @@ report-by h verdict.Limit is = refl
 report-by h verdict.Budget is = refl
 
 -- the report of the records' sets is the closing's report
-pub report_for-from : (p : Problem) (b : Bounds) (logs : List (List LogStep)) (closing : Closing) (groups : ℕ) (complete : Bool) (us ms : List (List ℕ)) (text : List ℕ)
-    → IsClosedFor p b logs closing → groups ≡ p.groups → complete ≡ is_complete closing.verdict
-    → us ≡ conflicts_in closing.records → ms ≡ corrections_in closing.records
-    → IsReportOf groups complete us ms text → text ≡ report_for p closing
-report_for-from p b logs closing groups complete us ms text h count whole conflicts corrections report =
+pub report_for-from : (p : Problem) (b : Bounds) (logs : List (List LogStep)) (closing : Closing) (groups : ℕ) (text : List ℕ)
+    → IsClosedFor p b logs closing → groups ≡ p.groups
+    → IsReportOf groups (is_complete closing.verdict) (conflicts_in closing.records) (corrections_in closing.records) text → text ≡ report_for p closing
+report_for-from p b logs closing groups text h count report =
     held_report-from p (is_complete closing.verdict) closing.records text ok accepted new
-    (subst (λ n. IsReportOf n (is_complete closing.verdict) (conflicts_in closing.records) (corrections_in closing.records) text) count
-    (subst (λ c. IsReportOf groups c (conflicts_in closing.records) (corrections_in closing.records) text) whole
-    (subst (λ sets. IsReportOf groups complete sets (corrections_in closing.records) text) conflicts
-    (subst (λ sets. IsReportOf groups complete us sets text) corrections report))))
+    (subst (λ n. IsReportOf n (is_complete closing.verdict) (conflicts_in closing.records) (corrections_in closing.records) text) count report)
     ∙ report-by h closing.verdict refl
   where
     ok : IsProblem p

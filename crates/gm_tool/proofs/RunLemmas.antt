@@ -1,23 +1,20 @@
--- How a run that refuses its file ends.
-use Rattle.std.proofs.Common.{◌≡◌, ℕ, List, Option, subst, arith}
+-- What is said of a named file, said of the file that the words name.
+use Rattle.std.proofs.Common.{◌≡◌, ℕ, List, Option, Some, sym, subst}
+use Rattle.gm_base.specs.Problem.{Problem}
 use Rattle.gm_ports.specs.FilesState.{FilesState}
-use Rattle.gcnf_text.specs.Read.{IsRefused}
 use Rattle.gm_words.specs.Reading.{Asked}
-use Rattle.gm_tool.specs.declared.list.Ending.{Ending}
-use Rattle.gm_tool.specs.declared.list.Ending.TheVariants.{Complete, BadWords, Spent, Limited, Refused, ReadFault, WriteFault, Memory}
-use Rattle.gm_tool.specs.Run.{OfNamed, IfRefused, IsRefusal, line_of, status_of}
+use Rattle.gm_tool.specs.declared.enumeration.Bounds.{Bounds}
+use Rattle.gm_tool.specs.declared.ending.Finish.{Finish}
+use Rattle.gm_tool.specs.Input.{OfFile, IsReadAs}
+use Rattle.gm_tool.specs.Listing.{IsAfterwards, TellsListing}
+use Rattle.gm_tool.specs.Run.{OfNamed, bounds_in, bounds_of, file_asked}
 
--- status 5 comes with a refused file alone, and with its line
-pub refusal-from : (asked : Option Asked) (files : FilesState) (gets : List ℕ → Type 0) (ending : Ending) (status : ℕ)
-    → IfRefused ending (λ offence. OfNamed asked files (λ text. IsRefused text offence)) → gets (line_of ending) → status ≡ status_of ending → status ≡ 5
-    → IsRefusal asked files gets
-refusal-from asked files gets Complete status told got is five = absurd (omega arith)
-refusal-from asked files gets BadWords status told got is five = absurd (omega arith)
-refusal-from asked files gets (Spent line) status told got is five = absurd (omega arith)
-refusal-from asked files gets (Refused line) status told got is five =
-    let (offence, first, same) = told in
-    record { offence = offence; first = first; line = subst gets same got }
-refusal-from asked files gets (Limited line) status told got is five = absurd (omega arith)
-refusal-from asked files gets ReadFault status told got is five = absurd (omega arith)
-refusal-from asked files gets WriteFault status told got is five = absurd (omega arith)
-refusal-from asked files gets Memory status told got is five = absurd (omega arith)
+pub named-from : (asked : Asked) (words : Option Asked) (files : FilesState) (name : List ℕ) (P : List ℕ → Type 0)
+    → Some asked ≡ words → name ≡ file_asked asked → OfFile (files.held name) P → OfNamed words files P
+named-from asked words files name P is same h = subst (λ w. OfNamed w files P) is (subst (λ n. OfFile (files.held n) P) same h)
+
+pub listing-from : (asked : Asked) (words : Option Asked) (files : FilesState) (name : List ℕ) (b : Bounds) (unread left old new got : Option (List ℕ)) (finish answer : Finish)
+    → Some asked ≡ words → name ≡ file_asked asked → b ≡ bounds_in asked → left ≡ unread → got ≡ new → answer ≡ finish
+    → (IsAfterwards finish.status → (p : Problem) × OfFile (files.held name) (IsReadAs p unread) × TellsListing p b old new finish)
+    → IsAfterwards answer.status → (p : Problem) × OfNamed words files (IsReadAs p left) × TellsListing p (bounds_of words) old got answer
+listing-from asked words files name b unread left old new got finish answer is same bounds u n f h = rw (← is, u, n, f) (rw (← same, ← bounds) h)

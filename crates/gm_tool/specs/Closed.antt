@@ -4,7 +4,7 @@ use Rattle.std.specs.List.{filter, sum_by, AllByRecursion}
 use Rattle.gm_base.specs.Problem.{Problem}
 use Rattle.gm_base.specs.declared.kind.Kind.TheVariants.{Conflict, Correction}
 use Rattle.gm_base.specs.Minimal.{conflicts, corrections}
-use Rattle.gm_base.specs.Report.{report_text}
+use Rattle.report_text.specs.Report.{report_text}
 use Rattle.lrat_steps.specs.Log.{LogStep, db_of, learned_count}
 use Rattle.lrat_steps.specs.Undecided.{Undecided}
 use Rattle.evidence_rec.specs.declared.record.Record.{Record}
@@ -22,8 +22,8 @@ use Rattle.map_core.specs.Core.{State, is_held}
 use Rattle.map_core.specs.Own.{used_in}
 use Rattle.map_core.specs.Sound.{AreNew}
 use Rattle.map_core.specs.Closings.{IsClosing}
-use Rattle.gm_tool.specs.declared.listing.Bounds.{Bounds}
-use Rattle.gm_tool.specs.declared.listing.Listed.{Listed}
+use Rattle.gm_tool.specs.declared.enumeration.Bounds.{Bounds}
+use Rattle.gm_tool.specs.declared.enumeration.Enumerated.{Enumerated}
 use Rattle.gm_tool.specs.Marco.{EndsUndecided}
 
 -- how many clauses were learnt in these logs
@@ -48,9 +48,10 @@ pub record IsClosedFor (p : Problem) (b : Bounds) (logs : List (List LogStep)) (
   pub paid : learned_count worker_log ≡ used_in state.history
   pub undecided : EndsUndecided p worker_log state.history
 
-pub record IsListing (p : Problem) (b : Bounds) (listed : Listed) : Type 0 where
-  pub closed : IsClosedFor p b listed.logs listed.closing
-  pub spent : listed.spent ≡ learned_in listed.logs
+-- the enumeration is closed, and its count is that of its logs
+pub record IsLeft (p : Problem) (b : Bounds) (left : Enumerated) : Type 0 where
+  pub closed : IsClosedFor p b left.logs left.closing
+  pub spent : left.spent ≡ learned_in left.logs
 
 -- the sets of the conflicts, and of the corrections, that the records are about
 abbrev pub conflicts_in : List Record → List (List ℕ)

@@ -1,19 +1,9 @@
 -- The line that tells why a file is refused.
-use Rattle.std.specs.Prelude.{ℕ, List, [], ◌++◌, ◌==◌, codes, decimal, if◌then◌else◌, Option, Some, None}
+use Rattle.std.specs.Prelude.{ℕ, List, [], ◌++◌, codes, decimal, Option, Some, None}
 use Rattle.gcnf_text.specs.declared.offence.Limit.{Limit}
 use Rattle.gcnf_text.specs.declared.offence.Limit.TheVariants.{Vars, Clauses, Groups, Literals, Bytes}
 use Rattle.gcnf_text.specs.declared.offence.Offence.{Offence}
-
--- the names of the offences 1 to 9
-abbrev pub offence_name : ℕ → List ℕ
-offence_name number =
-    if number == 1 then codes "NoHeader"
-    else (if number == 2 then codes "BadHeader"
-    else (if number == 3 then codes "BadToken"
-    else (if number == 4 then codes "VarTooBig"
-    else (if number == 5 then codes "GroupTooBig"
-    else (if number == 6 then codes "NoGroup"
-    else (if number == 7 then codes "Truncated" else (if number == 8 then codes "TooManyClauses" else codes "TooLarge")))))))
+use Rattle.gcnf_text.specs.Names.{offence_name}
 
 -- the limit that is gone beyond, behind a blank
 abbrev pub limit_text : Option Limit → List ℕ

@@ -1,22 +1,21 @@
 //! The lines on standard error.
 ghost use Rattle.std.specs.Prelude.{◌≡◌};
-ghost use Rattle.gm_tool.specs.Run.{line_of, GetsLine};
+ghost use Rattle.gm_tool.specs.Endings.{line_of};
+ghost use Rattle.gm_tool.specs.Run.{GetsLine};
 
-use crate::list::Ending;
-use crate::write_all::write_all;
-use gm_ports::Sink;
+use crate::ending::Ending;
+use gm_ports::{Sink, write_all};
 
 /// The line that comes with an ending; no bytes where none comes.
 fn text_of(ending: &Ending) -> &[u8]
     ensures { result.now ≡ line_of ending.now }
 {
     match ending {
-        Ending::Complete => b"",
         Ending::BadWords => b"gmus: bad command line\n",
-        Ending::Spent(line) | Ending::Limited(line) | Ending::Refused(line) => line.as_slice(),
+        Ending::Refused(line) | Ending::Listed(line, _) => line.as_slice(),
         Ending::ReadFault => b"gmus: read fault on input\n",
-        Ending::WriteFault => b"gmus: write fault on report\n",
         Ending::Memory => b"gmus: out of memory\n",
+        Ending::CutOff(_) => b"gmus: write fault on report\n",
     }
 }
 

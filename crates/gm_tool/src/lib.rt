@@ -7,25 +7,29 @@
 //! let finish = run(&rt, alloc, &words, &mut files, &mut out, &mut err);
 //! ```
 //!
-//! Start reading at `run` and at `specs/Run.antt`, which says what each status tells of the words, the file and the
-//! report. Then `marco`: the core hands out seeds, which an oracle over the learning solver decides, and each is shrunk to a
-//! minimal conflict or grown to a minimal correction, until no set of groups is left, the budget is spent or as many sets
-//! are recorded as were wanted.
+//! Start reading at `run` in `program` and at `specs/Run.antt` and `specs/Listing.antt`, which say what each status tells of
+//! the words, the file, the problem and the report; `specs/Endings.antt` says how another command joins. Then `marco`: the
+//! core hands out seeds, which an oracle over the learning solver decides, and each is shrunk to a minimal conflict or grown
+//! to a minimal correction, until no set of groups is left, the budget is spent or as many sets are recorded as were wanted.
 //!
 //! Nothing is promised of time, and want of memory may end any run.
 #![tactic(auto)]
 
 mod bounds_line;
+#[cfg(test)]
+mod core_tests;
+mod ending;
+mod enumeration;
 mod error_line;
-mod list;
-mod listing;
+mod file_report;
+mod input;
 mod marco;
 #[cfg(test)]
 mod plain;
+mod program;
 mod refusal;
 #[cfg(test)]
 mod tests;
-mod top;
-mod write_all;
 
-pub use top::{Finish, run};
+pub use ending::Finish;
+pub use program::run;

@@ -1,26 +1,10 @@
 //! The line that tells why a file is refused.
 ghost use Rattle.std.specs.Prelude.{◌≡◌, IfOk};
-ghost use Rattle.gm_tool.specs.Refusals.{refusal_line, offence_name, limit_text};
+ghost use Rattle.gm_tool.specs.Refusals.{refusal_line, limit_text};
 
 use gcnf_text::{Limit, Offence};
 use std::alloc::{AllocError, Global};
 use token_text::put_number;
-
-fn name_of(number: u32) -> &'static str
-    ensures { result.now ≡ offence_name number }
-{
-    match number {
-        1 => "NoHeader",
-        2 => "BadHeader",
-        3 => "BadToken",
-        4 => "VarTooBig",
-        5 => "GroupTooBig",
-        6 => "NoGroup",
-        7 => "Truncated",
-        8 => "TooManyClauses",
-        _ => "TooLarge",
-    }
-}
 
 fn text_of_limit(limit: Option<Limit>) -> &'static str
     ensures { result.now ≡ limit_text limit }
@@ -44,7 +28,7 @@ pub fn line_of_refusal(alloc: Global, offence: Offence) -> Result<Vec<u8>, Alloc
     line.extend_from_slice(b"gmus: input refused: ")?;
     put_number(&mut line, i128::from(offence.number))?;
     line.extend_from_slice(b" ")?;
-    line.extend_from_slice(name_of(offence.number).as_bytes())?;
+    line.extend_from_slice(offence.name().as_bytes())?;
     line.extend_from_slice(text_of_limit(offence.limit).as_bytes())?;
     line.extend_from_slice(b" at line ")?;
     put_number(&mut line, i128::from(offence.line))?;

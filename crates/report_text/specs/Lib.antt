@@ -1,2 +1,4 @@
+pub mod Report
 pub mod Sorted
 pub mod Reports
+pub mod Rows

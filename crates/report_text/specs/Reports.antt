@@ -1,6 +1,6 @@
 -- The report of sets that come in any order.
 use Rattle.std.specs.Prelude.{◌≡◌, ℕ, Bool, List}
-use Rattle.gm_base.specs.Report.{report_text}
+use Rattle.report_text.specs.Report.{report_text}
 use Rattle.report_text.specs.Sorted.{IsSortedOf}
 
 -- the text is the report of the conflicts and the corrections in lexicographic order

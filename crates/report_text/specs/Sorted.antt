@@ -1,13 +1,8 @@
 -- Lists of sets in lexicographic order.
-use Rattle.std.specs.Prelude.{ℕ, List, map}
-use Rattle.std.specs.Borrow.{Bor}
+use Rattle.std.specs.Prelude.{ℕ, List}
 use Rattle.std.specs.List.Sorted.{IsPermutation, IsSorted}
 use Rattle.std.specs.Ordering.{nat_cmp}
 use Rattle.std.specs.Cmp.Lexicographic.{slice_cmp}
-
--- the lists that these references point at
-abbrev pub lists_of : List (Bor (List ℕ)) → List (List ℕ)
-lists_of sets = map (λ set. set.now) sets
 
 -- the same sets in the order of their lists, compared as numbers, a prefix first
 pub record IsSortedOf (sets sorted : List (List ℕ)) : Type 0 where

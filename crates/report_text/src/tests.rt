@@ -4,8 +4,8 @@ use std::alloc::Global;
 use std::test::Fail;
 
 // The sets of a line: the groups of each, with a blank behind each group and `|` behind each set.
-fn sets_of(alloc: Global, line: &str) -> Result<Sets, Fail> {
-    let mut sets = Sets::new(alloc);
+fn sets_of(alloc: Global, line: &str) -> Result<Vec<GroupSet>, Fail> {
+    let mut sets = Vec::new(alloc);
     for part in line.split_terminator('|') {
         let mut set = GroupSet::new(alloc);
         for word in part.split_terminator(' ') {
@@ -18,6 +18,15 @@ fn sets_of(alloc: Global, line: &str) -> Result<Sets, Fail> {
         sets.push(set)?;
     }
     Ok(sets)
+}
+
+// The same sets, lent.
+fn lend(alloc: Global, sets: &[GroupSet]) -> Result<Sets<'_>, Fail> {
+    let mut lent = Sets::new(alloc);
+    for set in sets {
+        lent.push(set)?;
+    }
+    Ok(lent)
 }
 
 #[test]
@@ -49,6 +58,7 @@ fn sets_stand_in_the_order_of_their_numbers(rt: HostRuntime) -> Result<(), Fail>
         let alloc = rt.alloc();
         let us = sets_of(alloc, conflicts)?;
         let ms = sets_of(alloc, corrections)?;
+        let (us, ms) = (lend(alloc, us.as_slice())?, lend(alloc, ms.as_slice())?);
         let text = report(alloc, 12, complete, &us, &ms)?;
         assert_eq!(rt; text.as_slice(), wanted.as_bytes(), "{wanted}");
     }

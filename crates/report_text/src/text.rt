@@ -1,9 +1,9 @@
 //! The report's text.
 ghost use Rattle.std.specs.Prelude.{◌≡◌, ◌++◌, codes, OnOk, IfOk};
 ghost use Rattle.std.specs.List.{flat_map};
-ghost use Rattle.gm_base.specs.Report.{report_text, set_line};
+ghost use Rattle.gm_base.specs.Lent.{lists_of};
+ghost use Rattle.report_text.specs.Report.{report_text, set_line};
 ghost use Rattle.report_text.specs.Reports.{IsReportOf};
-ghost use Rattle.report_text.specs.Sorted.{lists_of};
 
 use crate::order::in_order;
 use gm_base::{GroupSet, Sets};
@@ -38,7 +38,7 @@ fn push_sets(out: &mut Vec<u8>, letter: &str, sets: &[&GroupSet]) -> Result<(), 
 }
 
 /// The report of sets in the order in which they stand.
-#[tactic(auto, unfolding(gm_base::specs::Report::report_text))]
+#[tactic(auto, unfolding(crate::specs::Report::report_text))]
 fn text_in_order(
     alloc: Global,
     groups: u32,
@@ -75,8 +75,8 @@ pub fn report(
     alloc: Global,
     groups: u32,
     complete: bool,
-    conflicts: &Sets,
-    corrections: &Sets,
+    conflicts: &Sets<'_>,
+    corrections: &Sets<'_>,
 ) -> Result<Vec<u8>, AllocError>
     ensures { IfOk result (λ text. IsReportOf groups complete conflicts.now corrections.now text.items) }
 {

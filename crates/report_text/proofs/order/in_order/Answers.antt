@@ -4,6 +4,7 @@ use Rattle.std.specs.Cmp.Lexicographic.{slice_cmp}
 use Rattle.std.specs.List.Sorted.{IsPermutation, IsSorted}
 use Rattle.std.proofs.lemmas.List.{get_or-map, take_all, length-map}
 use Rattle.std.proofs.lemmas.List.Sorted.{IsPermutation-map}
+use Rattle.gm_base.specs.Lent.{lists_of}
 use Rattle.report_text.proofs.order.in_order.Goals as goal
 
 -- references in order point to sets in order
@@ -20,11 +21,10 @@ order_of_sets (x ∷ xs) up k e low lt =
 
 pub returns : goal.returns
 returns c =
-    let old = c.loop-set.order.items in
+    let old = c.in_ok-order.order.items in
     let new = c.sort.new.self.items in
-    let whole : map (λ (set : Bor (List ℕ)). set.now) old ≡ c.args.sets.now =
-    c.loop-set.invariant ∙ take_all c.loop-set.set-index c.as_slice-set-items.result.now (omega arith) ∙ c.as_slice-set-items.ensures in
+    let whole : lists_of old ≡ c.args.sets.now = ap lists_of c.in_ok-order.ensures.items ∙ c.as_slice.ensures in
     record {
-      same = subst (λ xs. IsPermutation xs (map (λ (set : Bor (List ℕ)). set.now) new)) whole (IsPermutation-map (λ (set : Bor (List ℕ)). set.now) old new c.in_ok-sort.ensures.permutation);
+      same = subst (λ xs. IsPermutation xs (lists_of new)) whole (IsPermutation-map (λ (set : Bor (List ℕ)). set.now) old new c.in_ok-sort.ensures.permutation);
       order = order_of_sets new c.in_ok-sort.ensures.sorted;
     }

@@ -1,7 +1,7 @@
 use Rattle.std.proofs.Common.{◌≡◌, ◌++◌, take}
 use Rattle.std.specs.List.{flat_map}
-use Rattle.gm_base.specs.Report.{set_line}
-use Rattle.report_text.specs.Sorted.{lists_of}
+use Rattle.report_text.specs.Report.{set_line}
+use Rattle.gm_base.specs.Lent.{lists_of}
 use Rattle.report_text.proofs.text.push_sets.Given as goal
 
 abbrev pub invariant-loop-set : goal.invariant-loop-set

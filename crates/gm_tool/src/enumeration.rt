@@ -1,6 +1,6 @@
 //! The enumeration of a problem, from its beginning to what is left of it.
 ghost use Rattle.std.specs.Prelude.{◌≡◌, ◌<◌, ◌≤◌, IfOk};
-ghost use Rattle.gm_tool.specs.Closed.{IsListing, conflicts_in, corrections_in};
+ghost use Rattle.gm_tool.specs.Closed.{IsLeft, conflicts_in, corrections_in};
 
 use crate::marco::enumerate;
 use evidence_rec::{Oracle, Record, Records};
@@ -20,17 +20,17 @@ pub struct Bounds {
 
 /// What is left of an enumeration.
 #[derive(Drop)]
-pub struct Listed {
-    pub closing: Closing,
+pub struct Enumerated {
+    /// How many clauses were learnt in all logs.
+    pub spent: u64,
     /// The oracle's log, and the map's.
     pub logs: Logs,
-    /// How many clauses were learnt in both.
-    pub spent: u64,
+    pub closing: Closing,
 }
 
 /// Enumerates the minimal conflicts and minimal corrections of a problem.
-pub fn list_sets(alloc: Global, problem: &Problem, bounds: Bounds) -> Result<Listed, AllocError>
-    ensures { IfOk result (IsListing problem.now bounds) }
+pub fn list_sets(alloc: Global, problem: &Problem, bounds: Bounds) -> Result<Enumerated, AllocError>
+    ensures { IfOk result (IsLeft problem.now bounds) }
 {
     let mut oracle = GroupOracle::new(alloc, problem)?;
     let map = PowerMap::new(alloc, problem.groups())?;
@@ -51,32 +51,31 @@ pub fn list_sets(alloc: Global, problem: &Problem, bounds: Bounds) -> Result<Lis
     let mut logs = Logs::new(alloc);
     logs.push(log)?;
     logs.push(map_log)?;
-    Ok(Listed {
-        closing,
-        logs,
+    Ok(Enumerated {
         spent,
+        logs,
+        closing,
     })
 }
 
-/// The sets of records, by kind.
+/// The sets of records, by kind. They are lent by the records.
 #[derive(Drop)]
-pub struct Found {
-    pub conflicts: Sets,
-    pub corrections: Sets,
+pub struct Found<'a> {
+    pub conflicts: Sets<'a>,
+    pub corrections: Sets<'a>,
 }
 
 /// The sets of the records, in the order of the records.
-pub fn sets_of(alloc: Global, records: &[Record]) -> Result<Found, AllocError>
+pub fn sets_of<'a>(alloc: Global, records: &'a [Record]) -> Result<Found<'a>, AllocError>
     ensures conflicts { IfOk result (λ found. found.conflicts ≡ conflicts_in records.now) }
     ensures corrections { IfOk result (λ found. found.corrections ≡ corrections_in records.now) }
 {
     let mut conflicts = Sets::new(alloc);
     let mut corrections = Sets::new(alloc);
     for made in records {
-        let set = made.set().copy(alloc)?;
         match made.kind() {
-            Kind::Conflict => conflicts.push(set)?,
-            Kind::Correction => corrections.push(set)?,
+            Kind::Conflict => conflicts.push(made.set())?,
+            Kind::Correction => corrections.push(made.set())?,
         }
     }
     Ok(Found {

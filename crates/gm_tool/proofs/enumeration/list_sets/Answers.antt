@@ -6,7 +6,7 @@ use Rattle.map_core.specs.Core.{State}
 use Rattle.map_core.specs.Opens.{opening_of}
 use Rattle.gm_tool.specs.Marco.{EndsUndecided}
 use Rattle.gm_tool.specs.Closed.{learned_in}
-use Rattle.gm_tool.proofs.listing.list_sets.Goals as goal
+use Rattle.gm_tool.proofs.enumeration.list_sets.Goals as goal
 
 -- the closing of the core, and the two logs
 pub returns : goal.returns

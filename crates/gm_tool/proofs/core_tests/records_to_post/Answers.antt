@@ -2,7 +2,7 @@ use Rattle.std.proofs.Common.{◌≡◌, true, not, sym, ◌∙◌, ap, subst}
 use Rattle.std.proofs.lemmas.Bool.{and_parts}
 use Rattle.gm_base.specs.Sets.{has, all_groups}
 use Rattle.gm_base.proofs.SetLemmas.{has-complement}
-use Rattle.gm_tool.proofs.tests.records_to_post.Goals as goal
+use Rattle.gm_tool.proofs.core_tests.records_to_post.Goals as goal
 
 -- all groups are groups of the problem
 pub record_for-requires-clause-within : goal.record_for-requires-clause-within

@@ -1,0 +1,54 @@
+-- How a run ends: what it answers, and what it tells on standard error.
+--
+-- Another command joins by a line in `finish_of` for each new ending, with its text in `plain_line`; if it enumerates, its
+-- endings hold an `Enumerated`, and it promises `IsEnumerated` of its problem and, in a record beside `IsListed`, its texts.
+use Rattle.std.specs.Prelude.{ℕ, List, [], ◌==◌, codes, if◌then◌else◌, Some, None}
+use Rattle.map_core.specs.declared.closing.Verdict.{Verdict}
+use Rattle.map_core.specs.declared.closing.Verdict.TheVariants as verdict
+use Rattle.gm_tool.specs.declared.enumeration.Bounds.{Bounds}
+use Rattle.gm_tool.specs.declared.enumeration.Enumerated.{Enumerated}
+use Rattle.gm_tool.specs.declared.ending.Ending.{Ending}
+use Rattle.gm_tool.specs.declared.ending.Ending.TheVariants.{BadWords, Refused, ReadFault, Memory, Listed, CutOff}
+use Rattle.gm_tool.specs.declared.ending.Finish.{Finish}
+use Rattle.gm_tool.specs.Lines.{budget_line, limit_line}
+
+-- the status of an enumeration's verdict
+abbrev pub status_by : Verdict → ℕ
+status_by verdict.Complete = 0
+status_by verdict.Budget = 3
+status_by verdict.Limit = 4
+status_by verdict.Memory = 8
+
+-- the answer without an enumeration
+abbrev pub bare : ℕ → Finish
+bare status = record { status = status; spent = 0; logs = []; closing = None }
+
+-- the answer after an enumeration
+abbrev pub after : ℕ → Enumerated → Finish
+after status left = record { status = status; spent = left.spent; logs = left.logs; closing = Some left.closing }
+
+-- the answer of each ending
+abbrev pub finish_of : Ending → Finish
+finish_of BadWords = bare 2
+finish_of (Refused line) = bare 5
+finish_of ReadFault = bare 6
+finish_of Memory = bare 8
+finish_of (Listed line left) = after (status_by left.closing.verdict) left
+finish_of (CutOff left) = after 7 left
+
+-- the text that comes with a status, where it has no number in it; no bytes where none comes
+abbrev pub plain_line : ℕ → List ℕ
+plain_line status =
+    if status == 2 then codes "gmus: bad command line\n"
+    else (if status == 6 then codes "gmus: read fault on input\n"
+    else (if status == 7 then codes "gmus: write fault on report\n" else (if status == 8 then codes "gmus: out of memory\n" else [])))
+
+-- the line on standard error that comes with a status other than 5, if any
+abbrev pub error_line : Bounds → ℕ → List ℕ
+error_line b status = if status == 3 then budget_line b.conflicts else (if status == 4 then limit_line b.limit else plain_line status)
+
+-- the line that comes with an ending
+abbrev pub line_of : Ending → List ℕ
+line_of (Refused line) = line.items
+line_of (Listed line left) = line.items
+line_of ending = plain_line (finish_of ending).status

@@ -1,0 +1,85 @@
+//! How a run ends.
+ghost use Rattle.std.specs.Prelude.{◌≡◌};
+ghost use Rattle.gm_tool.specs.Endings.{bare, after, status_by, finish_of};
+
+use crate::enumeration::Enumerated;
+use lrat_steps::Logs;
+use map_core::{Closing, Verdict};
+use std::alloc::Global;
+
+/// How a run ended, for what is left to do: to tell it on standard error, and to answer.
+#[derive(Drop)]
+pub enum Ending {
+    BadWords,
+    /// With the line that tells why.
+    Refused(Vec<u8>),
+    ReadFault,
+    /// Memory was wanting. What an enumeration learnt before is not told.
+    Memory,
+    /// The report is written. With the line that tells which bound was reached, if any.
+    Listed(Vec<u8>, Enumerated),
+    /// The report could not be written to its end.
+    CutOff(Enumerated),
+}
+
+/// How a run ended: 0 complete, 2 bad command line, 3 budget spent, 4 limit reached, 5 input refused, 6 read fault, 7 write
+/// fault, 8 want of memory.
+///
+/// After an enumeration, `closing` is what is left of it, `logs` are the steps of the worker's solver and of the map's, and
+/// `spent` is how many clauses were learnt in them.
+#[derive(Drop)]
+pub struct Finish {
+    pub status: u8,
+    pub spent: u64,
+    pub logs: Logs,
+    pub closing: Option<Closing>,
+}
+
+/// The answer without an enumeration.
+fn bare(alloc: Global, status: u8) -> Finish
+    ensures { result ≡ bare status }
+{
+    Finish {
+        status,
+        spent: 0,
+        logs: Logs::new(alloc),
+        closing: None,
+    }
+}
+
+/// The answer after an enumeration.
+fn after(status: u8, left: Enumerated) -> Finish
+    ensures { result ≡ after status left }
+{
+    Finish {
+        status,
+        spent: left.spent,
+        logs: left.logs,
+        closing: Some(left.closing),
+    }
+}
+
+fn status_by(verdict: Verdict) -> u8
+    ensures { result ≡ status_by verdict }
+{
+    match verdict {
+        Verdict::Complete => 0,
+        Verdict::Budget => 3,
+        Verdict::Limit => 4,
+        Verdict::Memory => 8,
+    }
+}
+
+/// What the program answers.
+pub fn finish_of(alloc: Global, ending: Ending) -> Finish
+    ensures { result ≡ finish_of ending }
+{
+    match ending {
+        Ending::BadWords => bare(alloc, 2),
+        Ending::Refused(_) => bare(alloc, 5),
+        Ending::ReadFault => bare(alloc, 6),
+        Ending::Memory => bare(alloc, 8),
+        Ending::Listed(_, left) => after(status_by(left.closing.verdict), left),
+        Ending::CutOff(left) => after(7, left),
+    }
+}
