@@ -3,15 +3,16 @@
 
 mod files;
 mod sinks;
+mod system;
 #[cfg(test)]
 mod tests;
 
 use files::RealFiles;
-use gm_tool::run;
 use sinks::StreamSink;
 use std::alloc::Global;
 use std::process::ExitCode;
 use std::{env, io};
+use system::run_on_system;
 
 fn main(rt: HostRuntime) -> ExitCode {
     let alloc = rt.alloc();
@@ -28,7 +29,7 @@ fn main(rt: HostRuntime) -> ExitCode {
     let mut files = RealFiles::new(&rt);
     let mut out = StreamSink::new(rt.stdout());
     let mut err = StreamSink::new(rt.stderr());
-    let finish = run(&rt, alloc, words.as_slice(), &mut files, &mut out, &mut err);
+    let finish = run_on_system(&rt, alloc, words.as_slice(), &mut files, &mut out, &mut err);
     ExitCode::from(finish.status)
 }
 

@@ -1,0 +1,54 @@
+//! The program over the system's files and streams.
+//!
+//! They tell nothing of their bytes, so what `run` says of bytes says nothing here: not that the listed problem is the one
+//! in the file, nor that its report was written. All else stays, and is said once more for this program alone.
+ghost use Rattle.std.specs.Prelude.{◌≡◌, ◌⊎◌, map, None, MatchOption};
+ghost use Rattle.std.specs.String.{string_bytes};
+ghost use Rattle.gm_base.specs.Problem.{Problem};
+ghost use Rattle.gm_ports.specs.Faults.{Rose};
+ghost use Rattle.gm_words.specs.Reading.{words_read};
+ghost use Rattle.gm_tool.specs.Closed.{learned_in};
+ghost use Rattle.gm_tool.specs.Endings.{bare};
+ghost use Rattle.gm_tool.specs.Listing.{IsAfterwards, IsEnumerated};
+ghost use Rattle.gm_tool.specs.Run.{IsStatus, IsFaultless, IsBefore, bounds_of};
+
+use crate::files::RealFiles;
+use crate::sinks::StreamSink;
+use gm_tool::{Finish, run};
+use std::alloc::Global;
+use std::io::Print;
+use std::rt;
+use std::sync::Wait;
+use std::thread::Threads;
+
+/// Runs the program over the system's files and streams.
+pub fn run_on_system<R: rt::Files + Threads + Wait + Sync, O: Print, E: Print>(
+    rt: &R,
+    alloc: Global,
+    words: &[String],
+    files: &mut RealFiles<'_, R>,
+    out: &mut StreamSink<O>,
+    err: &mut StreamSink<E>,
+) -> Finish
+    ensures known { IsStatus result.status }
+    ensures learned { result.spent ≡ learned_in result.logs }
+
+    // What each status tells.
+    ensures enumerated { IsAfterwards result.status → (p : Problem) × MatchOption result.closing ⊥
+        (IsEnumerated p (bounds_of (words_read (map string_bytes words.now))) result.status result.logs) }
+    ensures nothing_listed { IsBefore result.status → result ≡ bare result.status }
+    ensures bad_words { result.status ≡ 2 → words_read (map string_bytes words.now) ≡ None }
+    ensures read_fault { result.status ≡ 6 → Rose files.old.read_faults files.new.read_faults }
+    ensures write_fault { result.status ≡ 7 → Rose out.old.faults out.new.faults }
+
+    // When a status has to come.
+    ensures without_reading { words_read (map string_bytes words.now) ≡ None → (result.status ≡ 2) ⊎ (result.status ≡ 8) }
+
+    // What stays.
+    ensures untouched { words_read (map string_bytes words.now) ≡ None → files.new.read_faults ≡ files.old.read_faults }
+    ensures no_output { files.new.write_faults ≡ files.old.write_faults }
+    ensures no_read_fault_dropped { IsFaultless result.status → files.new.read_faults ≡ files.old.read_faults }
+    ensures no_write_fault_dropped { IsFaultless result.status → out.new.faults ≡ out.old.faults }
+{
+    run(rt, alloc, words, files, out, err)
+}
