@@ -132,8 +132,9 @@ def as_text(page):
     lines = [page.title, "=" * len(page.title), "", page.summary()]
     if page.counts:
         width = max(len(page.name(group)) for group, _ in page.counts)
-        lines += ["", "Groups", "------", "", f"{'':{width}}  conflicts  repairs"]
-        lines += [f"{page.name(group):{width}}  {conflicts:9}  {repairs:7}" for group, (conflicts, repairs) in page.counts]
+        lines += ["", "Groups", "------", "", f"  no.  {'':{width}}  conflicts  repairs"]
+        lines += [f"{group:5}  {page.name(group):{width}}  {conflicts:9}  {repairs:7}"
+                  for group, (conflicts, repairs) in page.counts]
     if page.others_line():
         lines += ["", page.others_line()]
     for (heading, meaning), sets, empty in zip(
