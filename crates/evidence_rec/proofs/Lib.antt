@@ -5,3 +5,4 @@ pub mod BasisLemmas
 pub mod RefutesLemmas
 pub mod EvidenceLemmas
 pub mod AskingLemmas
+pub mod BlockLemmas

@@ -5,3 +5,4 @@ pub mod Verdicts
 pub mod Refusals
 pub mod Basis
 pub mod Rows
+pub mod Blocks

@@ -1,5 +1,5 @@
 -- What a map engine tells, and what its answers say (MARCO: Liffiton, Previti, Malik and Marques-Silva 2016).
-use Rattle.std.specs.Prelude.{◌≡◌, ◌↔◌, ℕ, Bool, true, false, List, [], ◌∷◌, ◌++◌, length, map, ℤ}
+use Rattle.std.specs.Prelude.{◌≡◌, ◌↔◌, ℕ, Bool, true, false, List, [], ◌∷◌, ◌++◌, length, map}
 use Rattle.std.specs.List.{list_all}
 use Rattle.sat_base.specs.Literals.{clause_true}
 use Rattle.gm_base.specs.Explored.{Found, is_explored, block_clause, groups_true, IsUnexplored, AllExplored}

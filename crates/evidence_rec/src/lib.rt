@@ -19,6 +19,7 @@
 //! text, is not for this crate.
 #![tactic(auto)]
 
+mod blocks;
 mod checking;
 mod engine;
 mod lines;
@@ -31,6 +32,7 @@ mod selectors;
 mod tests;
 mod witnessing;
 
+pub use blocks::block_lits;
 pub use checking::{RecordChecker, Verdict, check_record};
 pub use engine::{MapEngine, Seed};
 pub use lists::{Proofs, Records, Witnesses};

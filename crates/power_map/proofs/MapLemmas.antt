@@ -27,7 +27,8 @@ use Rattle.cdcl_core.specs.Answers.{IsModel, IsRefuted, IsHonestlyPaid}
 use Rattle.evidence_rec.specs.Seeding.{EngineState, HasModels, blocked, shows_all_explored}
 use Rattle.power_map.specs.Blocks.{blocks_of}
 use Rattle.power_map.specs.Inside.{is_kept, IsKept}
-use Rattle.power_map.proofs.BlockLemmas.{blocks_of-push, block_clause-literal, block_clause-over}
+use Rattle.evidence_rec.proofs.BlockLemmas.{block_clause-literal, block_clause-over}
+use Rattle.power_map.proofs.BlockLemmas.{blocks_of-push}
 
 -- what a map of these parts tells
 abbrev pub told : ℕ → List LogStep → List Side → Option ℕ → EngineState

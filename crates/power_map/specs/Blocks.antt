@@ -1,14 +1,8 @@
--- The literals of block clauses (MARCO: Liffiton, Previti, Malik and Marques-Silva 2016).
-use Rattle.std.specs.Prelude.{ℕ, List, [], ◌∷◌, map, ℤ, pos, neg_ℤ}
+-- The blocks behind block clauses (MARCO: Liffiton, Previti, Malik and Marques-Silva 2016).
+use Rattle.std.specs.Prelude.{List, [], ◌∷◌, map, ℤ}
 use Rattle.gm_base.specs.declared.kind.Side.{Side}
-use Rattle.gm_base.specs.declared.kind.Side.TheVariants.{Up, Down}
 use Rattle.sat_base.specs.Literals.{var_of}
 use Rattle.gm_base.specs.Explored.{Found, block_of}
-
--- the literal of a group in the clause of a block on this side
-abbrev pub block_lit : Side → ℕ → ℤ
-block_lit Up g = neg_ℤ (pos g)
-block_lit Down g = pos g
 
 -- the blocks behind clauses, each with its side: the set of a block is the groups that its clause names
 abbrev pub blocks_of : List (List ℤ) → List Side → List Found

@@ -14,12 +14,11 @@
 //! that are not explored. The contracts are those of the trait `evidence_rec::MapEngine`.
 //!
 //! Start with `map.rt`, whose head says why the answers are right, and `specs/Inside.antt`, which says what a map keeps.
-//! `clauses.rt` makes the clause of a block, and `sets.rt` reads the set off an assignment.
+//! `sets.rt` reads the set off an assignment.
 //!
 //! Not said here: which of the sets a seed is, how many units it costs, and that memory suffices.
 #![tactic(auto)]
 
-mod clauses;
 mod map;
 mod sets;
 #[cfg(test)]

@@ -13,10 +13,9 @@ ghost use Rattle.gm_base.specs.Sets.{IsSubset, all_groups};
 ghost use Rattle.gm_base.specs.Explored.{block_of};
 ghost use Rattle.evidence_rec.specs.Seeding.{new_engine};
 
-use crate::clauses::clause_of;
 use crate::sets::set_of;
 use cdcl_core::{Solved, Solver};
-use evidence_rec::{MapEngine, Seed};
+use evidence_rec::{MapEngine, Seed, block_lits};
 use gm_base::{Derivation, GroupSet, Purse, Side};
 use lrat_steps::Log;
 use std::alloc::{AllocError, Global};
@@ -64,7 +63,7 @@ impl MapEngine for PowerMap {
     fn block(&mut self, alloc: Global, set: &GroupSet, side: Side) -> Result<(), AllocError> {
         // Room first, so that all is as it was where there is none.
         self.sides.reserve(1)?;
-        let clause = clause_of(alloc, set, side)?;
+        let clause = block_lits(alloc, set, side)?;
         self.solver.add(alloc, &clause)?;
         self.sides.push_reserved(side);
         Ok(())

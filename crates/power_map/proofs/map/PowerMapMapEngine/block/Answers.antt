@@ -8,7 +8,7 @@ use Rattle.cdcl_core.specs.Solver.{Solver}
 use Rattle.evidence_rec.specs.Seeding.{EngineState, blocked}
 use Rattle.power_map.specs.Inside.{view_of, IsKept}
 use Rattle.power_map.specs.declared.map.PowerMap.TheInside.{Inside}
-use Rattle.power_map.proofs.BlockLemmas.{block-over}
+use Rattle.evidence_rec.proofs.BlockLemmas.{block-over}
 use Rattle.power_map.proofs.MapLemmas.{has_models, kept_block, told_block}
 use Rattle.power_map.proofs.map.PowerMapMapEngine.block.Goals as goal
 
@@ -28,8 +28,8 @@ returns-in_err-reserve-clause-models c =
     has_models a.solver.vars a.solver.log c.reserve.new.self.items a.empty
     (kept_in_room a c.reserve.new.self.items c.self.invariant c.in_err-reserve.ensures.items)
 
-pub clause_of-requires : goal.clause_of-requires
-clause_of-requires c = λ g i.
+pub block_lits-requires : goal.block_lits-requires
+block_lits-requires c = λ g i.
     let a = c.self.inside in
     let range = all_groups-has a.solver.vars g (set_within c.self.inside c.args.self.now c.args.set.now c.self.view_is c.requires g i) in
     let high = range.1 in

@@ -1,11 +1,11 @@
 //! Block clauses.
 //!
-//! The block of a conflict says that some group of it is out, that of a correction that some group of it is in. So a clause
+//! In the map, group g is variable g. The block of a conflict says that some group of it is out, that of a correction that some group of it is in. So a clause
 //! has one literal for each group of the set, and all of them have one sign.
 ghost use Rattle.std.specs.Prelude.{◌≡◌, ℕ, ◌<◌, ◌^◌, true, IfOk};
 ghost use Rattle.gm_base.specs.Sets.{has};
 ghost use Rattle.gm_base.specs.Explored.{block_of, block_clause};
-ghost use Rattle.power_map.specs.Blocks.{block_lit};
+ghost use Rattle.evidence_rec.specs.Blocks.{block_lit};
 
 use gm_base::{GroupSet, Lit, Side};
 use std::alloc::{AllocError, Global};
@@ -24,7 +24,7 @@ fn literal_of(group: u32, side: Side) -> Lit
 }
 
 /// The clause of a block, with the groups in the order of the set, in just as much memory as it needs.
-pub fn clause_of(alloc: Global, set: &GroupSet, side: Side) -> Result<Vec<Lit>, AllocError>
+pub fn block_lits(alloc: Global, set: &GroupSet, side: Side) -> Result<Vec<Lit>, AllocError>
     requires { (g : ℕ) → has set.now g ≡ true → g < 2 ^ 31 }
     ensures { IfOk result (λ lits. lits.items ≡ block_clause (block_of side set.now)) }
 {

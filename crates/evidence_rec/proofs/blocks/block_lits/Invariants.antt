@@ -1,6 +1,6 @@
 use Rattle.std.proofs.Common.{◌≡◌, map, take}
-use Rattle.power_map.specs.Blocks.{block_lit}
-use Rattle.power_map.proofs.clauses.clause_of.Given as goal
+use Rattle.evidence_rec.specs.Blocks.{block_lit}
+use Rattle.evidence_rec.proofs.blocks.block_lits.Given as goal
 
 -- the literals of the groups so far
 abbrev pub invariant-loop-group : goal.invariant-loop-group

@@ -2,8 +2,8 @@ use Rattle.std.proofs.Common.{◌≡◌, true, get_or, subst, sym}
 use Rattle.gm_base.specs.Sets.{has, IsGroupSet}
 use Rattle.gm_base.proofs.SetLemmas.{AscendsAbove-at}
 use Rattle.sat_base.proofs.DatabaseLemmas.{get_in}
-use Rattle.power_map.proofs.BlockLemmas.{in_has}
-use Rattle.power_map.proofs.clauses.clause_of.Goals as goal
+use Rattle.evidence_rec.proofs.BlockLemmas.{in_has}
+use Rattle.evidence_rec.proofs.blocks.block_lits.Goals as goal
 
 -- a group of a set is not the background
 pub literal_of-requires-clause-not_background : goal.literal_of-requires-clause-not_background
