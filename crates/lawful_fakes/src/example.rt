@@ -1,0 +1,162 @@
+//! One small problem, written by hand: x, not x, x implies y, and not y, in groups 1 to 4.
+//!
+//! Its minimal conflicts are {1, 2} and {1, 3, 4}, its minimal corrections {1}, {2, 3} and {2, 4}. The selectors of the
+//! groups are the variables 3 to 6.
+ghost use Rattle.std.specs.Prelude.{◌≡◌, ◌≤◌, All, IsTrue, IfOk};
+ghost use Rattle.sat_base.specs.Derivation.{max_id};
+ghost use Rattle.gm_base.specs.Sets.{IsSubset, all_groups};
+ghost use Rattle.evidence_rec.specs.Records.{IsAccepted};
+
+use crate::evidence::{Lacking, checked};
+use evidence_rec::{Proofs, Record, Witnesses};
+use gm_base::{
+    Assign, AssignBuilder, Clause, Clauses, Derivation, DerivationBuilder, GroupSet, Lit, Lits,
+    Problem,
+};
+use std::alloc::{AllocError, Global};
+
+/// The problem.
+pub fn four_clauses(alloc: Global) -> Result<Problem, AllocError>
+    ensures vars { IfOk result (λ p. p.vars ≡ 2) }
+    ensures groups { IfOk result (λ p. p.groups ≡ 4) }
+{
+    let x = Lit::new(1);
+    let y = Lit::new(2);
+    let mut clauses = Clauses::new(alloc);
+    clauses.push(Clause {
+        group: 1,
+        lits: Lits::from_slice(alloc, &[x])?,
+    })?;
+    clauses.push(Clause {
+        group: 2,
+        lits: Lits::from_slice(alloc, &[x.negated()])?,
+    })?;
+    clauses.push(Clause {
+        group: 3,
+        lits: Lits::from_slice(alloc, &[x.negated(), y])?,
+    })?;
+    clauses.push(Clause {
+        group: 4,
+        lits: Lits::from_slice(alloc, &[y.negated()])?,
+    })?;
+    Problem::new(alloc, 2, 4, clauses)
+}
+
+/// The set of these groups, where the problem has them.
+pub fn set_of(alloc: Global, problem: &Problem, groups: &[u32]) -> Result<GroupSet, Lacking>
+    ensures { IfOk result (λ set. IsSubset set (all_groups problem.now.groups)) }
+{
+    let mut set = GroupSet::new(alloc);
+    for g in groups {
+        if *g > 0 {
+            set = set.with(alloc, *g)?;
+        }
+    }
+    let all = GroupSet::new(alloc).complement(alloc, problem.groups())?;
+    if set.is_subset(&all) {
+        Ok(set)
+    } else {
+        Err(Lacking::Evidence)
+    }
+}
+
+// Values of x and of y.
+fn pair(alloc: Global, values: (bool, bool)) -> Result<Assign, AllocError> {
+    let mut builder = AssignBuilder::all_false(alloc, 2)?;
+    builder.set(1, values.0);
+    builder.set(2, values.1);
+    builder.finish(alloc)
+}
+
+/// Assignments of x and y, in this order.
+pub fn assignments(alloc: Global, pairs: &[(bool, bool)]) -> Result<Witnesses, AllocError> {
+    let mut witnesses = Witnesses::new(alloc);
+    for values in pairs {
+        witnesses.push(pair(alloc, *values)?)?;
+    }
+    Ok(witnesses)
+}
+
+// Whether all of these can be ids.
+fn are_ids(numbers: &[u64]) -> bool
+    ensures { IsTrue result → All (λ n. n ≤ max_id) numbers.now }
+{
+    for number in numbers {
+        if *number > 9_223_372_036_854_775_807 {
+            return false;
+        }
+    }
+    true
+}
+
+/// A derivation of one step, which is its goal.
+pub fn derivation(
+    alloc: Global,
+    id: u64,
+    numbers: &[i32],
+    hints: &[u64],
+) -> Result<Derivation, Lacking> {
+    if id > 9_223_372_036_854_775_807 || !are_ids(hints) {
+        return Err(Lacking::Evidence);
+    }
+    let mut lits = Lits::new(alloc);
+    for number in numbers {
+        if *number != 0 && *number > i32::MIN {
+            lits.push(Lit::new(*number))?;
+        }
+    }
+    let mut builder = DerivationBuilder::new(alloc, id);
+    builder.push(id, lits.as_slice(), hints)?;
+    Ok(builder.finish(alloc)?)
+}
+
+// Groups 1 and 2 clash, or groups 1, 3 and 4 do.
+fn refutation(alloc: Global, of_two: bool) -> Result<Derivation, Lacking> {
+    if of_two {
+        derivation(alloc, 5, &[-3, -4], &[1, 2])
+    } else {
+        derivation(alloc, 5, &[-3, -5, -6], &[1, 3, 4])
+    }
+}
+
+/// The conflict of the first two groups, or that of the three others.
+pub fn conflict(alloc: Global, problem: &Problem, of_two: bool) -> Result<Record, Lacking>
+    ensures { IfOk result (IsAccepted problem.now) }
+{
+    let groups: &[u32] = if of_two { &[1, 2] } else { &[1, 3, 4] };
+    let pairs: &[(bool, bool)] = if of_two {
+        &[(false, false), (true, false)]
+    } else {
+        &[(false, false), (true, false), (true, true)]
+    };
+    let record = Record::Conflict {
+        set: set_of(alloc, problem, groups)?,
+        proof: refutation(alloc, of_two)?,
+        witnesses: assignments(alloc, pairs)?,
+    };
+    checked(alloc, problem, record)
+}
+
+/// The correction {1}, {2, 3} or {2, 4}, where these values satisfy the other groups.
+pub fn correction(
+    alloc: Global,
+    problem: &Problem,
+    groups: &[u32],
+    values: (bool, bool),
+) -> Result<Record, Lacking>
+    ensures { IfOk result (IsAccepted problem.now) }
+{
+    let set = set_of(alloc, problem, groups)?;
+    let mut proofs = Proofs::new(alloc);
+    let mut of_two = true;
+    for _ in groups {
+        proofs.push(refutation(alloc, of_two)?)?;
+        of_two = false;
+    }
+    let record = Record::Correction {
+        set,
+        witness: pair(alloc, values)?,
+        proofs,
+    };
+    checked(alloc, problem, record)
+}

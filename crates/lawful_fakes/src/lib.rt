@@ -1,0 +1,21 @@
+//! An oracle and a map engine without a solver, for tests of what is written for every lawful one.
+//!
+//! A [`TableOracle`] knows some assignments and some minimal conflicts of its problem, and answers by the first that fits;
+//! a [`ScriptedMap`] hands out the seeds that it was given, in their order. Both keep all that the traits `Oracle` and
+//! `MapEngine` ask for. Where the table or the script has no right answer they answer want of memory, which a caller has
+//! to expect at each call. [`checked`] tells whether the evidence of a record that a test wrote shows what it says.
+//!
+//! The module `example` has a problem of four clauses with its records, for tables of tests.
+//!
+//! Neither answers Dry: for that a search has to stand before a conflict, and they search for nothing.
+#![tactic(auto)]
+
+mod block;
+mod evidence;
+pub mod example;
+mod scripted_map;
+mod table_oracle;
+
+pub use evidence::{Lacking, checked};
+pub use scripted_map::ScriptedMap;
+pub use table_oracle::TableOracle;
