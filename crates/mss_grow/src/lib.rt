@@ -17,6 +17,8 @@
 mod addition;
 mod grown;
 mod growth;
+#[cfg(test)]
+mod tests;
 
 pub use addition::grow;
 pub use grown::Grown;
