@@ -30,6 +30,8 @@ pub mod laws;
 mod open;
 mod regrant;
 mod replies;
+#[cfg(test)]
+mod tests;
 mod turn;
 
 pub use calls::MapCore;
