@@ -100,21 +100,24 @@ class Page:
         return self.names.get(group, f"group {group}")
 
     def summary(self):
+        if [] in self.repairs:
+            return "Nothing clashes: all groups fit together."
+        if [] in self.conflicts:
+            return "The background clashes with itself, whatever is given up: there is no repair."
         found = (number_of(len(self.conflicts), "conflict", "conflicts") + " and "
                  + number_of(len(self.repairs), "repair", "repairs"))
         if self.report.is_complete:
             return found + ". The report is complete: there are no others."
         return found + " were found. The report is partial: there may be others."
 
-    def empty_conflict(self):
-        return "the background alone: it clashes with itself, whatever is given up"
-
-    def empty_repair(self):
-        return "nothing: all groups fit together"
+    def sections(self):
+        """The two lists of sets that are not empty, each with its heading and what it means."""
+        both = ((*HEADINGS[0], self.conflicts), (*HEADINGS[1], self.repairs))
+        return [section for section in both if [] not in section[2] and section[2]]
 
     def others_line(self):
         """What is said of the groups in no set, as names where they are few."""
-        if not self.others:
+        if not self.others or [] in self.conflicts + self.repairs:
             return ""
         so_far = "" if self.report.is_complete else " so far"
         if len(self.others) > 20:
@@ -137,15 +140,11 @@ def as_text(page):
                   for group, (conflicts, repairs) in page.counts]
     if page.others_line():
         lines += ["", page.others_line()]
-    for (heading, meaning), sets, empty in zip(
-            HEADINGS, (page.conflicts, page.repairs), (page.empty_conflict(), page.empty_repair())):
-        if not sets:
-            continue
+    for heading, meaning, sets in page.sections():
         lines += ["", heading, "-" * len(heading), "", meaning]
         for at, members in enumerate(sets, 1):
-            texts = [page.name(group) for group in members] or [empty]
             lines.append("")
-            lines += [f"{f'{at}.' if not place else '':5} {text}" for place, text in enumerate(texts)]
+            lines += [f"{f'{at}.' if not place else '':5} {page.name(group)}" for place, group in enumerate(members)]
     return "".join(line + "\n" for line in lines)
 
 
@@ -178,14 +177,10 @@ def as_html(page):
         parts.append("</table>")
     if page.others_line():
         parts.append(f"<p>{text(page.others_line())}</p>")
-    for (heading, meaning), sets, empty in zip(
-            HEADINGS, (page.conflicts, page.repairs), (page.empty_conflict(), page.empty_repair())):
-        if not sets:
-            continue
+    for heading, meaning, sets in page.sections():
         parts += [f"<h2>{heading}</h2>", f"<p>{text(meaning)}</p>", "<ol>"]
         for members in sets:
-            items = [named(group) for group in members] or [text(empty)]
-            parts.append("<li><ul>" + "".join(f"<li>{item}</li>" for item in items) + "</ul></li>")
+            parts.append("<li><ul>" + "".join(f"<li>{named(group)}</li>" for group in members) + "</ul></li>")
         parts.append("</ol>")
     parts += ["</body>", "</html>"]
     return "".join(part + "\n" for part in parts)

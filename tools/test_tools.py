@@ -155,9 +155,9 @@ class Names(unittest.TestCase):
                   "In none: group 2.", "1.    the rule"]),
                 ("p gmus 2\ns PARTIAL\ne 0 0\n", "", ["0 conflicts and 0 repairs were found. The report is partial",
                                                      "In none so far: group 1; group 2."]),
-                ("p gmus 0\ns COMPLETE\nm 0\ne 0 1\n", "", ["1.    nothing: all groups fit together"]),
-                ("p gmus 0\ns COMPLETE\nu 0\ne 1 0\n", "", ["1.    the background alone"]),
-                ("p gmus 99\ns COMPLETE\nm 0\ne 0 1\n", "", ["99 other groups are in none."]),
+                ("p gmus 3\ns COMPLETE\nm 0\ne 0 1\n", "", ["=\n\nNothing clashes: all groups fit together.\n"]),
+                ("p gmus 3\ns COMPLETE\nu 0\ne 1 0\n", "", ["=\n\nThe background clashes with itself, whatever is given up"]),
+                ("p gmus 99\ns COMPLETE\nu 7 0\nm 7 0\ne 1 1\n", "", ["98 other groups are in none."]),
         ):
             made = names.as_text(page(report, problem))
             for line in wanted:
