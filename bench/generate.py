@@ -8,10 +8,17 @@ numbers stay the same from one version of Python to the next.
 
 chain           implications from a fact to its denial; some links are there twice
 random          random 3-CNF with three clauses a group, just above the ratio at which it becomes unsatisfiable
+dense           random clauses of three literals over few variables; each is a group
 feature         a feature model, whose tree is the background; cross-tree constraints and a user's selections are groups
 adder           a ripple-carry adder; each gate is a group; inputs and the outputs of a faulty adder are the background
+multiplier      an array multiplier, with its groups and its background as in adder
 colour          a graph and three colours; each edge is a group
 colour-vertex   a graph and three colours; that a vertex has a colour is a group
+types           statements of a program, which say of its names that they are numbers, texts or lists; each is a group
+net             packages that need others or don't go with others; each such need, clash or wish is a group
+plan            parcels that go from place to place; how a parcel comes to a place at a time is a group
+pigeon          pigeons and fewer holes; that a pigeon has a hole, and that a hole has room for one, are groups
+parity          random equations of three variables over the numbers 0 and 1; each is a group
 """
 import argparse
 import random
@@ -127,6 +134,18 @@ def random_cnf(size, choices):
     return problem
 
 
+def dense(size, choices):
+    """One clause of three variables a group, and five times as many groups as variables.
+
+    That is above the ratio at which such problems become unsatisfiable. No question is hard here, but the sets are many.
+    """
+    problem = Problem()
+    variables = [problem.variable() for _ in range(max(4, round(size / 5)))]
+    for _ in range(size):
+        problem.group([var if choices.happens(0.5) else -var for var in choices.distinct(variables, 3)])
+    return problem
+
+
 def feature_tree(problem, count, choices):
     """Puts a tree of at least `count` features into the background, and gives them with a configuration that fits."""
     root = problem.variable()
@@ -194,35 +213,97 @@ def gate_value(kind, a, b):
     return {"and": a and b, "or": a or b, "xor": a != b, "stuck at false": False, "stuck at true": True}[kind]
 
 
-def adder(size, choices):
-    """Five gates a bit, of which one, and from 80 groups on more, up to four, are stuck or of another kind.
+class Circuit:
+    """Gates in an order in which their inputs are known, each with a kind, two inputs and an output."""
 
-    The inputs are such that the outputs show it. A correction is a diagnosis: the gates that may be to blame.
+    def __init__(self, problem):
+        self.problem = problem
+        self.inputs, self.outputs, self.gates = [], [], []
+
+    def gate(self, kind, a, b, out=None):
+        out = self.problem.variable() if out is None else out
+        self.gates.append((kind, a, b, out))
+        return out
+
+    def sum_of(self, a, b, carry):
+        """The sum and the carry of three bits, by five gates."""
+        half, total, made, passed, next_carry = (self.problem.variable() for _ in range(5))
+        self.gates += [("xor", a, b, half), ("xor", half, carry, total), ("and", a, b, made),
+                       ("and", half, carry, passed), ("or", made, passed, next_carry)]
+        return total, next_carry
+
+    def values(self, inputs, faults):
+        """Of all variables, where the gates at these places are of another kind."""
+        values = dict(inputs)
+        for place, (meant, a, b, out) in enumerate(self.gates):
+            values[out] = gate_value(faults.get(place, meant), values[a], values[b])
+        return values
+
+    def diagnose(self, faulty, choices):
+        """Makes the gates groups, and inputs with the outputs of a circuit of so many faulty gates the background.
+
+        A faulty gate is stuck or of another kind, and the inputs are such that the outputs show it. A correction is a
+        diagnosis: the gates that may be to blame.
+        """
+        kinds = ["and", "or", "xor", "stuck at false", "stuck at true"]
+        while True:
+            inputs = {var: choices.happens(0.5) for var in self.inputs}
+            faults = {at: choices.one_of(kinds) for at in choices.distinct(range(len(self.gates)), faulty)}
+            right, wrong = self.values(inputs, {}), self.values(inputs, faults)
+            if any(right[out] != wrong[out] for out in self.outputs):
+                break
+        self.problem.always(*[[var if wrong[var] else -var] for var in self.inputs + self.outputs])
+        for gate in self.gates:
+            self.problem.group(*gate_clauses(*gate))
+
+
+def adder(size, choices):
+    """Five gates a bit, of which one, and from 80 groups on more, up to four, are faulty."""
+    problem = Problem()
+    circuit = Circuit(problem)
+    carry = problem.variable()
+    circuit.inputs.append(carry)
+    for _ in range(max(1, round(size / 5))):
+        a, b = problem.variable(), problem.variable()
+        circuit.inputs += [a, b]
+        total, carry = circuit.sum_of(a, b, carry)
+        circuit.outputs.append(total)
+    circuit.outputs.append(carry)
+    circuit.diagnose(1 + min(3, size // 80), choices)
+    return problem
+
+
+def multiplier(size, choices):
+    """A gate for each two bits, and rows of adders that bring these together; two gates are faulty, of few one.
+
+    With n bits a number there are 6 n ** 2 - 8 n groups. Most gates can be to blame together with some others, so there
+    are many more corrections than in an adder of that size.
     """
     problem = Problem()
-    carry = problem.variable()
-    inputs, outputs, gates = [carry], [], []
-    for _ in range(max(1, round(size / 5))):
-        a, b, half, total, made, passed, next_carry = (problem.variable() for _ in range(7))
-        inputs += [a, b]
-        outputs.append(total)
-        gates += [("xor", a, b, half), ("xor", half, carry, total), ("and", a, b, made),
-                  ("and", half, carry, passed), ("or", made, passed, next_carry)]
-        carry = next_carry
-    outputs.append(carry)
-    while True:
-        values = {var: choices.happens(0.5) for var in inputs}
-        faults = {at: choices.one_of(["and", "or", "xor", "stuck at false", "stuck at true"])
-                  for at in choices.distinct(range(len(gates)), 1 + min(3, size // 80))}
-        right, wrong = dict(values), dict(values)
-        for place, (meant, a, b, out) in enumerate(gates):
-            right[out] = gate_value(meant, right[a], right[b])
-            wrong[out] = gate_value(faults.get(place, meant), wrong[a], wrong[b])
-        if any(right[out] != wrong[out] for out in outputs):
-            break
-    problem.always(*[[var if wrong[var] else -var] for var in inputs + outputs])
-    for gate in gates:
-        problem.group(*gate_clauses(*gate))
+    circuit = Circuit(problem)
+    bits = max(2, round((4 + (16 + 6 * size) ** 0.5) / 6))
+    left = [problem.variable() for _ in range(bits)]
+    right = [problem.variable() for _ in range(bits)]
+    circuit.inputs += left + right
+    row = [circuit.gate("and", a, right[0]) for a in left]
+    top = None
+    for b in right[1:]:
+        circuit.outputs.append(row[0])
+        above = row[1:] + ([] if top is None else [top])
+        added = [circuit.gate("and", a, b) for a in left]
+        row, carry = [], None
+        for at, bit in enumerate(added):
+            addends = [var for var in (bit, above[at] if at < len(above) else None, carry) if var is not None]
+            if len(addends) == 3:
+                total, carry = circuit.sum_of(*addends)
+            elif len(addends) == 2:
+                total, carry = circuit.gate("xor", *addends), circuit.gate("and", *addends)
+            else:
+                total, carry = addends[0], None
+            row.append(total)
+        top = carry
+    circuit.outputs += row + ([] if top is None else [top])
+    circuit.diagnose(1 if bits < 4 else 2, choices)
     return problem
 
 
@@ -272,8 +353,180 @@ def colour_vertex(size, choices):
     return problem
 
 
-FAMILIES = {"chain": chain, "random": random_cnf, "feature": feature, "adder": adder, "colour": colour,
-            "colour-vertex": colour_vertex}
+KINDS = ["number", "text", "truth"]
+TYPES = [(kind, listed) for kind in KINDS for listed in (False, True)]
+
+
+def statement_types(what, choices):
+    """The types of the names in a right statement of this sort."""
+    kind = choices.one_of(KINDS)
+    some = choices.one_of(TYPES)
+    one, many, number = (kind, False), (kind, True), ("number", False)
+    addend = choices.one_of([number, ("text", False)])
+    return {"constant": [one], "copy": [some, some], "add": [addend] * 3, "list": [many, one, one],
+            "item": [one, many, number], "if": [("truth", False), some, some]}[what]
+
+
+def statement_clauses(what, names, types):
+    """What a statement says of its names, which have a variable for each kind, and one that tells lists."""
+    def same(a, b):
+        return [clause for x, y in zip(a, b) for clause in ([-x, y], [x, -y])]
+
+    def plain(name, *kinds):
+        return [[name[KINDS.index(kind)] for kind in kinds], [-name[3]]]
+
+    first, second, third = [*names, None, None][:3]
+    if what == "constant":   # first = 3
+        return plain(first, types[0][0])
+    if what == "copy":       # first = second
+        return same(first, second)
+    if what == "add":        # first = second + third, of numbers or texts
+        return [*same(first, second), *same(first, third), *plain(first, "number", "text")]
+    if what == "list":       # first = [second, third]
+        return [*same(second, third), *same(first[:3], second[:3]), [first[3]], [-second[3]]]
+    if what == "item":       # first = second[third]
+        return [*same(first[:3], second[:3]), [-first[3]], [second[3]], *plain(third, "number")]
+    return [*plain(first, "truth"), *same(second, third)]   # if first { second = third }
+
+
+def types(size, choices):
+    """Half as many names as statements. The names of a wrong statement, one in twenty, are any."""
+    problem = Problem()
+    kept = {kind: [] for kind in TYPES}
+    for at in range(max(len(TYPES), size // 2)):
+        name = [problem.variable() for _ in [*KINDS, "list"]]
+        problem.always(name[:3], *[[-a, -b] for a, b in combinations(name[:3], 2)])
+        kept[TYPES[at] if at < len(TYPES) else choices.one_of(TYPES)].append(name)
+    everyone = [name for names in kept.values() for name in names]
+    sorts = ["constant", "copy", "copy", "add", "list", "item", "if"]
+    wrong = set(choices.some_of(range(size), 1 + size // 20))
+    for at in range(size):
+        what = choices.one_of(sorts)
+        wanted = statement_types(what, choices)
+        names = [choices.one_of(everyone if at in wrong else kept[kind]) for kind in wanted]
+        problem.group(*statement_clauses(what, names, wanted))
+    return problem
+
+
+def net(size, choices):
+    """Packages, each of which needs one or two earlier ones; some are wished for, and some clash.
+
+    Some needs are met by either of two versions, which need the same package. Each clash is between packages that two
+    wishes need in the end, so a conflict has a way from each wish to its package. Most groups are in no conflict.
+    """
+    problem = Problem()
+    clashes = 1 if size < 40 else 2
+    below = []   # the places of the packages that each package needs
+    packages = []
+    while (left := size - 3 * clashes - problem.groups) > 0:
+        package = problem.variable()
+        needs = choices.distinct(range(len(packages)), min(len(packages), left, choices.one_of([1, 1, 2])))
+        for place in needs:
+            versions = [problem.variable() for _ in range(2)] if choices.happens(0.3) else [packages[place]]
+            problem.group([-package, *versions])
+            if len(versions) > 1:
+                problem.always(*[[-version, packages[place]] for version in versions])
+        packages.append(package)
+        below.append(needs)
+    late = range(len(packages) * 2 // 3, len(packages))
+    for _ in range(clashes):
+        clash = []
+        for wish in choices.distinct(late, 2):
+            problem.group([packages[wish]])
+            clash.append(-packages[choices.one_of(closure(wish, below)[1:])])
+        problem.group(clash)
+    return problem
+
+
+def closure(place, below):
+    """A place and all those below it, in the order of a walk that goes on by each once."""
+    found = {place: True}
+    waiting = [place]
+    while waiting:
+        for other in below[waiting.pop()]:
+            if other not in found:
+                found[other] = True
+                waiting.append(other)
+    return list(found)
+
+
+class Square:
+    """Places in a square, with roads between neighbours."""
+
+    def __init__(self, side):
+        self.side = side
+        self.places = range(side * side)
+
+    def far(self, a, b):
+        return abs(a // self.side - b // self.side) + abs(a % self.side - b % self.side)
+
+    def near(self, place):
+        return [other for other in self.places if self.far(place, other) <= 1]
+
+
+def plan(size, choices):
+    """Parcels that move to a neighbour or stay, each with a stop half way and one at the end.
+
+    That a parcel is in one place at a time, and where it begins, is the background. That it comes to a place at a time only
+    from there or from near it, and each stop, is a group. Of one parcel, from 100 groups on of two, the stops lie too far
+    apart. A correction gives up a stop of each of these, or lets it come to a place from nowhere.
+    """
+    problem = Problem()
+    side = 2 if size < 76 else 3 if size < 404 else 5
+    square, half = Square(side), side - 1
+    moves = 2 * half
+    parcels = max(1, round(size / (moves * len(square.places) + 2)))
+    late = set(choices.some_of(range(parcels), 1 if size < 100 else 2))
+    for parcel in range(parcels):
+        at = [[problem.variable() for _ in square.places] for _ in range(moves + 1)]
+        for here in at:
+            problem.always(*[[-a, -b] for a, b in combinations(here, 2)])
+        way = [choices.one_of(square.places)]
+        for _ in range(moves):
+            way.append(choices.one_of(square.near(way[-1])))
+        if parcel in late:
+            apart = [pair for pair in combinations(square.places, 2) if square.far(*pair) > half]
+            way[half], way[moves] = choices.one_of(apart)
+            way[0] = choices.one_of([place for place in square.places if square.far(place, way[half]) <= half])
+        problem.always([at[0][way[0]]])
+        for move in range(1, moves + 1):
+            for place in square.places:
+                problem.group([-at[move][place], *[at[move - 1][other] for other in square.near(place)]])
+        problem.group([at[half][way[half]]])
+        problem.group([at[moves][way[moves]]])
+    return problem
+
+
+def pigeon(size, choices):
+    """One or two pigeons more than holes. Above 20 groups no solver refutes that soon."""
+    problem = Problem()
+    pigeons = size // 2 + 1
+    sits = [[problem.variable() for _ in range(size - pigeons)] for _ in range(pigeons)]
+    for holes in sits:
+        problem.group(choices.shuffled(holes))
+    for hole in zip(*sits):
+        problem.group(*[[-a, -b] for a, b in combinations(choices.shuffled(hole), 2)])
+    return problem
+
+
+def parity(size, choices):
+    """So many equations that at least four of them follow from the others, but for their right sides.
+
+    A conflict is a set of equations whose left sides add up to 0 and whose right sides to 1. Above 50 groups no solver
+    refutes one soon.
+    """
+    problem = Problem()
+    variables = [problem.variable() for _ in range(size - 4)]
+    for _ in range(size):
+        a, b, c = choices.distinct(variables, 3)
+        odd = 1 if choices.happens(0.5) else -1
+        problem.group([odd * a, b, c], [odd * a, -b, -c], [-odd * a, b, -c], [-odd * a, -b, c])
+    return problem
+
+
+FAMILIES = {"chain": chain, "random": random_cnf, "dense": dense, "feature": feature, "adder": adder,
+            "multiplier": multiplier, "colour": colour, "colour-vertex": colour_vertex, "types": types, "net": net,
+            "plan": plan, "pigeon": pigeon, "parity": parity}
 
 
 def main():
