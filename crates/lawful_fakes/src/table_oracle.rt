@@ -1,15 +1,16 @@
 //! An oracle that knows its answers.
-ghost use Rattle.std.specs.Prelude.{◌≡◌, ℕ, true, IfOk, IfSome, IsSome, OnErr, List, Some, None};
+ghost use Rattle.std.specs.Prelude.{◌≡◌, ◌++◌, ◌∷◌, [], ℕ, true, OnOk, IfOk, IfSome, IsSome, OnErr, List, Some, None};
 ghost use Rattle.std.specs.List.{AllByRecursion};
 ghost use Rattle.gm_base.specs.Sets.{IsSubset, all_groups};
 ghost use Rattle.gm_base.specs.Problem.{IsClause};
 ghost use Rattle.gm_base.specs.Evidence.{refutes, is_witness, with_selector};
+ghost use Rattle.lrat_steps.specs.Log.{Input};
 ghost use Rattle.evidence_rec.specs.Records.{IsAccepted};
 ghost use Rattle.evidence_rec.specs.Asking.{OracleState, TellsAsked, IsSpent, IsHonestOver, refuted_by, asked_once};
 ghost use Rattle.lawful_fakes.specs.Table.{IsRefutation};
 
 use evidence_rec::{Asked, Oracle, Record, Records, Witnesses};
-use gm_base::{Assign, Clause, Derivation, GroupSet, Lit, Lits, Problem, Purse};
+use gm_base::{Assign, Clause, Derivation, GroupSet, Lit, Problem, Purse, write_with_selector};
 use lrat_steps::{Log, LogStep};
 use std::alloc::{AllocError, Global};
 use std::marker::Model;
@@ -194,23 +195,24 @@ fn input_log(alloc: Global, problem: &Problem) -> Result<Log, AllocError>
     ensures { IfOk result (IsHonestOver problem.now) }
 {
     let mut log = Log::new(alloc);
+    let mut lits = Vec::new(alloc);
     for at in 0..problem.len() {
-        let lits = selector_lits(alloc, problem, problem.clause(at))?;
-        log.push(LogStep::Input(lits.as_slice()))?;
+        push_clause(&mut log, &mut lits, problem, problem.clause(at))?;
     }
     Ok(log)
 }
 
-// The clause with "or its group is left out".
-fn selector_lits(alloc: Global, problem: &Problem, clause: &Clause) -> Result<Lits, AllocError>
+// Tells the log of a clause, by way of a list that is used for each.
+fn push_clause(
+    log: &mut Log,
+    lits: &mut Vec<Lit>,
+    problem: &Problem,
+    clause: &Clause,
+) -> Result<(), AllocError>
     requires { IsClause problem.now.vars problem.now.groups clause.now }
-    ensures { IfOk result (λ lits. lits ≡ with_selector problem.now clause.now) }
+    ensures { OnOk result (log.new ≡ log.old ++ Input (with_selector problem.now clause.now) ∷ []) }
 {
-    let _groups = problem.groups();
-    let mut lits = Lits::from_slice(alloc, clause.lits.as_slice())?;
-    if clause.group > 0 {
-        let selector = problem.vars() + clause.group;
-        lits.push(Lit::new(-(selector as i32)))?;
-    }
-    Ok(lits)
+    write_with_selector(lits, problem, clause)?;
+    log.push(LogStep::Input(lits.as_slice()))?;
+    Ok(())
 }
