@@ -16,8 +16,6 @@
 #![tactic(auto)]
 
 mod bounds_line;
-#[cfg(test)]
-mod core_tests;
 mod ending;
 mod enumeration;
 mod error_line;
