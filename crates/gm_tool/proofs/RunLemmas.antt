@@ -1,5 +1,5 @@
 -- What is said of a named file, said of the file that the words name.
-use Rattle.std.proofs.Common.{◌≡◌, ℕ, List, Option, Some, sym, subst}
+use Rattle.std.proofs.Common.{◌≡◌, ℕ, List, Option, Some, subst}
 use Rattle.gm_base.specs.Problem.{Problem}
 use Rattle.gm_ports.specs.FilesState.{FilesState}
 use Rattle.gm_words.specs.Reading.{Asked}

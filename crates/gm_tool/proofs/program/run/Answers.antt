@@ -1,4 +1,4 @@
-use Rattle.std.proofs.Common.{◌≡◌, ◌∙◌, map, Some, sym, ap, subst, option_map, Option, List, ℕ, arith}
+use Rattle.std.proofs.Common.{◌∙◌, map, sym, ap, subst, option_map, arith}
 use Rattle.std.specs.String.{string_bytes}
 use Rattle.std.proofs.lemmas.Bool.{false≢true}
 use Rattle.gcnf_text.specs.Read.{IsRefused}
