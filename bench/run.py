@@ -8,9 +8,13 @@ list has a limit: each program then stops at so many sets, which need not be the
 
 Reports are compared: two complete ones have to be equal, and others have to fit (agree.py). Where they don't, or where
 a program fails, the run says so, keeps the files, and ends with 1.
+
+Below the table stand the geometric mean and the worst of the ratios to the quickest baseline, over the problems that gmus
+and a baseline both end.
 """
 import argparse
 import datetime
+import math
 import os
 import platform
 import select
@@ -37,18 +41,32 @@ small  chain          300   1  -
 small  random         12    1  -
 small  random         20    1  -
 small  random         30    1  -
+small  dense          20    2  -
+small  dense          30    2  -
 small  feature        40    1  -
 small  feature        300   1  -
 small  feature        600   1  -
 small  adder          20    1  -
 small  adder          200   2  -
 small  adder          400   1  -
+small  multiplier     30    1  -
+small  multiplier     64    4  -
 small  colour         20    1  -
 small  colour         40    1  -
 small  colour         60    1  -
 small  colour-vertex  20    1  -
 small  colour-vertex  100   1  -
 small  colour-vertex  300   1  -
+small  types          20    2  -
+small  types          40    1  -
+small  net            40    1  -
+small  net            300   1  -
+small  plan           80    1  -
+small  plan           400   2  -
+small  pigeon         10    1  -
+small  pigeon         13    1  -
+small  parity         12    1  -
+small  parity         20    1  -
 middle chain          1000  1  -
 middle chain          4000  1  1000
 middle chain          16000 1  20
@@ -56,17 +74,37 @@ middle random         34    1  -
 middle random         40    1  -
 middle random         60    1  1000
 middle random         100   1  100
+middle dense          36    1  -
 middle feature        2000  2  -
 middle feature        4000  1  -
 middle feature        16000 1  200
 middle adder          600   2  -
 middle adder          2000  2  -
 middle adder          16000 1  -
+middle multiplier     64    1  -
+middle multiplier     64    3  -
 middle colour         70    1  -
 middle colour         300   1  1000
 middle colour         4000  1  200
 middle colour-vertex  1000  1  1000
 middle colour-vertex  4000  1  200
+middle types          60    4  -
+middle types          60    5  -
+middle net            1000  1  -
+middle net            16000 2  200
+middle plan           16000 1  -
+middle pigeon         16    1  -
+middle parity         30    1  -
+middle parity         40    2  -
+big    dense          46    9  -
+big    dense          46    6  48000
+big    adder          1600  1  -
+big    multiplier     110   7  50000
+big    types          60    3  10000
+big    net            4000  1  -
+big    net            16000 2  -
+big    pigeon         18    1  -
+big    parity         50    1  -
 """.strip().splitlines()]
 
 
@@ -126,16 +164,25 @@ def seconds_text(seconds):
     return f"{seconds:.3f}" if seconds < 1 else f"{seconds:.2f}" if seconds < 10 else f"{seconds:.1f}"
 
 
+def both_end(results):
+    """The seconds of gmus by those of the best baseline that came to the same end, or None."""
+    ours = results.get("gmus")
+    if ours is None or ours.status not in ("complete", "limit"):
+        return None
+    same = [result.seconds for name, result in results.items() if name != "gmus" and result.status == ours.status]
+    return ours.seconds / min(same) if same else None
+
+
 def ratio(results):
-    """The seconds of gmus by those of the best baseline that did the same; a bound where only one came to an end."""
+    """What both_end gives, as text; a bound where only one side came to an end."""
     baselines = [result for name, result in results.items() if name != "gmus"]
     if "gmus" not in results or not baselines:
         return "-"
     ours = results["gmus"]
-    same = [result.seconds for result in baselines if result.status == ours.status]
     if ours.status in ("complete", "limit"):
-        if same:
-            return f"{ours.seconds / min(same):.2g}"
+        exact = both_end(results)
+        if exact is not None:
+            return f"{exact:.2g}"
         slow = [result.seconds for result in baselines if result.status == "time"]
         return f"< {ours.seconds / min(slow):.2g}" if len(slow) == len(baselines) else "-"
     ended = [result.seconds for result in baselines if result.status in ("complete", "limit")]
@@ -147,6 +194,7 @@ class Bench:
         self.given = given
         self.folder = folder
         self.faults = 0
+        self.ratios = []   # of each problem that both sides end, with its name
         self.programs = build_baselines()
         if given.gmus:
             self.programs = {"gmus": os.path.abspath(given.gmus), **self.programs}
@@ -204,6 +252,9 @@ class Bench:
             _, _, _, clauses, groups = lines.readline().split()
         results = {name: self.measure(name, problem, file) for name in self.programs}
         last = ratio(results) if self.agree(file, results) else "REPORTS DIFFER"
+        exact = both_end(results)
+        if exact is not None:
+            self.ratios.append((exact, f"{problem.family} {problem.size} {problem.seed}"))
         cells = [problem.kind, problem.family, problem.size, problem.seed, groups, clauses, problem.limit]
         for result in results.values():
             small = result.megabytes < 1.1 * self.floor
@@ -220,6 +271,15 @@ class Bench:
         put_row(["---"] * len(heads))
         for problem in problems:
             put_row(self.row(problem))
+
+    def summary(self):
+        """The mean and the worst ratio, in one line."""
+        if not self.ratios:
+            return "No problem is ended by both gmus and a baseline."
+        mean = math.exp(sum(math.log(exact) for exact, _ in self.ratios) / len(self.ratios))
+        worst, where = max(self.ratios)
+        return (f"Of the problems, gmus and a baseline both end {len(self.ratios)}. There the geometric mean of gmus / best "
+                f"is {mean:.2g}, the worst {worst:.2g} ({where}).")
 
 
 def put_row(cells):
@@ -243,12 +303,14 @@ def main():
     words = argparse.ArgumentParser(description=__doc__, formatter_class=argparse.RawDescriptionHelpFormatter)
     words.add_argument("--gmus", metavar="PROGRAM", help="the program; without it the baselines run alone")
     words.add_argument("--time", type=float, default=20, metavar="SECONDS", help="for a program and a problem (20)")
-    words.add_argument("--only", metavar="WORD", help="problems of this kind (small, middle) or family")
+    words.add_argument("--only", metavar="WORD", help="problems of this kind (small, middle, big) or family; big ones "
+                       "run only where they are named")
     words.add_argument("--repeat", type=int, default=1, metavar="N", help="runs, of which the quickest counts (1)")
     words.add_argument("--cpu", action="store_true", help="count seconds of the processor, not of the clock")
     words.add_argument("--keep", metavar="FOLDER", help="where problems and reports are to stay")
     given = words.parse_args()
-    problems = [problem for problem in PROBLEMS if given.only in (None, problem.kind, problem.family)]
+    problems = [problem for problem in PROBLEMS if given.only == problem.kind
+                or problem.kind != "big" and given.only in (None, problem.family)]
     if not problems or given.time <= 0 or given.repeat < 1:
         words.error("nothing to run")
     if given.gmus and not os.access(given.gmus, os.X_OK):
@@ -262,6 +324,8 @@ def main():
         print(f"{machine()}; {given.time:g} s for a program and a problem; "
               f"{'processor' if given.cpu else 'wall'} seconds, the quickest of {given.repeat}.\n", flush=True)
         bench.table(problems)
+        if given.gmus:
+            print(f"\n{bench.summary()}", flush=True)
         if bench.wall > 1.2 * bench.cpu + 1:
             print(f"The machine was busy: {bench.cpu:.0f} s of work took {bench.wall:.0f} s.", file=sys.stderr)
         if bench.faults:
