@@ -498,7 +498,7 @@ def plan(size, choices):
 
 
 def pigeon(size, choices):
-    """One or two pigeons more than holes. Above 20 groups no solver refutes that soon."""
+    """One or two pigeons more than holes. Above 20 groups no solver by clauses refutes that soon."""
     problem = Problem()
     pigeons = size // 2 + 1
     sits = [[problem.variable() for _ in range(size - pigeons)] for _ in range(pigeons)]
@@ -512,8 +512,8 @@ def pigeon(size, choices):
 def parity(size, choices):
     """So many equations that at least four of them follow from the others, but for their right sides.
 
-    A conflict is a set of equations whose left sides add up to 0 and whose right sides to 1. Above 50 groups no solver
-    refutes one soon.
+    A conflict is a set of equations whose left sides add up to 0 and whose right sides to 1. Refutations are hard from some
+    200 groups on; below, it is the corrections that are many.
     """
     problem = Problem()
     variables = [problem.variable() for _ in range(size - 4)]
