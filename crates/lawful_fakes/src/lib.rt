@@ -5,7 +5,8 @@
 //! `MapEngine` ask for. Where the table or the script has no right answer they answer want of memory, which a caller has
 //! to expect at each call. [`checked`] tells whether the evidence of a record that a test wrote shows what it says.
 //!
-//! The module `example` has a problem of four clauses with its records, for tables of tests.
+//! The module `example` has a problem of four clauses with its records. The tests of `shrink`, `grow` and `MapCore` over the
+//! two stand here, so that no crate of the program stands on this one.
 //!
 //! Neither answers Dry: for that a search has to stand before a conflict, and they search for nothing.
 #![tactic(auto)]
@@ -15,6 +16,8 @@ mod evidence;
 pub mod example;
 mod scripted_map;
 mod table_oracle;
+#[cfg(test)]
+mod tests;
 
 pub use evidence::{Lacking, checked};
 pub use scripted_map::ScriptedMap;

@@ -30,8 +30,6 @@ pub mod laws;
 mod open;
 mod regrant;
 mod replies;
-#[cfg(test)]
-mod tests;
 mod turn;
 
 pub use calls::MapCore;

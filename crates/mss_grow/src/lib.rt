@@ -17,8 +17,6 @@
 mod addition;
 mod grown;
 mod growth;
-#[cfg(test)]
-mod tests;
 
 pub use addition::grow;
 pub use grown::Grown;

@@ -18,8 +18,6 @@
 mod candidate;
 mod deletion;
 mod shrunk;
-#[cfg(test)]
-mod tests;
 
 pub use deletion::shrink;
 pub use shrunk::Shrunk;

@@ -2,11 +2,11 @@
 ghost use Rattle.std.specs.Prelude.{◌≡◌, ◌<◌, ◌≤◌, IfOk};
 ghost use Rattle.evidence_rec.specs.Records.{IsAccepted};
 
-use super::*;
+use crate::example::{conflict, correction, derivation, four_clauses, set_of};
+use crate::{Lacking, ScriptedMap};
 use evidence_rec::{Record, Records};
 use gm_base::{Derivation, GroupSet, Problem};
-use lawful_fakes::example::{conflict, correction, derivation, four_clauses, set_of};
-use lawful_fakes::{Lacking, ScriptedMap};
+use map_core::{MapCore, Posted, Refilled, Taken, Verdict};
 use sat_base::Row;
 use std::alloc::Global;
 use std::process::Abort;

@@ -2,11 +2,11 @@
 ghost use Rattle.std.specs.Prelude.{◌≡◌, IfOk};
 ghost use Rattle.gm_base.specs.Sets.{IsSubset, all_groups};
 
-use super::*;
+use crate::example::{assignments, conflict, four_clauses, set_of};
+use crate::{Lacking, TableOracle};
 use evidence_rec::{Asked, Oracle};
 use gm_base::{GroupSet, Problem, Purse};
-use lawful_fakes::example::{assignments, conflict, four_clauses, set_of};
-use lawful_fakes::{Lacking, TableOracle};
+use mss_grow::{Grown, grow};
 use std::alloc::{AllocError, Global};
 use std::test::Fail;
 
