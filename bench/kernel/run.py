@@ -51,13 +51,14 @@ def build_ours(folder, checkout):
     with open(os.path.join(copy, "crates.txt"), "a") as crates:
         crates.write("kernel: sat_base clause_store trail_book propagate\n")
     log = os.path.join(folder, "build.log")
-    print(f"building propagate, see {log}", file=sys.stderr)
+    print(f"building propagate, which takes some minutes; its log is {log}", file=sys.stderr)
     with open(log, "w") as out:
         subprocess.run(["rt", "run"], cwd=crate, env={**os.environ, "RT_ALLOW_C": "kernel", "KERNEL": "8,1,1"},
                        stdin=subprocess.DEVNULL, stdout=out, stderr=out)
     program = os.path.join(crate, "out", "kernel")
     if not os.path.exists(program):
-        sys.exit(f"propagate can't be built, see {log}")
+        with open(log) as lines:
+            sys.exit("".join(["propagate can't be built:\n", *lines.readlines()[-20:]]))
     shutil.copy(program, os.path.join(folder, "gmus"))
     return "gmus"
 
@@ -99,7 +100,7 @@ def main():
     words.add_argument("--folder", help="where the programs are to stay, a new one")
     words.add_argument("--from", dest="checkout", default=os.path.dirname(os.path.dirname(HERE)), metavar="CHECKOUT",
                        help="whose last commit is measured, this one without it")
-    words.add_argument("--c-alone", action="store_true", help="leave propagate out, which takes some minutes to build")
+    words.add_argument("--c-alone", action="store_true", help="leave propagate out")
     given = words.parse_args()
     folder = given.folder or tempfile.mkdtemp(prefix="gmus-kernel-")
     os.makedirs(folder, exist_ok=True)
