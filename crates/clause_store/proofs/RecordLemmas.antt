@@ -10,23 +10,23 @@ use Rattle.clause_store.specs.Inner.{cut_by, IsWithin}
 use Rattle.clause_store.specs.declared.store.ClauseRecord.{ClauseRecord}
 
 -- a record within the old literals cuts the same from the longer list
-cut_before : (ls ms : List ℤ) (r : ClauseRecord) → IsWithin (length ls) r → cut_by (ls ++ ms) r ≡ cut_by ls r
-cut_before ls ms r w =
+cut_before : (vars last : ℕ) (ls ms : List ℤ) (r : ClauseRecord) → IsWithin vars (length ls) last r → cut_by (ls ++ ms) r ≡ cut_by ls r
+cut_before vars last ls ms r w =
     ap (λ (cut : List ℤ). record { lits = cut; live = r.live }) (range_before ls ms r.start r.end w.ordered w.within)
 
 -- so the clauses that were there stay
-cuts_before : (ls ms : List ℤ) (records : List ClauseRecord) → All (IsWithin (length ls)) records → map (cut_by (ls ++ ms)) records ≡ map (cut_by ls) records
-cuts_before ls ms [] w = refl
-cuts_before ls ms (r ∷ records) w =
-    ap₂ ◌∷◌ (cut_before ls ms r (w 0 r (omega arith))) (cuts_before ls ms records (λ k d h. w (suc k) d (omega arith)))
+cuts_before : (vars last : ℕ) (ls ms : List ℤ) (records : List ClauseRecord) → All (IsWithin vars (length ls) last) records → map (cut_by (ls ++ ms)) records ≡ map (cut_by ls) records
+cuts_before vars last ls ms [] w = refl
+cuts_before vars last ls ms (r ∷ records) w =
+    ap₂ ◌∷◌ (cut_before vars last ls ms r (w 0 r (omega arith))) (cuts_before vars last ls ms records (λ k d h. w (suc k) d (omega arith)))
 
 -- and the record of what was added cuts just that
-pub cuts_after_add : (ls ms : List ℤ) (records : List ClauseRecord) (r : ClauseRecord)
-    → All (IsWithin (length ls)) records → r.start ≡ length ls → r.end ≡ length (ls ++ ms)
+pub cuts_after_add : (vars last : ℕ) (ls ms : List ℤ) (records : List ClauseRecord) (r : ClauseRecord)
+    → All (IsWithin vars (length ls) last) records → r.start ≡ length ls → r.end ≡ length (ls ++ ms)
     → map (cut_by (ls ++ ms)) (records ++ r ∷ []) ≡ map (cut_by ls) records ++ record { lits = ms; live = r.live } ∷ []
-cuts_after_add ls ms records r w starts ends =
+cuts_after_add vars last ls ms records r w starts ends =
     map_push (cut_by (ls ++ ms)) records r
-    ∙ ap₂ (λ (xs : List StoredClause) (cut : List ℤ). xs ++ record { lits = cut; live = r.live } ∷ []) (cuts_before ls ms records w) (rw starts (range_at_end ls ms r.end ends))
+    ∙ ap₂ (λ (xs : List StoredClause) (cut : List ℤ). xs ++ record { lits = cut; live = r.live } ∷ []) (cuts_before vars last ls ms records w) (rw starts (range_at_end ls ms r.end ends))
 
 pub by_recursion : {X : Type 0} (P : X → Type 0) (xs : List X) → All P xs → AllByRecursion P xs
 by_recursion P [] h = tt

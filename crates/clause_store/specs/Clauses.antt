@@ -1,11 +1,19 @@
--- What a clause store is to its callers: its clauses in the order in which they came, and how much it can take with no more
--- memory.
-use Rattle.std.specs.Prelude.{ℕ, ◌-◌, ◌≤◌, ◌<◌, List, [], false, length, slice_index_or}
+-- What a clause store is to its callers: its clauses in the order in which they came, what they watch, the lists of those
+-- that watch a literal, and how much it can take with no more memory.
+use Rattle.std.specs.Prelude.{ℕ, ◌-◌, ◌≤◌, ◌<◌, List, [], false, ℤ, Option, length, slice_index_or}
 use Rattle.sat_base.specs.Database.{StoredClause}
 
 pub record Clauses : Type 0 where
   pub vars : ℕ
   pub clauses : List StoredClause
+  -- by clause, from id 1 on: the two literals that it watches, and the clause behind it in the list of each, or 0
+  pub watched : List (Option (ℤ × ℤ))
+  pub nexts : List (List ℕ)
+  -- by literal: the first clause of its list and the last one, or 0
+  pub heads : List ℕ
+  pub tails : List ℕ
+  -- a clause that is false at level 0, or 0
+  pub false_id : ℕ
   -- how many more clauses fit
   pub room : ℕ
   -- how many more literals fit

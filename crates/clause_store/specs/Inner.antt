@@ -1,5 +1,5 @@
 -- How a store lays its clauses out.
-use Rattle.std.specs.Prelude.{ℕ, ℤ, ◌-◌, ◌^◌, ◌<◌, ◌≤◌, List, map, All, vec_len, vec_capacity, slice_range, length, min}
+use Rattle.std.specs.Prelude.{true, ◌≡◌, ℕ, ℤ, ◌+◌, ◌-◌, ◌*◌, ◌^◌, ◌<◌, ◌≤◌, List, map, All, vec_len, vec_capacity, slice_range, slice_index_or, length, min, pos, Option, Some, None, if◌then◌else◌}
 use Rattle.sat_base.specs.Literals.{IsLiteral}
 use Rattle.sat_base.specs.Database.{StoredClause}
 use Rattle.clause_store.specs.Clauses.{Clauses}
@@ -10,9 +10,18 @@ use Rattle.clause_store.specs.declared.store.Store.TheInside.{Inside}
 abbrev pub cut_by : List ℤ → ClauseRecord → StoredClause
 cut_by lits r = record { lits = slice_range lits r.start r.end; live = r.live }
 
-pub record IsWithin (count : ℕ) (r : ClauseRecord) : Type 0 where
+-- what a record watches
+abbrev pub watched_by : ClauseRecord → Option (ℤ × ℤ)
+watched_by r = if r.is_watched then Some (slice_index_or r.watched 0 (pos 0), slice_index_or r.watched 1 (pos 0)) else None
+
+-- its places are among so many literals, its watched literals over the variables, its links among so many ids
+pub record IsWithin (vars count last : ℕ) (r : ClauseRecord) : Type 0 where
   pub ordered : r.start ≤ r.end
   pub within : r.end ≤ count
+  pub watched : r.is_watched ≡ true → All (IsLiteral vars) r.watched
+  pub next : All (λ id. id ≤ last) r.next
+  pub two_watched : length r.watched ≡ 2
+  pub two_next : length r.next ≡ 2
 
 -- the greatest number of clauses, and of literals, that the records can count
 abbrev pub most : ℕ
@@ -26,6 +35,11 @@ store_of a =
     record {
       vars = a.vars;
       clauses = clauses_of a;
+      watched = map watched_by a.records.items;
+      nexts = map (λ r. r.next) a.records.items;
+      heads = a.heads.items;
+      tails = a.tails.items;
+      false_id = a.false_id;
       room = min (vec_capacity a.records) most - vec_len a.records;
       literal_room = min (vec_capacity a.lits) most - vec_len a.lits;
     }
@@ -33,6 +47,10 @@ store_of a =
 pub record IsLaidOut (a : Inside) : Type 0 where
   pub small : a.vars < 2 ^ 31
   pub over : All (IsLiteral a.vars) a.lits.items
-  pub within : All (IsWithin (length a.lits.items)) a.records.items
+  pub within : All (IsWithin a.vars (length a.lits.items) (length a.records.items)) a.records.items
   pub counted : vec_len a.records ≤ most
   pub lits_counted : vec_len a.lits ≤ most
+  pub a_head_each : length a.heads.items ≡ 2 * a.vars + 2
+  pub a_tail_each : length a.tails.items ≡ 2 * a.vars + 2
+  pub heads : All (λ id. id ≤ length a.records.items) a.heads.items
+  pub tails : All (λ id. id ≤ length a.records.items) a.tails.items

@@ -12,6 +12,7 @@
 //! Start reading at `specs/Clauses.antt`. Which clauses follow from which is not told here: that is the log's.
 #![tactic(auto)]
 
+mod links;
 mod store;
 #[cfg(test)]
 mod tests;

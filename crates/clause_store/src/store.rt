@@ -4,11 +4,17 @@
 //! its own begin and end. So a visit to a clause touches one record and one stretch of literals, and an id is a place:
 //! it is found without a search. A clause that is not live is kept because hints name it; propagation passes it by.
 //!
-//! Places in the list of literals are kept in 32 bits. A store that would outgrow them answers want of memory.
-ghost use Rattle.std.specs.Prelude.{◌≡◌, ◌+◌, ◌<◌, ◌≤◌, ◌^◌, ◌++◌, ◌∷◌, [], length, IfOk, OnOk, OnErr, IsOk};
+//! A clause may watch two literals. The clauses that watch a literal form a list, which is threaded through the records:
+//! each record has a link for each of its two watched literals, and a table by literal has the first and the last clause
+//! of each list. By which link a list goes on is told by the watched literals. So a watch moves with no memory taken, and
+//! where the other watched literal decides, a visit touches the record alone (`links.rt`).
+//!
+//! Places in the list of literals and ids are kept in 32 bits. A store that would outgrow them answers want of memory.
+ghost use Rattle.std.specs.Prelude.{◌≡◌, ℕ, ℤ, ◌+◌, ◌<◌, ◌≤◌, ◌^◌, ◌++◌, ◌∷◌, [], None, length, IfOk, OnOk, OnErr, IsOk};
 ghost use Rattle.sat_base.specs.Literals.{AreLiterals};
 ghost use Rattle.sat_base.specs.Database.{AreOver};
 ghost use Rattle.clause_store.specs.Clauses.{clause_at, IsId, HasRoomFor};
+ghost use Rattle.clause_store.specs.Links.{watched_at, next_of, head_of, tail_of, KeepsLinks};
 
 use sat_base::Lit;
 use std::alloc::{AllocError, Global};
@@ -17,20 +23,30 @@ use std::marker::Model;
 // The greatest number of clauses, and of literals.
 const MOST: usize = 4_294_967_295;
 
-/// Where the literals of a clause stand, and whether it is live.
+/// Where the literals of a clause stand, what it watches and which clauses come next in the lists of those literals, and
+/// whether it is live. It has 32 bytes. An id 0 stands for none.
 #[derive(Clone, Copy)]
-struct ClauseRecord {
-    start: u32,
-    end: u32,
-    live: bool,
+pub(crate) struct ClauseRecord {
+    pub start: u32,
+    pub end: u32,
+    pub watched: [Lit; 2],
+    pub next: [u32; 2],
+    /// Kept for a place in the clause at which a search for a literal is to begin.
+    pub position: u32,
+    pub live: bool,
+    pub is_watched: bool,
 }
 
-/// Clauses under ids from 1, each live or not.
+/// Clauses under ids from 1, each live or not, and for each literal a list of those that watch it.
 #[derive(Drop)]
 pub struct Store {
-    vars: u32,
-    lits: Vec<Lit>,
-    records: Vec<ClauseRecord>,
+    pub(crate) vars: u32,
+    pub(crate) lits: Vec<Lit>,
+    pub(crate) records: Vec<ClauseRecord>,
+    // By literal, in two rows for each variable.
+    pub(crate) heads: Vec<u32>,
+    pub(crate) tails: Vec<u32>,
+    pub(crate) false_id: u64,
 }
 
 impl Model for Store {
@@ -51,11 +67,20 @@ impl Store {
         requires { vars < 2 ^ 31 }
         ensures vars { IfOk result (λ store. store.vars ≡ vars) }
         ensures clauses { IfOk result (λ store. store.clauses ≡ []) }
+        ensures watched { IfOk result (λ store. (id : ℕ) → watched_at store id ≡ None) }
+        ensures nexts { IfOk result (λ store. (node : ℕ) → next_of store node ≡ 0) }
+        ensures heads { IfOk result (λ store. (lit : ℤ) → head_of store lit ≡ 0) }
+        ensures tails { IfOk result (λ store. (lit : ℤ) → tail_of store lit ≡ 0) }
+        ensures false_id { IfOk result (λ store. store.false_id ≡ 0) }
     {
+        let rows = 2 * vars as usize + 2;
         Ok(Store {
             vars,
             lits: Vec::new(alloc),
             records: Vec::new(alloc),
+            heads: vec![in alloc; 0u32; rows]?,
+            tails: vec![in alloc; 0u32; rows]?,
+            false_id: 0,
         })
     }
 
@@ -69,7 +94,8 @@ impl Store {
 
     /// How many clauses it has, which is the id of the last one.
     pub fn len(&self) -> u64
-        ensures { result ≡ length self.now.clauses }
+        ensures len { result ≡ length self.now.clauses }
+        ensures small { result < 2 ^ 32 }
     {
         self.records.len() as u64
     }
@@ -79,6 +105,9 @@ impl Store {
         ensures ok { OnOk result (HasRoomFor self.new count literals) }
         ensures vars { self.new.vars ≡ self.old.vars }
         ensures clauses { self.new.clauses ≡ self.old.clauses }
+        ensures links { KeepsLinks self.old self.new }
+        ensures room { self.old.room ≤ self.new.room }
+        ensures literal_room { self.old.literal_room ≤ self.new.literal_room }
     {
         if count > (MOST - self.records.len()) as u64 {
             return Err(AllocError);
@@ -98,6 +127,7 @@ impl Store {
         ensures succeeds { HasRoomFor self.old 1 (length lits.now) → IsOk result }
         ensures err { OnErr result (self.new.clauses ≡ self.old.clauses) }
         ensures vars { self.new.vars ≡ self.old.vars }
+        ensures links { KeepsLinks self.old self.new }
         ensures room { self.old.room ≤ self.new.room + 1 }
         ensures literal_room { self.old.literal_room ≤ self.new.literal_room + length lits.now }
     {
@@ -108,8 +138,15 @@ impl Store {
         self.records.reserve(1)?;
         self.lits.extend_from_slice(lits)?;
         let end = self.lits.len() as u32;
-        self.records
-            .push_reserved(ClauseRecord { start, end, live });
+        self.records.push_reserved(ClauseRecord {
+            start,
+            end,
+            watched: [Lit::new(1), Lit::new(1)],
+            next: [0, 0],
+            position: 0,
+            live,
+            is_watched: false,
+        });
         Ok(self.records.len() as u64)
     }
 
@@ -120,6 +157,7 @@ impl Store {
         ensures added { self.new.clauses ≡ self.old.clauses ++ record { lits = lits.now; live = live } ∷ [] }
         ensures id { result ≡ length self.new.clauses }
         ensures vars { self.new.vars ≡ self.old.vars }
+        ensures links { KeepsLinks self.old self.new }
         ensures room { self.old.room ≤ self.new.room + 1 }
         ensures literal_room { self.old.literal_room ≤ self.new.literal_room + length lits.now }
     {

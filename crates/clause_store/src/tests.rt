@@ -48,3 +48,51 @@ fn what_can_not_be_counted_is_refused(rt: HostRuntime) -> Result<(), AllocError>
     assert!(rt; id == 1);
     Ok(())
 }
+
+#[test]
+fn readers_give_what_was_last_set(rt: HostRuntime) -> Result<(), AllocError> {
+    let alloc = rt.alloc();
+    let mut store = Store::new(alloc, 3)?;
+    let first = store.add(&[Lit::new(1), Lit::new(-2)], true)?;
+    let second = store.add(&[Lit::new(-2), Lit::new(3)], true)?;
+    let lit = Lit::new(-2);
+    assert!(rt; store.watched(second).is_none());
+    assert!(rt; store.next(first, 1).is_none());
+    assert!(rt; store.head(lit).is_none());
+    assert!(rt; store.tail(lit).is_none());
+    assert!(rt; store.false_id().is_none());
+    store.set_watched(second, Some((lit, Lit::new(3))));
+    store.set_next(first, 1, Some(second));
+    store.set_head(lit, Some(first));
+    store.set_tail(lit, Some(second));
+    store.set_false_id(Some(first));
+    assert!(rt; store.watched(second) == Some((lit, Lit::new(3))));
+    assert!(rt; store.watched(first).is_none());
+    assert!(rt; store.next(first, 1) == Some(second));
+    assert!(rt; store.next(first, 0).is_none());
+    assert!(rt; store.next(second, 1).is_none());
+    assert!(rt; store.head(lit) == Some(first));
+    assert!(rt; store.head(lit.negated()).is_none());
+    assert!(rt; store.tail(lit) == Some(second));
+    assert!(rt; store.tail(Lit::new(3)).is_none());
+    assert!(rt; store.false_id() == Some(first));
+    Ok(())
+}
+
+#[test]
+fn place_is_told_by_the_watched_literals(rt: HostRuntime) -> Result<(), AllocError> {
+    let alloc = rt.alloc();
+    let mut store = Store::new(alloc, 3)?;
+    let id = store.add(&[Lit::new(1), Lit::new(-2)], true)?;
+    store.set_watched(id, Some((Lit::new(-2), Lit::new(1))));
+    let (place, other) = store.place_of(id, Lit::new(-2));
+    assert!(rt; place == 0);
+    assert!(rt; other == Lit::new(1));
+    let (place, other) = store.place_of(id, Lit::new(1));
+    assert!(rt; place == 1);
+    assert!(rt; other == Lit::new(-2));
+    store.set_watched(id, None);
+    assert!(rt; store.watched(id).is_none());
+    assert!(rt; store.lits(id)[0] == Lit::new(1));
+    Ok(())
+}

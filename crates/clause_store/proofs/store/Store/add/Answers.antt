@@ -1,7 +1,79 @@
-use Rattle.std.proofs.Common.{arith}
+use Rattle.std.proofs.Common.{◌≡◌, ◌≤◌, ◌<◌, ◌+◌, ◌∙◌, ◌++◌, ◌∷◌, [], ◌/◌, ◌%◌, ℕ, ℤ, zero, suc, get_or, List, All, length, length-append, ap, subst, sym, arith, refl, false}
+use Rattle.std.proofs.lemmas.Bool.{false≢true}
+use Rattle.std.proofs.lemmas.List.{length_push}
+use Rattle.std.proofs.lemmas.List.Elements.{All-push, All-append}
+use Rattle.sat_base.specs.Literals.{IsLiteral, AreLiterals}
+use Rattle.clause_store.specs.Clauses.{Clauses}
+use Rattle.clause_store.specs.declared.store.ClauseRecord.{ClauseRecord}
+use Rattle.clause_store.specs.Inner.{watched_by, IsWithin}
 use Rattle.clause_store.proofs.RecordLemmas.{cuts_after_add}
+use Rattle.clause_store.proofs.NodeLemmas.{watches-push, nexts-push, within-more, all-more, from_recursion}
 use Rattle.clause_store.proofs.store.Store.add.Goals as goal
 
 -- the record of the new clause cuts just its literals, and all others what they cut before
 pub returns-clause-added : goal.returns-clause-added
-returns-clause-added c = grind (arith, cuts_after_add)
+returns-clause-added c =
+    let a = c.self.inside in
+    let starts : c.len-start.result ≡ length a.lits.items = grind arith in
+    let long : c.len-end.result ≡ length c.extend_from_slice.new.self.items = grind arith in
+    let longer : c.extend_from_slice.new.self.items ≡ a.lits.items ++ c.args.lits.now = c.in_ok-extend_from_slice.ensures.items in
+    let same : c.reserve.new.self.items ≡ a.records.items = c.in_ok-reserve.ensures.items in
+    let ends : c.len-end.result ≡ length (a.lits.items ++ c.args.lits.now) = long ∙ ap length longer in
+    let y : ClauseRecord = record { start = c.len-start.result; end = c.len-end.result; watched = c.new.result ∷ c.new-2.result ∷ []; next = 0 ∷ 0 ∷ []; position = 0; live = c.args.live; is_watched = false } in
+    rw (← c.self.view_is, c.push_reserved.ensures.items, same, longer) (cuts_after_add a.vars (length a.records.items) a.lits.items c.args.lits.now a.records.items y c.self.invariant.within starts ends)
+
+-- it is not watched
+pub returns-clause-links : goal.returns-clause-links
+returns-clause-links c =
+    let a = c.self.inside in
+    let same : c.reserve.new.self.items ≡ a.records.items = c.in_ok-reserve.ensures.items in
+    let y : ClauseRecord = record { start = c.len-start.result; end = c.len-end.result; watched = c.new.result ∷ c.new-2.result ∷ []; next = 0 ∷ 0 ∷ []; position = 0; live = c.args.live; is_watched = false } in
+    rw (← c.self.view_is, c.push_reserved.ensures.items, same) (record {
+      watched = λ id. watches-push a.records.items watched_by y refl id;
+      nexts = λ node. nexts-push a.records.items (λ r. r.next) y refl (node / 2) (node % 2);
+      heads = refl;
+      tails = refl;
+      false_id = refl;
+    })
+
+-- all records are within what has grown
+pub invariant_of-self-2 : goal.invariant_of-self-2
+invariant_of-self-2 c =
+    let a = c.self.inside in
+    let inv = c.self.invariant in
+    let starts : c.len-start.result ≡ length a.lits.items = grind arith in
+    let long : c.len-end.result ≡ length c.extend_from_slice.new.self.items = grind arith in
+    let longer : c.extend_from_slice.new.self.items ≡ a.lits.items ++ c.args.lits.now = c.in_ok-extend_from_slice.ensures.items in
+    let over_args : AreLiterals a.vars c.args.lits.now = subst (λ (s : Clauses). AreLiterals s.vars c.args.lits.now) (sym c.self.view_is) c.requires in
+    let lits_more : length a.lits.items ≤ length c.extend_from_slice.new.self.items = omega (arith, ap length longer, length-append a.lits.items c.args.lits.now) in
+    let y : ClauseRecord = record { start = c.len-start.result; end = c.len-end.result; watched = c.new.result ∷ c.new-2.result ∷ []; next = 0 ∷ 0 ∷ []; position = 0; live = c.args.live; is_watched = false } in
+    let items : c.push_reserved.new.self.items ≡ a.records.items ++ y ∷ [] = c.push_reserved.ensures.items ∙ ap (λ (rs : List ClauseRecord). rs ++ y ∷ []) c.in_ok-reserve.ensures.items in
+    let more : length c.push_reserved.new.self.items ≡ length a.records.items + 1 = ap length items ∙ length_push a.records.items y in
+    let P = IsWithin a.vars (length c.extend_from_slice.new.self.items) (length c.push_reserved.new.self.items) in
+    let fits : P y = record {
+      ordered = omega (arith, starts, long, lits_more);
+      within = omega (arith, long);
+      watched = λ is. absurd (false≢true is);
+      next = λ k d h. no_more k d h (length c.push_reserved.new.self.items);
+      two_watched = refl;
+      two_next = refl;
+    } in
+    let old : All P a.records.items = all-more (IsWithin a.vars (length a.lits.items) (length a.records.items)) P a.records.items
+    (λ r w. within-more a.vars (length a.lits.items) (length a.records.items) (length c.extend_from_slice.new.self.items) (length c.push_reserved.new.self.items) r lits_more (omega (arith, more)) w) inv.within
+    in
+    record {
+      small = inv.small;
+      over = subst (λ (ls : List ℤ). All (IsLiteral a.vars) ls) (sym longer) (All-append (IsLiteral a.vars) a.lits.items c.args.lits.now inv.over (from_recursion (IsLiteral a.vars) c.args.lits.now over_args));
+      within = subst (λ (rs : List ClauseRecord). All P rs) (sym items) (All-push P a.records.items y old fits);
+      counted = grind (arith, starts, more);
+      lits_counted = grind (arith, long, starts);
+      a_head_each = inv.a_head_each;
+      a_tail_each = inv.a_tail_each;
+      heads = all-more (λ id. id ≤ length a.records.items) (λ id. id ≤ length c.push_reserved.new.self.items) a.heads.items (λ id h. omega (arith, h, more)) inv.heads;
+      tails = all-more (λ id. id ≤ length a.records.items) (λ id. id ≤ length c.push_reserved.new.self.items) a.tails.items (λ id h. omega (arith, h, more)) inv.tails;
+    }
+  where
+    no_more : (k d : ℕ) → k < 2 → (n : ℕ) → get_or (0 ∷ 0 ∷ []) k d ≤ n
+    no_more zero d h n = omega arith
+    no_more (suc zero) d h n = omega arith
+    no_more (suc (suc k)) d h n = absurd (omega (arith, h))

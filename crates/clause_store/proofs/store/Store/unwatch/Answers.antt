@@ -1,0 +1,36 @@
+use Rattle.std.proofs.Common.{◌≤◌, ◌-◌, length, arith, subst, sym, refl, false}
+use Rattle.std.proofs.lemmas.List.{length-map}
+use Rattle.clause_store.specs.Clauses.{Clauses}
+use Rattle.clause_store.specs.declared.store.ClauseRecord.{ClauseRecord}
+use Rattle.clause_store.specs.Inner.{store_of, cut_by, watched_by}
+use Rattle.clause_store.proofs.NodeLemmas.{row-same, row-other, map-kept}
+use Rattle.clause_store.proofs.store.Store.unwatch.Goals as goal
+
+pub returns-clause-set : goal.returns-clause-set
+returns-clause-set c =
+    let a = c.self.inside in
+    let r = c.index_mut-record.result.now in
+    let records = a.records.items in
+    let le : c.args.id ≤ length (store_of a).clauses = subst (λ (s : Clauses). c.args.id ≤ length s.clauses) (sym c.self.view_is) c.requires.within in
+    let within : c.args.id ≤ length records = omega (arith, le, length-map records (cut_by a.lits.items)) in
+    let y : ClauseRecord = record { start = r.start; end = r.end; watched = r.watched; next = r.next; position = r.position; live = r.live; is_watched = false } in
+    row-same watched_by records y c.args.id _ c.requires.from_one within
+
+pub returns-clause-others : goal.returns-clause-others
+returns-clause-others c = λ i ne.
+    let a = c.self.inside in
+    let r = c.index_mut-record.result.now in
+    let y : ClauseRecord = record { start = r.start; end = r.end; watched = r.watched; next = r.next; position = r.position; live = r.live; is_watched = false } in
+    rw (← c.self.view_is) (row-other watched_by a.records.items y c.args.id i _ c.requires.from_one ne)
+
+pub returns-clause-rest : goal.returns-clause-rest
+returns-clause-rest c =
+    let a = c.self.inside in
+    let r = c.index_mut-record.result.now in
+    let records = a.records.items in
+    let y : ClauseRecord = record { start = r.start; end = r.end; watched = r.watched; next = r.next; position = r.position; live = r.live; is_watched = false } in
+    rw (
+      ← c.self.view_is,
+      map-kept (cut_by a.lits.items) records y r (c.args.id - 1) c.index_mut-record.ensures.value refl,
+      map-kept (λ x. x.next) records y r (c.args.id - 1) c.index_mut-record.ensures.value refl,
+    ) refl
