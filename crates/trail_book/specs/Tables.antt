@@ -8,7 +8,7 @@ use Rattle.trail_book.specs.Order.{HaveValues}
 
 -- what callers see of the tables
 abbrev pub trail_of : Inside → Trail
-trail_of inside = record { vars = inside.vars; entries = entries_of (reverse inside.slots.items) }
+trail_of inside = record { vars = inside.vars; entries = entries_of (reverse inside.slots.items); done = inside.done }
 
 -- the tables are those of a trail: slots, values and places agree, there is room, and picking may go on from where it stands
 pub record AreTables (inside : Inside) : Type 0 where

@@ -9,6 +9,8 @@ pub record Trail : Type 0 where
   pub vars : ℕ
   -- the newest first
   pub entries : List Entry
+  -- how many of them, the oldest ones, have been propagated
+  pub done : ℕ
 
 -- the literals that are true
 abbrev pub trues : List Entry → List ℤ

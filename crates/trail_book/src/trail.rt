@@ -5,7 +5,7 @@
 //! since it counts only while there is a value. A slot has its level, so the level of the last slot is the current one,
 //! and backtracking takes slots from the end while theirs is too high. Room for one slot a variable is taken at the
 //! start, and no variable stands twice, so nothing that comes later can want memory.
-ghost use Rattle.std.specs.Prelude.{◌≡◌, ℕ, ◌+◌, ◌-◌, ◌<◌, ◌≤◌, ◌^◌, ◌∷◌, [], length, map, drop, ℤ, pos, IfOk, Some, None, IfSome, IfNone, neg_ℤ};
+ghost use Rattle.std.specs.Prelude.{◌≡◌, ℕ, ◌+◌, ◌-◌, ◌<◌, ◌≤◌, ◌^◌, ◌∷◌, [], length, map, drop, ℤ, pos, IfOk, Some, None, IfSome, IfNone, neg_ℤ, min};
 ghost use Rattle.sat_base.specs.Literals.{var_of, IsLiteral};
 ghost use Rattle.sat_base.specs.Members.{In};
 ghost use Rattle.sat_base.specs.Units.{IsUnset, HasValue, IsValue};
@@ -30,6 +30,8 @@ pub struct Trail {
     // By variable, that of variable 1 first: its value, and the place of its slot where it has a value.
     values: Vec<Value>,
     places: Vec<u32>,
+    // How many of the values, the oldest ones, have been propagated.
+    done: u32,
     // Where the order of decisions begins, and a position in it before which all variables have a value.
     start: u32,
     next: u32,
@@ -51,13 +53,14 @@ impl Trail {
     /// No literal is true. All memory that the trail will ever need is taken here.
     pub fn new(alloc: Global, vars: u32) -> Result<Trail, AllocError>
         requires { vars < 2 ^ 31 }
-        ensures { IfOk result (λ trail. trail ≡ record { vars = vars; entries = [] }) }
+        ensures { IfOk result (λ trail. trail ≡ record { vars = vars; entries = []; done = 0 }) }
     {
         Ok(Trail {
             vars,
             slots: Vec::with_capacity(alloc, vars as usize)?,
             values: vec![in alloc; Value::Unset; vars as usize]?,
             places: vec![in alloc; 0u32; vars as usize]?,
+            done: 0,
             start: 0,
             next: 0,
         })
@@ -76,6 +79,21 @@ impl Trail {
         ensures { result ≡ length self.now.entries }
     {
         self.slots.len() as u32
+    }
+
+    /// How many of its values, the oldest ones, have been propagated. The caller keeps that count: only going back lowers
+    /// it, where fewer values are left.
+    pub fn done(&self) -> u32
+        ensures { result ≡ self.now.done }
+    {
+        self.done
+    }
+
+    /// Keeps that so many of its values have been propagated.
+    pub fn set_done(&mut self, count: u32)
+        ensures { self.new ≡ record self.old { done = count } }
+    {
+        self.done = count;
     }
 
     /// The literal at a place, the oldest at 0.
@@ -165,6 +183,7 @@ impl Trail {
         requires id { 0 < reason }
         ensures entries { self.new.entries ≡ record { lit = lit; reason = Some reason; unit = None } ∷ self.old.entries }
         ensures vars { self.new.vars ≡ self.old.vars }
+        ensures done { self.new.done ≡ self.old.done }
         ensures trail { IsTrail self.new.vars self.new.entries }
     {
         let level = self.top();
@@ -182,6 +201,7 @@ impl Trail {
         requires lit { IsLiteral self.old.vars lit }
         ensures entries { self.new.entries ≡ record { lit = lit; reason = None; unit = None } ∷ self.old.entries }
         ensures vars { self.new.vars ≡ self.old.vars }
+        ensures done { self.new.done ≡ self.old.done }
         ensures trail { IsTrail self.new.vars self.new.entries }
     {
         let _vars = self.vars(); // A trail has no more levels than variables.
@@ -200,6 +220,7 @@ impl Trail {
         requires id { 0 < id }
         ensures entries { self.new.entries ≡ map (with_unit var id) self.old.entries }
         ensures vars { self.new.vars ≡ self.old.vars }
+        ensures done { self.new.done ≡ self.old.done }
     {
         let place = self.place(var) as usize;
         self.slots[place].unit = id;
@@ -209,12 +230,23 @@ impl Trail {
     pub fn back_to(&mut self, level: u32)
         ensures entries { self.new.entries ≡ keep level self.old.entries }
         ensures vars { self.new.vars ≡ self.old.vars }
+        ensures done { self.new.done ≡ min self.old.done (length self.new.entries) }
         ensures trail { IsTrail self.new.vars self.new.entries }
     {
         let _vars = self.vars(); // This is a trail, also where nothing is above the level.
         while self.top() > level {
             self.undo();
         }
+        self.cut_done();
+    }
+
+    // Counts no more values as propagated than there are.
+    fn cut_done(&mut self)
+        ensures entries { self.new.entries ≡ self.old.entries }
+        ensures vars { self.new.vars ≡ self.old.vars }
+        ensures done { self.new.done ≡ min self.old.done (length self.old.entries) }
+    {
+        self.done = self.done.min(self.len());
     }
 
     /// Begins the order of decisions at variable `turn` modulo the number of variables, plus one. It changes nothing
@@ -253,6 +285,7 @@ impl Trail {
         requires level { slot.level ≡ top (entry_of slot ∷ self.old.entries) }
         ensures entries { self.new.entries ≡ entry_of slot ∷ self.old.entries }
         ensures vars { self.new.vars ≡ self.old.vars }
+        ensures done { self.new.done ≡ self.old.done }
         ensures trail { IsTrail self.new.vars self.new.entries }
     {
         let index = (slot.lit.var() - 1) as usize;
@@ -266,6 +299,7 @@ impl Trail {
         requires { 0 < length self.old.entries }
         ensures entries { self.new.entries ≡ drop 1 self.old.entries }
         ensures vars { self.new.vars ≡ self.old.vars }
+        ensures done { self.new.done ≡ self.old.done }
         ensures trail { IsTrail self.new.vars self.new.entries }
     {
         let slot = self.slots.take_last();

@@ -5,11 +5,11 @@ use Rattle.trail_book.proofs.trail.Trail.back_to.Goals as goal
 
 -- at first nothing is taken back
 pub loop-self-init : goal.loop-self-init
-loop-self-init c = (refl, refl, c.vars-vars.ensures.trail)
+loop-self-init c = (refl, refl, c.vars-vars.ensures.trail, refl)
 
 -- where nothing is above the level, all is kept
 pub returns-clause-entries : goal.returns-clause-entries
 returns-clause-entries c =
     let es = c.loop-self.self.entries in
     let within : top es ≤ c.args.level = omega (arith, c.top.ensures, c.loop-self-test.false) in
-    sym (keep-whole c.args.level es within) ∙ c.loop-self.invariant.0
+    c.cut_done.ensures.entries ∙ sym (keep-whole c.args.level es within) ∙ c.loop-self.invariant.0
