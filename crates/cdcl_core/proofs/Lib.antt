@@ -5,3 +5,4 @@ pub mod AssignLemmas
 pub mod RootLemmas
 pub mod RoundLemmas
 pub mod TestLemmas
+pub mod EntranceLemmas

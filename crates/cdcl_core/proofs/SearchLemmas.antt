@@ -15,24 +15,14 @@ use Rattle.trail_book.specs.Trail.{trues, level_after, top, keep, IsTrail, with_
 use Rattle.trail_book.proofs.TrailLemmas.{keep-whole, keep-skip, lit-keep_in, trail_consistent, level_after-at_least, same_var, In-trues, with_unit-same, with_unit-other, trues-with_unit, top-with_unit}
 use Rattle.lrat_steps.specs.Honest.{Subsumes}
 use Rattle.lrat_steps.specs.Undecided.{Mark, Given, Consequence, Choice, IsMarked, marked_lits, IsMarkedList}
-use Rattle.propagate.specs.Propagation.{IsForced, Grows, Tells}
+use Rattle.propagate.specs.Propagation.{Grows, Tells}
+use Rattle.propagate.proofs.GrowsLemmas.{forced}
 use Rattle.propagate.specs.declared.propagated.Propagated.{Propagated}
 use Rattle.propagate.specs.declared.propagated.Propagated.TheVariants as propagated
 use Rattle.learn_step.specs.Reasons.{HasReason, HasUnit, AreReasoned, before_last, IsDecision}
 use Rattle.cdcl_core.specs.State.{IsDecided, IsSoundEntry, IsSound}
 
 -- propagation
-forced : (db : List StoredClause) (trues : List ℤ) (l : ℤ) (r u : Option ℕ) → IsForced db trues (record { lit = l; reason = r; unit = u })
-    → (id : ℕ) × (r ≡ Some id) × IsReason db trues l id × IsConsequence db trues l
-forced db trues l None u f = absurd f
-forced db trues l (Some id) u f = (id, refl, f.0, f.1)
-
-pub top_grows : (db : List StoredClause) (old new : List Entry) → Grows db old new → top new ≡ top old
-top_grows db old [] g = ap top (sym g)
-top_grows db old (e ∷ es) (inl same) = ap top (sym same)
-top_grows db old (e ∷ es) (inr g) =
-    let (id, is, r, k) = forced db (trues es) e.lit e.reason e.unit g.0 in ap (λ (r : Option ℕ). level_after r (top es)) is ∙ top_grows db old es g.2
-
 pub sound_grows : (db : List StoredClause) (assumed : List ℤ) (count : ℕ) (old new : List Entry) → Grows db old new → IsSound db assumed count old → IsSound db assumed count new
 sound_grows db assumed count old [] g s = tt
 sound_grows db assumed count old (e ∷ es) (inl same) s = subst (IsSound db assumed count) same s

@@ -25,7 +25,8 @@ use Rattle.cdcl_core.specs.State.{IsSoundEntry, IsSound, IsRecorded, IsState}
 use Rattle.lrat_steps.proofs.PaidLemmas.{IsPaid-none, IsPaid-then}
 use Rattle.cdcl_core.specs.Answers.{IsConsistent, IsModel, IsRefuted, IsHonestlyPaid}
 use Rattle.cdcl_core.specs.Search.{IsCoreAdded}
-use Rattle.cdcl_core.proofs.SearchLemmas.{top_grows, sound_grows, sound_keep, sound_recount, sound_learned, sound_core, fixpoint_before, not_subsumed, top_literal, decisions_assumed, marked, marked-lits, marked-list, marked-choice}
+use Rattle.propagate.proofs.GrowsLemmas.{top_grows}
+use Rattle.cdcl_core.proofs.SearchLemmas.{sound_grows, sound_keep, sound_recount, sound_learned, sound_core, fixpoint_before, not_subsumed, top_literal, decisions_assumed, marked, marked-lits, marked-list, marked-choice}
 
 -- the last clause has the last id
 last_of : (from : ℕ) (cs : List (List ℤ)) (c : List ℤ) → clause_of (numbered from (cs ++ c ∷ [])) (from + length cs) ≡ Some c

@@ -9,9 +9,11 @@ use Rattle.sat_base.specs.Derivation.{clause_of}
 use Rattle.sat_base.specs.Database.{StoredClause, known_of}
 use Rattle.sat_base.specs.Units.{HasValue}
 use Rattle.trail_book.specs.declared.entry.Entry.{Entry}
-use Rattle.trail_book.specs.Trail.{trues, top, oldest, with_unit}
+use Rattle.trail_book.specs.Trail.{Trail, trues, top, oldest, with_unit}
 use Rattle.trail_book.proofs.TrailLemmas.{In-trues, trues-with_unit, top-with_unit, IsTrail-with_unit}
-use Rattle.propagate.specs.Propagation.{Tells}
+use Rattle.propagate.specs.Propagation.{Tells, IsDone}
+use Rattle.propagate.specs.declared.propagated.Propagated.TheVariants as propagated
+use Rattle.clause_store.specs.Clauses.{Clauses}
 use Rattle.propagate.specs.declared.propagated.Propagated.{Propagated}
 use Rattle.learn_step.specs.Reasons.{IsDecision}
 use Rattle.lrat_steps.specs.Log.{LogStep}
@@ -80,8 +82,13 @@ unit_tells db new log more es start id v p added t =
     subst (λ (ts : List ℤ). Tells new ts p) (sym (trues-with_unit v id es))
     (subst (λ (k : List StoredClause). Tells k (trues es) p) (sym added.stored) (tells_core db added.lits (trues es) p t))
 
+-- all values have been propagated still
+pub done_same : (s s' : Clauses) (t t' : Trail) (p : Propagated) → t'.done ≡ t.done → length t'.entries ≡ length t.entries → s'.false_id ≡ s.false_id → IsDone s t p → IsDone s' t' p
+done_same s s' t t' propagated.Fixpoint done long none d = (done ∙ d.0 ∙ sym long, none ∙ d.1)
+done_same s s' t t' (propagated.Conflict id) done long none d = tt
+
 pub keeps-refl : (s : Search) → KeepsValues s s
-keeps-refl s = record { trues_are = refl; levels_are = refl; reached_is = refl; tells = λ p t. t }
+keeps-refl s = record { trues_are = refl; levels_are = refl; reached_is = refl; tells = λ p t. t; all_done = λ p d. d }
 
 pub keeps-join : (a b c : Search) → KeepsValues a b → KeepsValues b c → KeepsValues a c
 keeps-join a b c h k = record {
@@ -89,6 +96,7 @@ keeps-join a b c h k = record {
   levels_are = k.levels_are ∙ h.levels_are;
   reached_is = k.reached_is ∙ h.reached_is;
   tells = λ p t. k.tells p (h.tells p t);
+  all_done = λ p d. k.all_done p (h.all_done p d);
 }
 
 -- as many entries as literals

@@ -2,4 +2,5 @@ pub mod Solver
 pub mod Answers
 pub mod State
 pub mod Search
+pub mod Entrance
 pub mod Inside

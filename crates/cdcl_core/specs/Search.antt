@@ -10,6 +10,7 @@ use Rattle.learn_step.specs.Learnt.{IsCore}
 use Rattle.lrat_steps.specs.Log.{LogStep, Core}
 use Rattle.propagate.specs.declared.propagated.Propagated.{Propagated}
 use Rattle.propagate.specs.Propagation as propagation
+use Rattle.propagate.specs.Watches.{IsKept}
 use Rattle.cdcl_core.specs.declared.search.Search.{Search}
 use Rattle.cdcl_core.specs.declared.solved.Solved.{Solved}
 use Rattle.cdcl_core.specs.declared.decisions.Next.{Next}
@@ -20,12 +21,14 @@ use Rattle.cdcl_core.specs.State.{IsState, IsRoot}
 -- the state of a search under assumed literals, of which the first ones, so many, are true
 pub record IsSearch (s : Search) (assumed : List ℤ) : Type 0 where
   pub vars : s.store.vars ≡ s.trail.vars
+  pub kept : IsKept s.store s.trail
   pub state : IsState s.trail.vars s.store.clauses s.log s.trail.entries assumed s.assumed_levels
   pub reached : AllTrue (trues s.trail.entries) (take s.assumed_true assumed)
 
 -- the state at level 0, whatever is assumed
 pub record IsAtRoot (s : Search) : Type 0 where
   pub vars : s.store.vars ≡ s.trail.vars
+  pub kept : IsKept s.store s.trail
   pub root : IsRoot s.trail.vars s.store.clauses s.log s.trail.entries
 
 -- a core was added to the log and to the clauses, and has this id
@@ -43,6 +46,7 @@ pub record KeepsValues (old new : Search) : Type 0 where
   pub levels_are : new.assumed_levels ≡ old.assumed_levels
   pub reached_is : new.assumed_true ≡ old.assumed_true
   pub tells : (p : Propagated) → propagation.Tells old.store.clauses (trues old.trail.entries) p → propagation.Tells new.store.clauses (trues new.trail.entries) p
+  pub all_done : (p : Propagated) → propagation.IsDone old.store old.trail p → propagation.IsDone new.store new.trail p
 
 -- what is to be done where nothing is left to propagate
 abbrev pub IsNext : ℕ → List ℤ → List ℤ → Next → Type 0

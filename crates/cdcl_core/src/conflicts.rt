@@ -12,6 +12,7 @@ ghost use Rattle.learn_step.specs.Learnt.{start_of};
 ghost use Rattle.cdcl_core.specs.Answers.{IsHonestlyPaid, IsRefuted};
 ghost use Rattle.cdcl_core.specs.Search.{IsSearch, IsRound};
 
+use crate::entrance::enter_learnt;
 use crate::search::Search;
 use crate::solved::Solved;
 use crate::steps::{add_step, log_core};
@@ -77,7 +78,14 @@ impl Search {
         self.assumed_true = reached_at(learnt.back_level, self.assumed_levels, self.assumed_true);
         self.assumed_levels = self.assumed_levels.min(learnt.back_level);
         self.trail.back_to(learnt.back_level);
-        self.trail.assign(learnt.lits[0], reason);
+        let first = learnt.lits[0];
+        enter_learnt(
+            &mut self.store,
+            &mut self.trail,
+            reason,
+            &learnt.lits,
+            first,
+        );
         Ok(())
     }
 

@@ -82,6 +82,7 @@ impl Search {
     ) -> Result<Option<Solved>, AllocError>
         requires search { IsSearch self.old assumed.now }
         requires fixpoint { IsFixpoint self.old.store.clauses (trues self.old.trail.entries) }
+        requires all_done { self.old.trail.done ≡ length self.old.trail.entries }
         requires literals { AreLiterals self.old.trail.vars assumed.now }
         requires consistent { IsConsistent assumed.now }
         ensures round { IfOk result (λ answer. (left : ℕ) → IsRound self.old self.new assumed.now left left answer) }

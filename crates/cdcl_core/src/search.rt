@@ -7,6 +7,7 @@
 //! - The clauses of the store are those of the log's steps, and the log is honest.
 //! - A literal of the trail was decided, or the clause of its reason and a live clause force it.
 //! - **Before each decision nothing was left to propagate:** no live clause was falsified or unit.
+//! - What propagation keeps of the watched literals (`propagate/specs/Watches.antt`): it is from there that nothing is left.
 //! - A decision up to level `assumed_levels` is an assumed literal. Before any other decision all assumed ones were
 //!   true.
 //!
@@ -117,12 +118,13 @@ impl Search {
     fn spread(&mut self, alloc: Global, assumed: &[Lit]) -> Result<Propagated, AllocError>
         requires { IsSearch self.old assumed.now }
         ensures tells { IfOk result (λ told. propagation.Tells self.new.store.clauses (trues self.new.trail.entries) told) }
+        ensures all_done { IfOk result (λ told. propagation.IsDone self.new.store self.new.trail told) }
         ensures search { OnOk result (IsSearch self.new assumed.now) }
         ensures grows { OnOk result (length self.old.trail.entries ≤ length self.new.trail.entries) }
         ensures paid { (left : ℕ) → IsHonestlyPaid self.old.log self.new.log left left }
         ensures vars { self.new.trail.vars ≡ self.old.trail.vars }
     {
-        let told = propagate(&self.store, &mut self.trail);
+        let told = propagate(&mut self.store, &mut self.trail);
         if self.trail.top() == 0 {
             self.log_units(alloc)?;
         }

@@ -13,6 +13,7 @@ use crate::solved::Solved;
 use crate::steps::add_step;
 use clause_store::Store;
 use lrat_steps::{Log, LogStep};
+use propagate::enter;
 use sat_base::{Lit, Purse};
 use std::alloc::{AllocError, Global};
 use std::marker::Model;
@@ -74,11 +75,9 @@ impl Solver {
         if self.broken {
             return Err(AllocError);
         }
-        add_step(
-            &mut self.search.log,
-            &mut self.search.store,
-            LogStep::Input(lits),
-        )?;
+        let search = &mut self.search;
+        let id = add_step(&mut search.log, &mut search.store, LogStep::Input(lits))?;
+        enter(&mut search.store, &mut search.trail, id, lits);
         Ok(())
     }
 

@@ -5,6 +5,8 @@
 ghost use Rattle.std.specs.Prelude.{◌≡◌, ℕ, ◌++◌, ◌∷◌, [], length, IfOk, OnOk, OnErr};
 ghost use Rattle.sat_base.specs.Literals.{AreLiterals};
 ghost use Rattle.lrat_steps.specs.Log.{step_of, lits_of, is_live, stored};
+ghost use Rattle.clause_store.specs.Links.{KeepsLinks};
+ghost use Rattle.propagate.specs.Watches.{IsKept};
 ghost use Rattle.learn_step.specs.Reasons.{AreReasoned, IsFalse};
 ghost use Rattle.learn_step.specs.Learnt.{start_of};
 ghost use Rattle.cdcl_core.specs.Answers.{IsHonestlyPaid};
@@ -47,6 +49,7 @@ pub fn add_step(log: &mut Log, store: &mut Store, step: LogStep<'_>) -> Result<u
     ensures log_err { OnErr result (log.new ≡ log.old) }
     ensures store_err { OnErr result (store.new.clauses ≡ store.old.clauses) }
     ensures vars { store.new.vars ≡ store.old.vars }
+    ensures links { KeepsLinks store.old store.new }
 {
     let lits = literals(step);
     store.reserve(1, lits.len() as u64)?;
@@ -69,6 +72,8 @@ pub fn log_core(
     ensures added { IfOk result (λ id. IsCoreAdded store.old.clauses store.new.clauses log.old log.new trail.now.entries (start_of origin) id) }
     ensures paid { (left : ℕ) → IsHonestlyPaid log.old log.new left left }
     ensures vars { store.new.vars ≡ store.old.vars }
+    ensures kept { OnOk result (IsKept store.old trail.now → IsKept store.new trail.now) }
+    ensures false_id { store.new.false_id ≡ store.old.false_id }
 {
     let core = core_of(alloc, store, trail, origin)?;
     let id = add_step(log, store, LogStep::Core(&core.lits, &core.hints))?;

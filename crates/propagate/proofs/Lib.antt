@@ -1,2 +1,13 @@
-pub mod LookLemmas
+pub mod ListLemmas
 pub mod GrowsLemmas
+pub mod ClauseLemmas
+pub mod LevelLemmas
+pub mod KeptLemmas
+pub mod WalkLemmas
+pub mod MoveLemmas
+pub mod StepLemmas
+pub mod LengthLemmas
+pub mod FixpointLemmas
+pub mod EntranceLemmas
+pub mod OpenLemmas
+pub mod NewLemmas

@@ -1,1 +1,5 @@
+pub mod Lists
+pub mod Watches
+pub mod Walk
 pub mod Propagation
+pub mod Entrance

@@ -5,20 +5,28 @@
 //! is unit:
 //!
 //! ```text
-//! match propagate(&store, &mut trail) {
+//! match propagate(&mut store, &mut trail) {
 //!     Propagated::Conflict(id) => .., // all literals of this clause are false
 //!     Propagated::Fixpoint => ..,     // no live clause is falsified or unit
 //! }
 //! ```
 //!
-//! Start reading at `gm_base/specs/Units.antt` and `specs/Propagation.antt`. Which of several falsified clauses is named,
-//! and in which order literals are forced, is not told.
+//! Each clause watches two of its literals, so that only clauses that may have become unit or falsified are looked at. What
+//! has to hold of the watches for that is one fact of the store and the trail, `IsKept`, which [`propagate`] needs and keeps.
+//! A new clause comes to it by [`enter`] at level 0, or by [`watch`]; a decision behind a fixpoint and going back keep it.
+//!
+//! Start reading at `sat_base/specs/Units.antt`, `specs/Propagation.antt` and `specs/Watches.antt`. Which of several falsified
+//! clauses is named, and in which order literals are forced, is not told.
 #![tactic(auto)]
 
+mod entrance;
+mod lists;
 mod propagated;
-mod scan;
+mod propagation;
 #[cfg(test)]
 mod tests;
+mod visit;
 
+pub use entrance::{enter, watch};
 pub use propagated::Propagated;
-pub use scan::propagate;
+pub use propagation::propagate;

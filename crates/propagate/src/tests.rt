@@ -1,9 +1,22 @@
-//! What is forced, by which clause, and which clause is falsified.
-use crate::{Propagated, propagate};
+//! What is forced, by which clause, which clause is falsified, and how watches move.
+ghost use Rattle.std.specs.Prelude.{◌≡◌, ◌<◌, ◌^◌, IfOk, OnOk, length};
+ghost use Rattle.sat_base.specs.Literals.{AreLiterals, IsLiteral};
+ghost use Rattle.sat_base.specs.Units.{IsUnset};
+ghost use Rattle.trail_book.specs.Trail.{trues, top};
+ghost use Rattle.propagate.specs.Watches.{IsKept};
+
+use crate::{Propagated, enter, propagate};
 use clause_store::Store;
 use sat_base::Lit;
-use std::alloc::AllocError;
+use std::alloc::{AllocError, Global};
 use trail_book::Trail;
+
+/// A store and a trail for what is kept of them.
+#[derive(Drop)]
+struct Bench {
+    store: Store,
+    trail: Trail,
+}
 
 // 0 for a fixpoint, or the id of the falsified clause.
 fn number_of(answer: Propagated) -> u64 {
@@ -13,20 +26,73 @@ fn number_of(answer: Propagated) -> u64 {
     }
 }
 
+impl Bench {
+    fn new(alloc: Global, vars: u32) -> Result<Bench, AllocError>
+        requires { vars < 2 ^ 31 }
+        ensures kept { IfOk result (λ bench. IsKept bench.store bench.trail) }
+        ensures vars { IfOk result (λ bench. bench.store.vars ≡ vars) }
+        ensures root { IfOk result (λ bench. top bench.trail.entries ≡ 0) }
+    {
+        Ok(Bench {
+            store: Store::new(alloc, vars)?,
+            trail: Trail::new(alloc, vars)?,
+        })
+    }
+
+    // Adds a clause at level 0.
+    fn add(&mut self, lits: &[Lit]) -> Result<(), AllocError>
+        requires kept { IsKept self.old.store self.old.trail }
+        requires root { top self.old.trail.entries ≡ 0 }
+        requires literals { AreLiterals self.old.store.vars lits.now }
+        ensures kept { OnOk result (IsKept self.new.store self.new.trail) }
+        ensures vars { OnOk result (self.new.store.vars ≡ self.old.store.vars) }
+        ensures root { OnOk result (top self.new.trail.entries ≡ 0) }
+    {
+        let id = self.store.add(lits, true)?;
+        enter(&mut self.store, &mut self.trail, id, lits);
+        Ok(())
+    }
+
+    // Propagates. Gives 0 for a fixpoint, or the id of the falsified clause.
+    fn propagate(&mut self) -> u64
+        requires { IsKept self.old.store self.old.trail }
+        ensures kept { IsKept self.new.store self.new.trail }
+        ensures vars { self.new.store.vars ≡ self.old.store.vars }
+    {
+        number_of(propagate(&mut self.store, &mut self.trail))
+    }
+
+    // Decides a literal that has no value, where all values have been propagated, and propagates it.
+    fn decide(&mut self, lit: Lit) -> u64
+        requires kept { IsKept self.old.store self.old.trail }
+        requires literal { IsLiteral self.old.store.vars lit }
+        ensures kept { IsKept self.new.store self.new.trail }
+        ensures vars { self.new.store.vars ≡ self.old.store.vars }
+    {
+        if self.trail.value(lit).is_some() {
+            return self.propagate();
+        }
+        if self.trail.done() < self.trail.len() {
+            return self.propagate();
+        }
+        self.trail.decide(lit);
+        self.propagate()
+    }
+}
+
 #[test]
 fn chain_is_followed_also_against_the_order_of_clauses(rt: HostRuntime) -> Result<(), AllocError> {
-    let alloc = rt.alloc();
-    let mut store = Store::new(alloc, 4)?;
-    store.add(&[Lit::new(-3), Lit::new(4)], true)?;
-    store.add(&[Lit::new(3), Lit::new(-2)], true)?;
-    store.add(&[Lit::new(-1), Lit::new(2)], true)?;
-    store.add(&[Lit::new(1), Lit::new(1)], true)?;
-    let mut trail = Trail::new(alloc, 4)?;
-    assert!(rt; number_of(propagate(&store, &mut trail)) == 0);
-    assert!(rt; trail.len() == 4);
-    assert!(rt; trail.top() == 0);
-    for place in 0..4 {
-        let entry = trail.entry(place);
+    let mut bench = Bench::new(rt.alloc(), 4)?;
+    bench.add(&[Lit::new(-3), Lit::new(4)])?;
+    bench.add(&[Lit::new(3), Lit::new(-2)])?;
+    bench.add(&[Lit::new(-1), Lit::new(2)])?;
+    bench.add(&[Lit::new(1), Lit::new(1)])?;
+    assert!(rt; bench.propagate() == 0);
+    assert!(rt; bench.trail.len() == 4);
+    assert!(rt; bench.trail.done() == 4);
+    assert!(rt; bench.trail.top() == 0);
+    for place in 0..bench.trail.len() {
+        let entry = bench.trail.entry(place);
         assert!(rt; entry.lit.number() == place as i32 + 1);
         assert!(rt; entry.reason == Some(4 - place as u64));
     }
@@ -34,40 +100,56 @@ fn chain_is_followed_also_against_the_order_of_clauses(rt: HostRuntime) -> Resul
 }
 
 #[test]
-fn loose_clauses_force_nothing(rt: HostRuntime) -> Result<(), AllocError> {
-    let alloc = rt.alloc();
-    let mut store = Store::new(alloc, 3)?;
-    store.add(&[Lit::new(1), Lit::new(-1)], true)?;
-    store.add(&[Lit::new(2), Lit::new(3), Lit::new(2)], true)?;
-    store.add(&[Lit::new(-3)], false)?;
-    store.add(&[], false)?;
-    let mut trail = Trail::new(alloc, 3)?;
-    assert!(rt; number_of(propagate(&store, &mut trail)) == 0);
-    assert!(rt; trail.len() == 0);
+fn settled_clauses_force_nothing_more(rt: HostRuntime) -> Result<(), AllocError> {
+    let mut bench = Bench::new(rt.alloc(), 3)?;
+    bench.add(&[Lit::new(1), Lit::new(-1)])?;
+    bench.add(&[Lit::new(2), Lit::new(3), Lit::new(2)])?;
+    bench.add(&[Lit::new(3), Lit::new(3)])?;
+    assert!(rt; bench.propagate() == 0);
+    assert!(rt; bench.trail.len() == 1);
+    assert!(rt; bench.trail.at(0) == Lit::new(3));
     Ok(())
 }
 
 #[test]
-fn falsified_clause_is_named(rt: HostRuntime) -> Result<(), AllocError> {
-    let alloc = rt.alloc();
-    let mut store = Store::new(alloc, 2)?;
-    store.add(&[Lit::new(-1), Lit::new(2)], true)?;
-    store.add(&[Lit::new(-1), Lit::new(-2)], true)?;
-    let mut trail = Trail::new(alloc, 2)?;
-    assert!(rt; number_of(propagate(&store, &mut trail)) == 0);
-    let first = Lit::new(1);
-    match trail.value(first) {
-        None => trail.decide(first),
-        Some(_) => {
-            assert!(rt; false);
-        }
-    }
-    assert!(rt; number_of(propagate(&store, &mut trail)) == 2);
-    assert!(rt; trail.len() == 2);
-    assert!(rt; trail.entry(1).lit == Lit::new(2));
-    assert!(rt; trail.entry(1).reason == Some(1));
-    trail.back_to(0);
-    store.add(&[], true)?;
-    assert!(rt; number_of(propagate(&store, &mut trail)) == 3);
+fn falsified_clause_is_named_and_its_list_stays(rt: HostRuntime) -> Result<(), AllocError> {
+    let mut bench = Bench::new(rt.alloc(), 3)?;
+    bench.add(&[Lit::new(-1), Lit::new(2)])?;
+    bench.add(&[Lit::new(-1), Lit::new(-2)])?;
+    bench.add(&[Lit::new(-1), Lit::new(3)])?;
+    assert!(rt; bench.propagate() == 0);
+    assert!(rt; bench.decide(Lit::new(1)) == 2);
+    assert!(rt; bench.trail.len() == 2);
+    assert!(rt; bench.trail.at(1) == Lit::new(2));
+    // The three clauses watch -1 still, in the order in which they came.
+    let lit = Lit::new(-1);
+    assert!(rt; bench.store.head(lit) == Some(1));
+    assert!(rt; bench.store.tail(lit) == Some(3));
+    Ok(())
+}
+
+#[test]
+fn watch_moves_to_the_end_of_another_list(rt: HostRuntime) -> Result<(), AllocError> {
+    let mut bench = Bench::new(rt.alloc(), 4)?;
+    bench.add(&[Lit::new(3), Lit::new(4)])?;
+    bench.add(&[Lit::new(1), Lit::new(2), Lit::new(3)])?;
+    assert!(rt; bench.propagate() == 0);
+    assert!(rt; bench.store.head(Lit::new(1)) == Some(2));
+    assert!(rt; bench.decide(Lit::new(-1)) == 0);
+    assert!(rt; bench.store.head(Lit::new(1)).is_none());
+    assert!(rt; bench.store.tail(Lit::new(1)).is_none());
+    assert!(rt; bench.store.head(Lit::new(3)) == Some(1));
+    assert!(rt; bench.store.tail(Lit::new(3)) == Some(2));
+    assert!(rt; bench.decide(Lit::new(-2)) == 0);
+    assert!(rt; bench.trail.value(Lit::new(3)) == Some(true));
+    Ok(())
+}
+
+#[test]
+fn clause_that_is_false_at_level_0_is_answered(rt: HostRuntime) -> Result<(), AllocError> {
+    let mut bench = Bench::new(rt.alloc(), 1)?;
+    bench.add(&[Lit::new(1)])?;
+    bench.add(&[Lit::new(-1), Lit::new(-1)])?;
+    assert!(rt; bench.propagate() == 2);
     Ok(())
 }

@@ -2,11 +2,15 @@ use Rattle.std.proofs.Common.{◌≡◌, ◌∷◌, [], ◌++◌, ◌-◌, arith
 use Rattle.std.specs.Prelude.{ℤ, true}
 use Rattle.sat_base.specs.Members.{In}
 use Rattle.sat_base.specs.Literals.{IsLiteral, AreLiterals}
-use Rattle.sat_base.specs.Units.{IsUnset}
 use Rattle.trail_book.specs.declared.entry.Entry.{Entry}
 use Rattle.trail_book.specs.Trail.{trues, keep}
+use Rattle.propagate.specs.Entrance.{IsUnwatched}
+use Rattle.propagate.proofs.KeptLemmas.{kept_back}
 use Rattle.lrat_steps.specs.Log.{LogStep, Learned}
 use Rattle.cdcl_core.specs.Answers.{IsHonestlyPaid}
+use Rattle.cdcl_core.specs.Entrance.{IsAsserting}
+use Rattle.propagate.proofs.NewLemmas.{new_kept, new_clause}
+use Rattle.cdcl_core.proofs.EntranceLemmas.{asserts}
 use Rattle.cdcl_core.proofs.SearchLemmas.{sound_reasoned}
 use Rattle.cdcl_core.proofs.StateLemmas.{conflict_of, learned_state, learned_recorded, learned_first, reached_below, paid_learned, state_is, first_is, literals_from, used_literal}
 use Rattle.cdcl_core.proofs.search.Search.learn_from.Goals as goal
@@ -29,25 +33,54 @@ add_step-requires c =
     let over : (l : ℤ) → In l lits → IsLiteral s.trail.vars l = λ l i. used_literal s.trail.vars s.store.clauses l c.requires.search.state.recorded.over (used l i) in
     subst (λ (n : ℕ). AreLiterals n c.deref.result.now) (sym c.requires.search.vars) (subst (AreLiterals s.trail.vars) (sym c.deref.ensures.value) (literals_from s.trail.vars lits over))
 
-pub assign-requires-clause-unset : goal.assign-requires-clause-unset
-assign-requires-clause-unset c =
+-- all is kept but of the new clause, also where the trail has gone back
+pub enter_learnt-requires-clause-kept : goal.enter_learnt-requires-clause-kept
+enter_learnt-requires-clause-kept c =
     let s = c.args.self.now in
-    let learnt = c.in_ok-learnt.learnt in
+    let lits = c.in_ok-learnt.learnt.lits.items in
+    let back = c.in_ok-learnt.learnt.back_level in
     let r = c.in_ok-learnt.ensures in
-    let first = first_is learnt.lits.items r.rest c.index.result.now r.first r.is c.index.ensures in
-    let lit =
-    learned_first s.trail.vars s.store.clauses s.log s.trail.entries c.args.assumed.now s.assumed_levels learnt.back_level learnt.lits.items learnt.hints.items c.requires.search.state r in
-    subst (λ (xs : List Entry). IsUnset (trues xs) c.index.result.now) (sym c.back_to.ensures.entries) (subst (IsUnset (trues (keep learnt.back_level s.trail.entries))) (sym first) lit.0)
+    let id = c.in_ok-reason.reason in
+    let stored : c.add_step.new.store.clauses ≡ s.store.clauses ++ record { lits = lits; live = true } ∷ [] =
+    c.in_ok-reason.ensures.stored ∙ ap (λ (ls : List ℤ). s.store.clauses ++ record { lits = ls; live = true } ∷ []) c.deref.ensures.value in
+    kept_back c.add_step.new.store s.trail c.back_to.new.self id back c.back_to.ensures.entries c.back_to.ensures.vars c.back_to.ensures.done
+    (new_kept s.store c.add_step.new.store s.trail id lits c.requires.search.kept c.add_step.ensures.links stored c.add_step.ensures.vars c.in_ok-reason.ensures.id)
 
-pub assign-requires-clause-lit : goal.assign-requires-clause-lit
-assign-requires-clause-lit c =
+pub enter_learnt-requires-clause-unwatched : goal.enter_learnt-requires-clause-unwatched
+enter_learnt-requires-clause-unwatched c =
+    let s = c.args.self.now in
+    let lits = c.in_ok-learnt.learnt.lits.items in
+    let back = c.in_ok-learnt.learnt.back_level in
+    let r = c.in_ok-learnt.ensures in
+    let id = c.in_ok-reason.reason in
+    let stored : c.add_step.new.store.clauses ≡ s.store.clauses ++ record { lits = lits; live = true } ∷ [] =
+    c.in_ok-reason.ensures.stored ∙ ap (λ (ls : List ℤ). s.store.clauses ++ record { lits = ls; live = true } ∷ []) c.deref.ensures.value in
+    subst (λ (ls : List ℤ). IsUnwatched c.add_step.new.store id ls) (sym c.deref-3.ensures.value)
+    (new_clause s.store c.add_step.new.store s.trail id lits c.requires.search.kept c.add_step.ensures.links stored c.in_ok-reason.ensures.id)
+
+pub enter_learnt-requires-clause-literal : goal.enter_learnt-requires-clause-literal
+enter_learnt-requires-clause-literal c =
     let s = c.args.self.now in
     let learnt = c.in_ok-learnt.learnt in
     let r = c.in_ok-learnt.ensures in
-    let first = first_is learnt.lits.items r.rest c.index.result.now r.first r.is c.index.ensures in
+    let first = first_is learnt.lits.items r.rest c.index-first.result.now r.first r.is c.index-first.ensures in
     let lit =
     learned_first s.trail.vars s.store.clauses s.log s.trail.entries c.args.assumed.now s.assumed_levels learnt.back_level learnt.lits.items learnt.hints.items c.requires.search.state r in
-    subst (λ (n : ℕ). IsLiteral n c.index.result.now) (sym c.back_to.ensures.vars) (subst (IsLiteral s.trail.vars) (sym first) lit.1)
+    subst (λ (n : ℕ). IsLiteral n c.index-first.result.now) (sym c.back_to.ensures.vars) (subst (IsLiteral s.trail.vars) (sym first) lit.1)
+
+-- on the trail that is left the clause forces its first literal
+pub enter_learnt-requires-clause-asserting : goal.enter_learnt-requires-clause-asserting
+enter_learnt-requires-clause-asserting c =
+    let s = c.args.self.now in
+    let learnt = c.in_ok-learnt.learnt in
+    let r = c.in_ok-learnt.ensures in
+    let first = first_is learnt.lits.items r.rest c.index-first.result.now r.first r.is c.index-first.ensures in
+    let lit =
+    learned_first s.trail.vars s.store.clauses s.log s.trail.entries c.args.assumed.now s.assumed_levels learnt.back_level learnt.lits.items learnt.hints.items c.requires.search.state r in
+    let asserting = asserts s.store.clauses s.trail.entries learnt.lits.items learnt.hints.items learnt.back_level r lit.0 in
+    subst (λ (xs : List Entry). IsAsserting xs c.deref-3.result.now c.index-first.result.now) (sym c.back_to.ensures.entries)
+    (subst (λ (ls : List ℤ). IsAsserting (keep learnt.back_level s.trail.entries) ls c.index-first.result.now) (sym c.deref-3.ensures.value)
+    (subst (λ (l : ℤ). IsAsserting (keep learnt.back_level s.trail.entries) learnt.lits.items l) (sym first) asserting))
 
 pub returns-clause-search : goal.returns-clause-search
 returns-clause-search c =
@@ -67,19 +100,20 @@ returns-clause-search c =
     ∙ ap (λ (hs : List ℕ). s.log ++ Learned lits hs ∷ []) hints_are in
     let stored : c.add_step.new.store.clauses ≡ db ++ record { lits = lits; live = true } ∷ [] =
     c.in_ok-reason.ensures.stored ∙ ap (λ (ls : List ℤ). db ++ record { lits = ls; live = true } ∷ []) c.deref.ensures.value in
-    let first = first_is lits r.rest c.index.result.now r.first r.is c.index.ensures in
+    let first = first_is lits r.rest c.index-first.result.now r.first r.is c.index-first.ensures in
     let id_is : id ≡ length (db ++ record { lits = lits; live = true } ∷ []) = c.in_ok-reason.ensures.id ∙ ap length stored in
-    let entries : c.assign.new.self.entries ≡ record { lit = r.first; reason = Some id; unit = None } ∷ keep back es =
-    c.assign.ensures.entries ∙ ap (λ (l : ℤ). record { lit = l; reason = Some id; unit = None } ∷ c.back_to.new.self.entries) first
+    let entries : c.enter_learnt.new.trail.entries ≡ record { lit = r.first; reason = Some id; unit = None } ∷ keep back es =
+    c.enter_learnt.ensures.entries ∙ ap (λ (l : ℤ). record { lit = l; reason = Some id; unit = None } ∷ c.back_to.new.self.entries) first
     ∙ ap (λ (xs : List Entry). record { lit = r.first; reason = Some id; unit = None } ∷ xs) c.back_to.ensures.entries in
-    let vars : c.assign.new.self.vars ≡ s.trail.vars = c.assign.ensures.vars ∙ c.back_to.ensures.vars in
+    let vars : c.enter_learnt.new.trail.vars ≡ s.trail.vars = c.enter_learnt.ensures.vars ∙ c.back_to.ensures.vars in
     let reached =
     reached_below db assumed count back c.reached_at-self.result es c.requires.search.state.sound r.back.below (elim c.reached_at-self.ensures [ inl none ↦ inl none | inr kept ↦ inr kept.0 ]) in
     record {
-      vars = c.add_step.ensures.vars ∙ c.requires.search.vars ∙ sym vars;
+      vars = c.enter_learnt.ensures.store_vars ∙ c.add_step.ensures.vars ∙ c.requires.search.vars ∙ sym vars;
+      kept = c.enter_learnt.ensures.kept;
       state =
-          state_is s.trail.vars c.assign.new.self.vars c.min-self.result (db ++ record { lits = lits; live = true } ∷ []) c.add_step.new.store.clauses (s.log ++ Learned lits hints ∷ []) c.add_step.new.log
-          (record { lit = r.first; reason = Some id; unit = None } ∷ keep back es) c.assign.new.self.entries assumed vars stored logged entries
+          state_is s.trail.vars c.enter_learnt.new.trail.vars c.min-self.result (db ++ record { lits = lits; live = true } ∷ []) c.enter_learnt.new.store.clauses (s.log ++ Learned lits hints ∷ []) c.add_step.new.log
+          (record { lit = r.first; reason = Some id; unit = None } ∷ keep back es) c.enter_learnt.new.trail.entries assumed vars (c.enter_learnt.ensures.clauses ∙ stored) logged entries
           (learned_state s.trail.vars db s.log es assumed count id back c.min-self.result lits hints c.requires.search.state r c.requires.choice id_is c.min-self.ensures);
       reached = λ l i. subst (λ (xs : List Entry). In l (trues xs)) (sym entries) (inr (reached l i));
     }

@@ -1,4 +1,4 @@
-use Rattle.std.proofs.Common.{◌≡◌, ◌∷◌, [], ◌+◌, ℕ, List, map, refl, subst, sym, ap, ◌∙◌}
+use Rattle.std.proofs.Common.{◌≡◌, ◌∷◌, [], ◌+◌, ℕ, List, map, length, refl, subst, sym, ap, ◌∙◌}
 use Rattle.std.specs.Prelude.{neg_ℤ, pos}
 use Rattle.std.proofs.Math.IntN.{neg_ℤ-neg_ℤ}
 use Rattle.sat_base.specs.Members.{In}
@@ -7,11 +7,12 @@ use Rattle.sat_base.specs.Units.{HasValue}
 use Rattle.sat_base.proofs.DatabaseLemmas.{named_range}
 use Rattle.trail_book.specs.declared.entry.Entry.{Entry}
 use Rattle.trail_book.specs.Trail.{trues, oldest, with_unit}
-use Rattle.trail_book.proofs.TrailLemmas.{trues-with_unit}
+use Rattle.trail_book.proofs.TrailLemmas.{trues-with_unit, length-with_unit}
 use Rattle.propagate.specs.Propagation.{Tells}
+use Rattle.propagate.proofs.KeptLemmas.{kept_unit}
 use Rattle.cdcl_core.specs.State.{IsRoot}
 use Rattle.cdcl_core.proofs.SearchLemmas.{sound_reasoned, root_undecided}
-use Rattle.cdcl_core.proofs.UnitLemmas.{entry_in, literal_in, reason_named, has_value, unit_root, unit_tells}
+use Rattle.cdcl_core.proofs.UnitLemmas.{entry_in, literal_in, reason_named, has_value, unit_root, unit_tells, done_same}
 use Rattle.cdcl_core.proofs.search.Search.log_unit.Goals as goal
 
 pub lits-requires : goal.lits-requires
@@ -56,6 +57,7 @@ returns-clause-at_root c =
     let is : c.set_unit.new.self.entries ≡ map (with_unit (var_of lit) id) es = c.set_unit.ensures.entries ∙ ap (λ (v : ℕ). map (with_unit v id) es) c.var.ensures.same in
     record {
       vars = c.log_core.ensures.vars ∙ c.requires.at_root.vars ∙ sym c.set_unit.ensures.vars;
+      kept = kept_unit store s.trail c.set_unit.new.self 0 (var_of lit) id is c.set_unit.ensures.vars c.set_unit.ensures.done (c.in_ok-id.ensures.kept c.requires.at_root.kept);
       root = subst (λ (n : ℕ). IsRoot n store.clauses log c.set_unit.new.self.entries) (sym c.set_unit.ensures.vars)
           (subst (λ (xs : List Entry). IsRoot s.trail.vars store.clauses log xs) (sym is) root);
     }
@@ -72,6 +74,7 @@ returns-clause-keeps c =
       trues_are = ap trues is ∙ trues-with_unit v id es;
       levels_are = refl;
       reached_is = refl;
+      all_done = λ p d. done_same s.store store s.trail c.set_unit.new.self p c.set_unit.ensures.done (ap length is ∙ length-with_unit v id es) c.log_core.ensures.false_id d;
       tells = λ p t. subst (λ (xs : List Entry). Tells store.clauses (trues xs) p) (sym is)
           (unit_tells s.store.clauses store.clauses s.log c.log_core.new.log es (neg_ℤ c.negated.result ∷ []) id v p c.in_ok-id.ensures.added t);
     }

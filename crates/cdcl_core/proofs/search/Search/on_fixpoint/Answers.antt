@@ -3,6 +3,8 @@ use Rattle.std.specs.Prelude.{neg_ℤ}
 use Rattle.sat_base.specs.Members.{In}
 use Rattle.sat_base.specs.Literals.{IsLiteral}
 use Rattle.trail_book.specs.Trail.{Trail, trues, top}
+use Rattle.propagate.specs.Watches.{IsKept}
+use Rattle.propagate.proofs.KeptLemmas.{kept_decide}
 use Rattle.learn_step.specs.Reasons.{IsDecision}
 use Rattle.cdcl_core.specs.State.{IsState}
 use Rattle.lrat_steps.specs.Log.{inputs_of}
@@ -22,6 +24,7 @@ refute-requires-clause-search c =
     let same = c.next_decision.ensures.same in
     record {
       vars = c.requires.search.vars ∙ ap (λ (t : Trail). t.vars) (sym same);
+      kept = subst (λ (t : Trail). IsKept s.store t) (sym same) c.requires.search.kept;
       state = subst (λ (t : Trail). IsState t.vars s.store.clauses s.log t.entries assumed s.assumed_levels) (sym same) c.requires.search.state;
       reached = λ l i. subst (λ (t : Trail). In l (trues t.entries)) (sym same) (c.next_decision.ensures.reached l i);
     }
@@ -59,12 +62,14 @@ returns-in-Assume-clause-round c =
     let vars : c.decide.new.self.vars ≡ s.trail.vars = c.decide.ensures.vars ∙ ap (λ (t : Trail). t.vars) same in
     let entries : c.decide.new.self.entries ≡ record { lit = lit; reason = None; unit = None } ∷ es =
     c.decide.ensures.entries ∙ ap (λ (t : Trail). record { lit = lit; reason = None; unit = None } ∷ t.entries) same in
+    let done : c.decide.new.self.done ≡ s.trail.done = c.decide.ensures.done ∙ ap (λ (t : Trail). t.done) same in
     let tops = ap top entries in
     let count : c.top-self.result ≡ s.assumed_levels + 1 = omega (arith, c.top-self.ensures, tops, all, levels) in
     let len = ap length entries in
     λ left. record {
       search = record {
         vars = c.requires.search.vars ∙ sym vars;
+        kept = kept_decide s.store s.trail c.decide.new.self 0 lit entries vars done c.requires.all_done c.requires.search.kept;
         state =
             subst (λ (n : ℕ). IsState c.decide.new.self.vars db s.log c.decide.new.self.entries assumed n) (sym count)
             (state_is s.trail.vars c.decide.new.self.vars (s.assumed_levels + 1) db db s.log s.log (record { lit = lit; reason = None; unit = None } ∷ es) c.decide.new.self.entries assumed vars refl refl entries state);
@@ -91,6 +96,7 @@ returns-in-Choose-clause-round c =
     λ left. record {
       search = record {
         vars = c.requires.search.vars ∙ sym vars;
+        kept = kept_decide s.store s.trail decided 0 lit entries vars (c.decide-in-Choose.ensures.done ∙ ap (λ (t : Trail). t.done) same) c.requires.all_done c.requires.search.kept;
         state = state_is s.trail.vars decided.vars s.assumed_levels db db s.log s.log (record { lit = lit; reason = None; unit = None } ∷ es) decided.entries assumed vars refl refl entries state;
         reached = λ l j. subst (In l) (sym (ap trues entries)) (inr (c.next_decision.ensures.reached l j));
       };
@@ -110,6 +116,7 @@ returns-in_ok-assign-in-Full-clause-round c =
     λ left. record {
       search = record {
         vars = c.requires.search.vars ∙ ap (λ (t : Trail). t.vars) (sym same);
+        kept = subst (λ (t : Trail). IsKept s.store t) (sym same) c.requires.search.kept;
         state = subst (λ (t : Trail). IsState t.vars s.store.clauses s.log t.entries assumed s.assumed_levels) (sym same) c.requires.search.state;
         reached = λ l i. subst (λ (t : Trail). In l (trues t.entries)) (sym same) (c.next_decision.ensures.reached l i);
       };

@@ -20,6 +20,7 @@ returns-clause-search c =
     let s = c.args.self.now in
     record {
       vars = c.log_core.ensures.vars ∙ c.requires.search.vars;
+      kept = c.in_ok-id.ensures.kept c.requires.search.kept;
       state =
           core_state s.trail.vars s.store.clauses c.log_core.new.store.clauses s.log c.log_core.new.log s.trail.entries c.args.assumed.now (start_of c.args.origin) s.assumed_levels c.in_ok-id.id
           c.requires.search.state c.in_ok-id.ensures.added;

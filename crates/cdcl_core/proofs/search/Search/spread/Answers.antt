@@ -1,8 +1,10 @@
-use Rattle.std.proofs.Common.{◌≡◌, ℕ, subst, sym, ◌∙◌, arith, take}
+use Rattle.std.proofs.Common.{◌≡◌, ℕ, List, subst, sym, ◌∙◌, arith, take}
 use Rattle.sat_base.specs.Members.{In}
+use Rattle.sat_base.specs.Database.{StoredClause}
 use Rattle.trail_book.specs.Trail.{top, IsTrail}
 use Rattle.cdcl_core.specs.State.{IsState, IsRoot}
-use Rattle.cdcl_core.proofs.SearchLemmas.{top_grows, length_grows, in_grows}
+use Rattle.propagate.proofs.GrowsLemmas.{top_grows}
+use Rattle.cdcl_core.proofs.SearchLemmas.{length_grows, in_grows}
 use Rattle.cdcl_core.proofs.StateLemmas.{grown_state}
 use Rattle.cdcl_core.proofs.RootLemmas.{root_of, root_start}
 use Rattle.cdcl_core.proofs.UnitLemmas.{same_length}
@@ -16,8 +18,10 @@ log_units-requires c =
     let level : top es ≡ 0 = omega (arith, c.top.ensures, c.if-top-eq0.true) in
     let state = grown_state s.trail.vars s.store.clauses s.log s.trail.entries es c.args.assumed.now s.assumed_levels c.requires.state told.grows (subst (λ (n : ℕ). IsTrail n es) told.vars told.trail) in
     record {
-      vars = c.requires.vars ∙ sym told.vars;
-      root = subst (λ (n : ℕ). IsRoot n s.store.clauses s.log es) (sym told.vars) (root_of s.trail.vars s.store.clauses s.log es c.args.assumed.now s.assumed_levels state level);
+      vars = told.kept.vars;
+      kept = told.kept;
+      root = subst (λ (db : List StoredClause). IsRoot c.propagate-told.new.trail.vars db s.log es) (sym told.clauses.clauses)
+          (subst (λ (n : ℕ). IsRoot n s.store.clauses s.log es) (sym told.vars) (root_of s.trail.vars s.store.clauses s.log es c.args.assumed.now s.assumed_levels state level));
     }
 
 -- at level 0 nothing is decided, so that no level is one of assumed literals
@@ -34,6 +38,7 @@ returns-in_ok-log_units-clause-search c =
     let none : new.assumed_levels ≡ 0 = r.keeps.levels_are ∙ (let e : s.assumed_levels ≡ 0 = omega (arith, level, same, levels) in e) in
     record {
       vars = r.at_root.vars;
+      kept = r.at_root.kept;
       state = subst (IsState new.trail.vars new.store.clauses new.log new.trail.entries c.args.assumed.now) (sym none)
           (root_start new.trail.vars new.store.clauses new.log new.trail.entries c.args.assumed.now r.at_root.root);
       reached = λ l i.
@@ -56,8 +61,10 @@ returns-else-top-eq0-clause-search c =
     let es = c.propagate-told.new.trail.entries in
     let state = grown_state s.trail.vars s.store.clauses s.log s.trail.entries es c.args.assumed.now s.assumed_levels c.requires.state told.grows (subst (λ (n : ℕ). IsTrail n es) told.vars told.trail) in
     record {
-      vars = c.requires.vars ∙ sym told.vars;
-      state = subst (λ (n : ℕ). IsState n s.store.clauses s.log es c.args.assumed.now s.assumed_levels) (sym told.vars) state;
+      vars = told.kept.vars;
+      kept = told.kept;
+      state = subst (λ (db : List StoredClause). IsState c.propagate-told.new.trail.vars db s.log es c.args.assumed.now s.assumed_levels) (sym told.clauses.clauses)
+          (subst (λ (n : ℕ). IsState n s.store.clauses s.log es c.args.assumed.now s.assumed_levels) (sym told.vars) state);
       reached = λ l i. in_grows s.store.clauses s.trail.entries es l told.grows (c.requires.reached l i);
     }
 

@@ -1,0 +1,24 @@
+use Rattle.std.proofs.Common.{◌≡◌, ◌∙◌, [], ap, sym, subst}
+use Rattle.trail_book.specs.Trail.{Trail}
+use Rattle.lrat_steps.specs.Honest.{IsHonest}
+use Rattle.propagate.proofs.NewLemmas.{kept_first}
+use Rattle.cdcl_core.proofs.RootLemmas.{root_first, root_is}
+use Rattle.cdcl_core.proofs.solver.Solver.new.Goals as goal
+
+-- no clause, no value, no step
+pub invariant_of-result : goal.invariant_of-result
+invariant_of-result c =
+    let store = c.in_ok-new.field-0 in
+    let trail = c.in_ok-new-2.field-0 in
+    let s = c.in_ok-new.ensures in
+    let entries : trail.entries ≡ [] = ap (λ (t : Trail). t.entries) c.in_ok-new-2.ensures in
+    let vars : trail.vars ≡ c.args.vars = ap (λ (t : Trail). t.vars) c.in_ok-new-2.ensures in
+    let done : trail.done ≡ 0 = ap (λ (t : Trail). t.done) c.in_ok-new-2.ensures in
+    record {
+      honest = subst IsHonest (sym c.new.ensures) tt;
+      at_root = λ b. record {
+        vars = s.vars ∙ sym vars;
+        kept = kept_first store trail (s.vars ∙ sym vars) s.clauses s.watched s.heads s.tails s.false_id entries done;
+        root = root_is c.args.vars trail.vars [] store.clauses [] c.new.result [] trail.entries vars s.clauses c.new.ensures entries (root_first c.args.vars);
+      };
+    }

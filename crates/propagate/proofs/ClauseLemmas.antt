@@ -1,0 +1,60 @@
+-- Clauses of two literals.
+use Rattle.std.proofs.Common.{◌≡◌, ◌≢◌, ◌⊎◌, ℕ, ◌+◌, ◌<◌, ◌≤◌, List, [], ◌∷◌, length, take, get_or, sym, subst, ◌∙◌, inl, inr, arith}
+use Rattle.std.proofs.lemmas.List.{take_all}
+use Rattle.sat_base.proofs.DatabaseLemmas.{In-take_more}
+use Rattle.std.specs.Prelude.{ℤ, neg_ℤ, Bool, true, false, Option, Some, None}
+use Rattle.std.specs.Option.{option_eq}
+use Rattle.std.proofs.lemmas.Bool.{false≢true}
+use mathlib.Core.Bool.{beq}
+use Rattle.sat_base.specs.Members.{In}
+use Rattle.sat_base.specs.Units.{AllFalse, AllFalseBut, IsUnset, IsValue}
+
+cases_two : (x y l : ℤ) → In l (x ∷ y ∷ []) → (l ≡ x) ⊎ (l ≡ y)
+cases_two x y l i = elim i [ inl e ↦ inl e | inr j ↦ elim j [ inl e ↦ inr e | inr k ↦ absurd k ] ]
+
+-- what is one of two is the one or the other, where these differ
+of_two : (x y a b l : ℤ) → In a (x ∷ y ∷ []) → In b (x ∷ y ∷ []) → a ≢ b → In l (x ∷ y ∷ []) → (l ≡ b) ⊎ (l ≡ a)
+of_two x y a b l i j ne k = elim (cases_two x y a i) [
+  | inl ax ↦ elim (cases_two x y b j) [
+    | inl bx ↦ absurd (ne (ax ∙ sym bx))
+    | inr by_y ↦ elim (cases_two x y l k) [ inl lx ↦ inr (lx ∙ sym ax) | inr ly ↦ inl (ly ∙ sym by_y) ]
+  ]
+  | inr ay ↦ elim (cases_two x y b j) [
+    | inl bx ↦ elim (cases_two x y l k) [ inl lx ↦ inl (lx ∙ sym bx) | inr ly ↦ inr (ly ∙ sym ay) ]
+    | inr by_y ↦ absurd (ne (ay ∙ sym by_y))
+  ]
+]
+
+pub pair_false : (t c : List ℤ) (a b : ℤ) → length c ≡ 2 → In a c → In b c → a ≢ b → In (neg_ℤ a) t → AllFalseBut t c b
+pair_false t [] a b two i j ne f = λ l k. absurd k
+pair_false t (x ∷ []) a b two i j ne f = absurd (omega (arith, two))
+pair_false t (x ∷ y ∷ []) a b two i j ne f = λ l k. elim (of_two x y a b l i j ne k) [
+  | inl e ↦ inl e
+  | inr e ↦ inr (subst (λ (m : ℤ). In (neg_ℤ m) t) (sym e) f)
+]
+pair_false t (x ∷ y ∷ z ∷ zs) a b two i j ne f = absurd (omega (arith, two))
+
+-- one literal more that is false, or the one that is left out
+pub but_more : (t c : List ℤ) (i : ℕ) (x other : ℤ) → i < length c → x ≡ get_or c i x → (x ≡ other) ⊎ In (neg_ℤ x) t → AllFalseBut t (take i c) other → AllFalseBut t (take (i + 1) c) other
+but_more t c i x other h is f all m j = elim (In-take_more c i x m h j) [
+  | inl old ↦ all m old
+  | inr same ↦ elim f [ inl e ↦ inl (same ∙ sym is ∙ e) | inr g ↦ inr (subst (λ k. In (neg_ℤ k) t) (is ∙ sym same) g) ]
+]
+
+pub but_all : (t c : List ℤ) (i : ℕ) (other : ℤ) → length c ≤ i → AllFalseBut t (take i c) other → AllFalseBut t c other
+but_all t c i other h f = subst (λ (ls : List ℤ). AllFalseBut t ls other) (take_all i c h) f
+
+-- what a value is that is known by its tests
+pub value_is_false : (t : List ℤ) (l : ℤ) (v : Option Bool) → option_eq beq v (Some false) ≡ true → IsValue t l v → In (neg_ℤ l) t
+value_is_false t l None e h = absurd (false≢true e)
+value_is_false t l (Some true) e h = absurd (false≢true e)
+value_is_false t l (Some false) e h = h
+
+pub value_is_none : (t : List ℤ) (l : ℤ) (v : Option Bool) → option_eq beq v (Some true) ≡ false → option_eq beq v (Some false) ≡ false → IsValue t l v → IsUnset t l
+value_is_none t l None e f h = h
+value_is_none t l (Some true) e f h = absurd (false≢true (sym e))
+value_is_none t l (Some false) e f h = absurd (false≢true (sym f))
+
+-- where the one that was left out is false, all are
+pub but_false : (t c : List ℤ) (other : ℤ) → AllFalseBut t c other → In (neg_ℤ other) t → AllFalse t c
+but_false t c other all f = λ l i. elim (all l i) [ inl e ↦ subst (λ (m : ℤ). In (neg_ℤ m) t) (sym e) f | inr g ↦ g ]

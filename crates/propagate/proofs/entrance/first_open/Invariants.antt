@@ -1,0 +1,8 @@
+use Rattle.std.proofs.Common.{take}
+use Rattle.sat_base.specs.Units.{AllFalse}
+use Rattle.trail_book.specs.Trail.{trues}
+use Rattle.propagate.proofs.entrance.first_open.Given as goal
+
+-- the literals before are false
+abbrev pub invariant-loop-lit : goal.invariant-loop-lit
+invariant-loop-lit l = AllFalse (trues l.trail.entries) (take l.lit-index l.clause)

@@ -1,0 +1,13 @@
+use Rattle.std.proofs.Common.{◌≡◌, subst, ap, ◌∙◌, Option, Some, true}
+use Rattle.std.specs.Prelude.{Bool}
+use Rattle.sat_base.specs.Units.{IsValue}
+use Rattle.trail_book.specs.Trail.{trues}
+use Rattle.trail_book.proofs.TrailLemmas.{trail_consistent}
+use Rattle.propagate.proofs.entrance.is_false.Goals as goal
+
+-- a literal that is true is not false
+pub returns-in-Some-true-clause-no : goal.returns-in-Some-true-clause-no
+returns-in-Some-true-clause-no c = λ is.
+    let t = c.args.trail.now in
+    let value : c.value.result ≡ Some true = c.in-Some-true.is ∙ ap (λ (b : Bool). Some b) c.in-Some-true.field-0-test in
+    trail_consistent t.vars t.entries c.vars-vars.ensures.trail c.args.lit (subst (IsValue (trues t.entries) c.args.lit) value c.value.ensures)

@@ -1,0 +1,58 @@
+use Rattle.std.proofs.Common.{◌≡◌, ◌∙◌, ◌+◌, ◌*◌, ◌<◌, ◌≤◌, ◌-◌, List, Option, ℕ, refl, sym, ap, subst, length, arith}
+use Rattle.sat_base.specs.Database.{StoredClause}
+use Rattle.clause_store.specs.Links.{link_of}
+use Rattle.propagate.specs.Propagation.{Grows}
+use Rattle.propagate.specs.Watches.{IsKept, KeepsClauses}
+use Rattle.propagate.specs.Walk.{IsWalk}
+use Rattle.propagate.proofs.GrowsLemmas.{grows-refl, grows-trans}
+use Rattle.propagate.proofs.WalkLemmas.{begin_walk, propagated}
+use Rattle.propagate.proofs.StepLemmas.{keeps_same, keeps_trans}
+use Rattle.propagate.proofs.LengthLemmas.{list_fits}
+use Rattle.propagate.proofs.propagation.visit_all.Goals as goal
+
+pub loop-cursor-init : goal.loop-cursor-init
+loop-cursor-init c =
+    let r = c.requires in
+    let s = c.args.store.now in
+    let long = c.len.ensures.len in
+    record {
+      walk = subst (λ (at : ℕ). IsWalk s c.args.trail.now c.args.falsified 0 at (2 * c.len.result + 2)) (sym c.head.ensures.head)
+          (begin_walk s c.args.trail.now c.args.falsified (2 * c.len.result + 2) r.kept r.none r.literal r.waiting r.now (λ ns nodes apart ids. let fits = list_fits s.clauses ns apart ids in omega (arith, fits, long)));
+      before_from_one = tt;
+      from_one = c.head.ensures.from_one;
+      grows = grows-refl s.clauses c.args.trail.now.entries;
+      clauses = keeps_same s;
+      done = refl;
+      vars = refl;
+      trail = c.vars-vars.ensures.trail;
+    }
+
+pub loop-cursor-preserved : goal.loop-cursor-preserved
+loop-cursor-preserved c =
+    let s = c.args.store.now in
+    let i = c.loop-cursor.invariant in
+    let e = c.in-Some-step.ensures in
+    let grows = subst (λ (db : List StoredClause). Grows db c.loop-cursor.trail.entries c.step.new.trail.entries) i.clauses.clauses e.grows in
+    record {
+      walk = e.walk;
+      before_from_one = e.from_one.0;
+      from_one = e.from_one.1;
+      grows = grows-trans s.clauses c.args.trail.now.entries c.loop-cursor.trail.entries c.step.new.trail.entries i.grows grows;
+      clauses = keeps_trans s c.loop-cursor.store c.step.new.store i.clauses e.clauses;
+      done = e.done ∙ i.done;
+      vars = e.vars ∙ i.vars;
+      trail = e.trail;
+    }
+
+pub returns-in-None-clause-grows : goal.returns-in-None-clause-grows
+returns-in-None-clause-grows c =
+    let i = c.loop-cursor.invariant in
+    let grows = subst (λ (db : List StoredClause). Grows db c.loop-cursor.trail.entries c.step.new.trail.entries) i.clauses.clauses c.step.ensures.grows in
+    grows-trans c.args.store.now.clauses c.args.trail.now.entries c.loop-cursor.trail.entries c.step.new.trail.entries i.grows grows
+
+-- at the end of the list the literal has been propagated
+pub returns-clause-propagated : goal.returns-clause-propagated
+returns-clause-propagated c =
+    let l = c.loop-cursor in
+    let w = subst (λ (at : Option ℕ). IsWalk l.store l.trail c.args.falsified (link_of l.cursor.before) (link_of at) l.left) c.in_default.is l.invariant.walk in
+    propagated l.store l.trail c.args.falsified (link_of l.cursor.before) l.left l.invariant.trail w

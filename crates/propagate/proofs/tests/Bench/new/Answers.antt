@@ -1,0 +1,13 @@
+use Rattle.std.proofs.Common.{◌≡◌, ◌∙◌, ap, sym}
+use Rattle.trail_book.specs.Trail.{Trail}
+use Rattle.propagate.proofs.NewLemmas.{kept_first}
+use Rattle.propagate.proofs.tests.Bench.new.Goals as goal
+
+-- no clause, no value
+pub returns-clause-kept : goal.returns-clause-kept
+returns-clause-kept c =
+    let store = c.in_ok-new.field-0 in
+    let trail = c.in_ok-new-2.field-0 in
+    let s = c.in_ok-new.ensures in
+    let vars = ap (λ (t : Trail). t.vars) c.in_ok-new-2.ensures in
+    kept_first store trail (s.vars ∙ sym vars) s.clauses s.watched s.heads s.tails s.false_id (ap (λ (t : Trail). t.entries) c.in_ok-new-2.ensures) (ap (λ (t : Trail). t.done) c.in_ok-new-2.ensures)

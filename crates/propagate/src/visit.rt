@@ -1,0 +1,91 @@
+//! A look at one clause, of which one watched literal is false.
+ghost use Rattle.std.specs.Prelude.{◌≡◌, ◌≢◌, ◌⊎◌, true, false, neg_ℤ, IfSome, IfNone};
+ghost use Rattle.sat_base.specs.Members.{In};
+ghost use Rattle.sat_base.specs.Literals.{AreLiterals, IsLiteral};
+ghost use Rattle.sat_base.specs.Units.{AllFalseBut};
+ghost use Rattle.clause_store.specs.Clauses.{clause_at, IsId};
+ghost use Rattle.trail_book.specs.Trail.{trues};
+ghost use Rattle.propagate.specs.Walk.{CanWatch, IsFalseWatch, Visits};
+
+use clause_store::Store;
+use sat_base::Lit;
+use trail_book::Trail;
+
+/// What the values make of a clause, of which one watched literal is false.
+#[derive(Clone, Copy)]
+pub enum Finding {
+    /// The other watched literal is true.
+    Satisfied,
+    /// It can watch this literal instead of the false one.
+    Moved(Lit),
+    /// It forces the other watched literal.
+    Forcing,
+    /// All its literals are false.
+    Falsified,
+}
+
+/// What the clause of this id does, which watches `falsified` and `other`.
+pub fn visit(store: &Store, trail: &Trail, id: u64, falsified: Lit, other: Lit) -> Finding
+    requires vars { store.now.vars ≡ trail.now.vars }
+    requires id { IsId store.now.clauses id }
+    requires other { IsLiteral store.now.vars other }
+    requires watch { IsFalseWatch (trues trail.now.entries) (clause_at store.now.clauses id).lits falsified other }
+    ensures { Visits store.now.vars (trues trail.now.entries) (clause_at store.now.clauses id).lits other result }
+{
+    let value = trail.value(other);
+    if value == Some(true) {
+        return Finding::Satisfied;
+    }
+    if let Some(lit) = replacement(store.lits(id), trail, falsified, other) {
+        return Finding::Moved(lit);
+    }
+    if value == Some(false) {
+        Finding::Falsified
+    } else {
+        Finding::Forcing
+    }
+}
+
+// A literal that is neither false nor `other`. A clause of two literals has none, and its literals are not read.
+fn replacement(clause: &[Lit], trail: &Trail, falsified: Lit, other: Lit) -> Option<Lit>
+    requires literals { AreLiterals trail.now.vars clause.now }
+    requires watch { IsFalseWatch (trues trail.now.entries) clause.now falsified other }
+    ensures found { IfSome result (CanWatch trail.now.vars (trues trail.now.entries) clause.now other) }
+    ensures none { IfNone result (AllFalseBut (trues trail.now.entries) clause.now other) }
+{
+    if clause.len() == 2 {
+        None
+    } else {
+        other_open(trail, clause, other)
+    }
+}
+
+/// The first literal of the clause that is neither false nor `other`.
+pub fn other_open(trail: &Trail, clause: &[Lit], other: Lit) -> Option<Lit>
+    requires { AreLiterals trail.now.vars clause.now }
+    ensures found { IfSome result (CanWatch trail.now.vars (trues trail.now.entries) clause.now other) }
+    ensures none { IfNone result (AllFalseBut (trues trail.now.entries) clause.now other) }
+{
+    for lit in clause {
+        if may_watch(trail, *lit, other) {
+            return Some(*lit);
+        }
+    }
+    None
+}
+
+fn may_watch(trail: &Trail, lit: Lit, other: Lit) -> bool
+    requires { IsLiteral trail.now.vars lit }
+    ensures yes { result ≡ true → (lit ≢ other) × (¬ In (neg_ℤ lit) (trues trail.now.entries)) }
+    ensures no { result ≡ false → (lit ≡ other) ⊎ In (neg_ℤ lit) (trues trail.now.entries) }
+{
+    let _vars = trail.vars(); // No literal is both true and false.
+    if lit == other {
+        return false;
+    }
+    match trail.value(lit) {
+        None => true,
+        Some(true) => true,
+        Some(false) => false,
+    }
+}
