@@ -15,8 +15,8 @@
 //!
 //! Start with [`Solver`], whose contracts are in the words of `specs/Answers.antt`. The loop is in `search.rt`, where
 //! the head says what holds in each round and why that suffices (`specs/State.antt`). `conflicts.rt` and `decisions.rt`
-//! are the two ways on from there, `entrance.rt` has new clauses be watched, `units.rt` logs what holds at level 0, and `steps.rt` keeps
-//! log and clauses in step.
+//! are the two ways on from there, `entrance.rt` has learnt clauses be watched, `units.rt` logs what holds at level 0,
+//! and `steps.rt` keeps log and clauses in step.
 //!
 //! Not said here: how many units a search needs, which model or core it finds, and that memory suffices.
 #![tactic(auto)]

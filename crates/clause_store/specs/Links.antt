@@ -1,8 +1,8 @@
--- The lists of those that watch a literal (two watched literals: Chaff, Moskewicz and others 2001; lists threaded through the
--- clauses).
+-- The lists of those that watch a literal (two watched literals: Chaff, Moskewicz and others 2001), threaded through the
+-- clauses.
 --
--- A watch is a place of a clause, 0 or 1. That of clause `id` by `place` has the number `2 * id + place`: so its clause is half of
--- its number, and two watches differ where clause or place does.
+-- A watch is a place of a clause, 0 or 1. That of clause `id` by `place` has the number `2 * id + place`: so its clause
+-- is half of its number, and two watches differ where clause or place does.
 use Rattle.std.specs.Prelude.{◌≡◌, ℕ, zero, suc, ◌+◌, ◌*◌, ◌/◌, ◌%◌, ◌≤◌, [], ◌∷◌, ℤ, pos, negsuc, Option, Some, None, length, slice_index_or}
 use Rattle.clause_store.specs.Clauses.{Clauses}
 

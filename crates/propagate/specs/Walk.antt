@@ -69,8 +69,8 @@ pub record Appends (old new : Clauses) (lit : ℤ) (node n : ℕ) : Type 0 where
   pub tail : tail_of new lit ≡ n / 2
   pub tails : (y : ℤ) → y ≢ lit → tail_of new y ≡ tail_of old y
 
--- the walk along the list of the literal has seen these watches, behind which the others follow; the literal is false and the next one to be
--- propagated, and the other watched literal is true wherever a watch was seen
+-- the walk along the list of the literal has seen these watches, behind which the others follow; the literal is false
+-- and the next one to be propagated, and the other watched literal is true wherever a watch was seen
 pub record IsWalk (store : Clauses) (trail : Trail) (lit : ℤ) (before at fuel : ℕ) : Type 0 where
   pub kept : IsKept store trail
   pub none : store.false_id ≡ 0

@@ -11,12 +11,13 @@
 //! }
 //! ```
 //!
-//! Each clause watches two of its literals, so that only clauses that may have become unit or falsified are looked at. What
-//! has to hold of the watches for that is one fact of the store and the trail, `IsKept`, which [`propagate`] needs and keeps.
-//! A new clause comes to it by [`enter`] at level 0, or by [`watch`]; a decision behind a fixpoint and going back keep it.
+//! Each clause watches two of its literals, so that only clauses that may have become unit or falsified are looked at.
+//! What has to hold of the watches for that is one fact of the store and the trail, `IsKept`, which [`propagate`] needs
+//! and keeps. A new clause comes to it by [`enter`] at level 0, or by [`watch`]; a decision behind a fixpoint and going
+//! back keep it.
 //!
-//! Start reading at `sat_base/specs/Units.antt`, `specs/Propagation.antt` and `specs/Watches.antt`. Which of several falsified
-//! clauses is named, and in which order literals are forced, is not told.
+//! Start reading at `sat_base/specs/Units.antt`, `specs/Propagation.antt` and `specs/Watches.antt`. Which of several
+//! falsified clauses is named, and in which order literals are forced, is not told.
 #![tactic(auto)]
 
 mod entrance;
