@@ -62,6 +62,32 @@ fn end(
     assert_eq!(rt; log.inputs(), records as u64);
 }
 
+// The calls of a worker that has learnt nothing. Of all that they promise, a row needs no more than this.
+fn take(rt: &impl Abort, core: &mut MapCore<ScriptedMap>, worker: u32) -> Taken
+    ensures { core.new.opening ≡ core.old.opening }
+{
+    assert!(rt; core.may_call(worker));
+    core.take(worker, 0)
+}
+
+fn post(rt: &impl Abort, core: &mut MapCore<ScriptedMap>, worker: u32, record: Record) -> Posted
+    requires { IsAccepted core.old.opening.problem «record» }
+    ensures { core.new.opening ≡ core.old.opening }
+{
+    assert!(rt; core.may_call(worker));
+    core.post(worker, 0, record)
+}
+
+fn refill(
+    rt: &impl Abort,
+    alloc: Global,
+    core: &mut MapCore<ScriptedMap>,
+    worker: u32,
+) -> Refilled {
+    assert!(rt; core.may_call(worker));
+    core.refill(worker, 0, GroupSet::new(alloc))
+}
+
 // Takes a seed and posts what it was shrunk or grown to.
 fn explore(
     rt: &impl Abort,
@@ -73,10 +99,8 @@ fn explore(
     requires { IsAccepted core.old.opening.problem «record» }
     ensures { core.new.opening ≡ core.old.opening }
 {
-    assert!(rt; core.may_call(0));
-    assert!(rt; is_job(&core.take(0, 0), seed, number, 1000));
-    assert!(rt; core.may_call(0));
-    assert_eq!(rt; core.post(0, 0, record), Posted::New);
+    assert!(rt; is_job(&take(rt, core, 0), seed, number, 1000));
+    assert_eq!(rt; post(rt, core, 0, record), Posted::New);
 }
 
 // Five seeds, not all of which are greatest ones.
@@ -124,8 +148,7 @@ fn enumeration_is_complete_once_the_engine_shows_it(rt: HostRuntime) -> Result<(
     let ending = derivation(alloc, 6, &[], &[1, 3, 2, 4, 5])?;
     let mut core = core_of(alloc, &problem, 1, (9000, 9), &SEEDS, ending)?;
     explore_all(&rt, alloc, &problem, &mut core)?;
-    assert!(rt; core.may_call(0));
-    assert!(rt; matches!(core.take(0, 0), Taken::Exhausted));
+    assert!(rt; matches!(take(&rt, &mut core, 0), Taken::Exhausted));
     end(&rt, core, Verdict::Complete, 5, 11);
     Ok(())
 }
@@ -138,8 +161,7 @@ fn engine_that_fails_ends_the_enumeration(rt: HostRuntime) -> Result<(), Fail> {
     let ending = derivation(alloc, 6, &[], &[1, 3, 2, 5])?;
     let mut core = core_of(alloc, &problem, 1, (9000, 9), &SEEDS, ending)?;
     explore_all(&rt, alloc, &problem, &mut core)?;
-    assert!(rt; core.may_call(0));
-    assert!(rt; matches!(core.take(0, 0), Taken::Memory));
+    assert!(rt; matches!(take(&rt, &mut core, 0), Taken::Memory));
     end(&rt, core, Verdict::Memory, 5, 11);
     Ok(())
 }
@@ -155,24 +177,18 @@ fn take_and_post_twice(
     requires again { IsAccepted core.old.opening.problem again }
     ensures { core.new.opening ≡ core.old.opening }
 {
-    assert!(rt; core.may_call(0));
-    assert!(rt; is_job(&core.take(0, 0), &[1, 2, 3], 1, 10));
-    assert!(rt; core.may_call(1));
-    assert!(rt; is_job(&core.take(1, 0), &[1, 2], 2, 0));
-    assert!(rt; core.may_call(0));
-    assert_eq!(rt; core.post(0, 0, record), Posted::New);
-    assert!(rt; core.may_call(1));
-    assert_eq!(rt; core.post(1, 0, again), Posted::Already);
+    assert!(rt; is_job(&take(rt, core, 0), &[1, 2, 3], 1, 10));
+    assert!(rt; is_job(&take(rt, core, 1), &[1, 2], 2, 0));
+    assert_eq!(rt; post(rt, core, 0, record), Posted::New);
+    assert_eq!(rt; post(rt, core, 1, again), Posted::Already);
 }
 
 // The calls that find as many records as were wanted.
 fn reach_the_limit(rt: &impl Abort, core: &mut MapCore<ScriptedMap>, other: Record)
     requires { IsAccepted core.old.opening.problem other }
 {
-    assert!(rt; core.may_call(0));
-    assert!(rt; matches!(core.take(0, 0), Taken::Limit));
-    assert!(rt; core.may_call(1));
-    assert_eq!(rt; core.post(1, 0, other), Posted::Limit);
+    assert!(rt; matches!(take(rt, core, 0), Taken::Limit));
+    assert_eq!(rt; post(rt, core, 1, other), Posted::Limit);
 }
 
 #[test]
@@ -192,17 +208,11 @@ fn worker_is_granted_what_is_left_and_a_record_is_kept_once(rt: HostRuntime) -> 
 
 // A grant, and refills of which each is twice the one before, up to what is available.
 fn refill_to_the_end(rt: &impl Abort, alloc: Global, core: &mut MapCore<ScriptedMap>) {
-    assert!(rt; core.may_call(0));
-    assert!(rt; is_job(&core.take(0, 0), &[1], 1, 1000));
+    assert!(rt; is_job(&take(rt, core, 0), &[1], 1, 1000));
     for grant in [2000, 4000, 5000] {
-        assert!(rt; core.may_call(0));
-        assert_eq!(rt;
-            core.refill(0, 0, GroupSet::new(alloc)),
-            Refilled::Grant(grant)
-        );
+        assert_eq!(rt; refill(rt, alloc, core, 0), Refilled::Grant(grant));
     }
-    assert!(rt; core.may_call(1));
-    assert_eq!(rt; core.refill(1, 0, GroupSet::new(alloc)), Refilled::Dry);
+    assert_eq!(rt; refill(rt, alloc, core, 1), Refilled::Dry);
 }
 
 #[test]
