@@ -187,7 +187,7 @@ module _ (s s₁ s₂ s₃ : Clauses) (t : Trail) (id : ℕ) (first second : ℤ
   false_id_is = ap (λ (x : Clauses). x.false_id) last_rest ∙ ap (λ (x : Clauses). x.false_id) two_rest ∙ ap (λ (x : Clauses). x.false_id) one_rest
 
   pub entered_keeps : KeepsClauses s s₃
-  entered_keeps = record { vars = vars_are; clauses = clauses_are; false_id = false_id_is }
+  entered_keeps = record { vars = vars_are; clauses = clauses_are; false_id = false_id_is; room = ap (λ (x : Clauses). x.room) last_rest ∙ ap (λ (x : Clauses). x.room) two_rest ∙ ap (λ (x : Clauses). x.room) one_rest; literal_room = ap (λ (x : Clauses). x.literal_room) last_rest ∙ ap (λ (x : Clauses). x.literal_room) two_rest ∙ ap (λ (x : Clauses). x.literal_room) one_rest }
 
   was_watch : (n : ℕ) → n / 2 ≢ id → IsWatch s₃ n → IsWatch s n
   was_watch n far w e = w (others (n / 2) far ∙ watched_rest s s₁ s₂ (n / 2) one_rest two_rest ∙ e)

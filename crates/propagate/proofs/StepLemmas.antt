@@ -37,10 +37,10 @@ falsified_at db trues id is_id live all = record {
 }
 
 pub keeps_same : (s : Clauses) → KeepsClauses s s
-keeps_same s = record { vars = refl; clauses = refl; false_id = refl }
+keeps_same s = record { vars = refl; clauses = refl; false_id = refl; room = refl; literal_room = refl }
 
 pub keeps_trans : (s s₁ s₂ : Clauses) → KeepsClauses s s₁ → KeepsClauses s₁ s₂ → KeepsClauses s s₂
-keeps_trans s s₁ s₂ a b = record { vars = b.vars ∙ a.vars; clauses = b.clauses ∙ a.clauses; false_id = b.false_id ∙ a.false_id }
+keeps_trans s s₁ s₂ a b = record { vars = b.vars ∙ a.vars; clauses = b.clauses ∙ a.clauses; false_id = b.false_id ∙ a.false_id; room = b.room ∙ a.room; literal_room = b.literal_room ∙ a.literal_room }
 
 -- the clause before is one of the list
 pub before_ok : (s : Clauses) (t : Trail) (z : ℤ) (before : Option ℕ) (id fuel : ℕ) → IsWalk s t z (link_of before) id fuel → IfSome before (λ i. 0 < i) → IfSome before (λ i. IsId s.clauses i × (watched_at s i ≢ None))
@@ -211,7 +211,7 @@ module _ (s s₁ s₂ s₃ : Clauses) (t : Trail) (z to other : ℤ) (before id 
   false_id_is = ap (λ (x : Clauses). x.false_id) last_rest ∙ ap (λ (x : Clauses). x.false_id) on_rest ∙ ap (λ (x : Clauses). x.false_id) un_rest
 
   pub moved_keeps : KeepsClauses s s₃
-  moved_keeps = record { vars = vars_are; clauses = clauses_are; false_id = false_id_is }
+  moved_keeps = record { vars = vars_are; clauses = clauses_are; false_id = false_id_is; room = ap (λ (x : Clauses). x.room) last_rest ∙ ap (λ (x : Clauses). x.room) on_rest ∙ ap (λ (x : Clauses). x.room) un_rest; literal_room = ap (λ (x : Clauses). x.literal_room) last_rest ∙ ap (λ (x : Clauses). x.literal_room) on_rest ∙ ap (λ (x : Clauses). x.literal_room) un_rest }
 
   none_some : ◌≡◌ {A = Option (ℤ × ℤ)} (Some pair) None → ⊥
   none_some e = cc

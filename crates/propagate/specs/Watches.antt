@@ -74,3 +74,5 @@ pub record KeepsClauses (old new : Clauses) : Type 0 where
   pub vars : new.vars ≡ old.vars
   pub clauses : new.clauses ≡ old.clauses
   pub false_id : new.false_id ≡ old.false_id
+  pub room : new.room ≡ old.room
+  pub literal_room : new.literal_room ≡ old.literal_room
