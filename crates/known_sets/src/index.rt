@@ -1,0 +1,168 @@
+//! Sets that are found by their groups.
+//!
+//! For each group there is a list of the sets that have it. A look-up asks for a set all whose groups but one are marked,
+//! or all but one are not; that one is the group by whose list it goes. The list is walked from its end, and the set that
+//! is found moves there, since the next question is often alike. Beside each set stands its guard, the group by which it
+//! failed last: most sets that don't fit fail by it again, and cost one look.
+//!
+//! What is found is a number. Whoever looks up tests the set before anything is said of it, so nothing rests on the lists,
+//! the guards and the marks.
+ghost use Rattle.std.specs.Prelude.{◌≡◌, [], ◌∷◌, ◌++◌, IfOk, IfSome, Some, OnOk, OnErr, slice_get};
+
+use crate::entry::Entry;
+use std::alloc::{AllocError, Global};
+use std::marker::Model;
+
+/// How many bytes the sets, lists and guards of one index may take. Evidence is not counted: the refutations and
+/// assignments are shared, most of them with records. What would go past the bound is not remembered.
+pub const MOST_BYTES: usize = 1 << 30;
+
+// A group of a set costs its number and its place in a list; a set its entry, its guard, and what the heap adds.
+const GROUP_BYTES: usize = 8;
+
+const SET_BYTES: usize = 96;
+
+/// Sets with their evidence.
+#[derive(Drop)]
+pub struct SetIndex<E> {
+    entries: Vec<Entry<E>>,
+    guards: Vec<u32>,
+    lists: Vec<Vec<u32>>,
+    bytes: usize,
+}
+
+impl<E> Model for SetIndex<E> {
+    ghost use Rattle.std.specs.Prelude.{List};
+    ghost use Rattle.known_sets.specs.declared.entry.Entry.{Entry};
+
+    ghost Value = { List (Entry E) };
+
+    ghost view = { λ index. index.entries.items };
+}
+
+/// Which groups are marked, and the one group to which that does not matter.
+#[derive(Clone, Copy)]
+pub struct Wanted<'a> {
+    pub marks: &'a [bool],
+    pub mark: bool,
+    pub but: u32,
+}
+
+impl Wanted<'_> {
+    fn passes(&self, group: u32) -> bool {
+        group == self.but || self.marks.get(group as usize) == Some(&self.mark)
+    }
+
+    // The first group that does not pass.
+    fn first_failing(&self, groups: &[u32]) -> Option<u32> {
+        for group in groups {
+            if !self.passes(*group) {
+                return Some(*group);
+            }
+        }
+        None
+    }
+}
+
+impl<E> SetIndex<E> {
+    /// No sets, of groups up to this one.
+    pub fn new(alloc: Global, groups: u32) -> Result<SetIndex<E>, AllocError>
+        ensures { IfOk result (λ index. index ≡ []) }
+    {
+        let mut lists = Vec::new(alloc);
+        lists.push(Vec::new(alloc))?;
+        for _ in 0..groups {
+            lists.push(Vec::new(alloc))?;
+        }
+        Ok(SetIndex {
+            entries: Vec::new(alloc),
+            guards: Vec::new(alloc),
+            lists,
+            bytes: 0,
+        })
+    }
+
+    /// The entry of this number.
+    pub fn get(&self, number: usize) -> Option<&Entry<E>>
+        ensures { IfSome result (λ entry. slice_get self.now number ≡ Some entry.now) }
+    {
+        self.entries.get(number)
+    }
+
+    /// The number of a set that fits, where one is found.
+    pub fn find(&mut self, wanted: Wanted<'_>) -> Option<usize>
+        ensures { self.new ≡ self.old }
+    {
+        let at = wanted.but as usize;
+        if at >= self.lists.len() {
+            return None;
+        }
+        walk(&self.entries, &mut self.guards, &mut self.lists[at], wanted)
+    }
+}
+
+// Walks the list of a group from its end.
+fn walk<E>(
+    entries: &[Entry<E>],
+    guards: &mut [u32],
+    list: &mut [u32],
+    wanted: Wanted<'_>,
+) -> Option<usize> {
+    let len = list.len();
+    for passed in 0..len {
+        let at = len - 1 - passed;
+        let number = list[at] as usize;
+        if number < entries.len() && number < guards.len() && wanted.passes(guards[number]) {
+            let set = entries[number].set.as_slice();
+            let Some(failing) = wanted.first_failing(set) else {
+                list.swap(at, len - 1);
+                return Some(number);
+            };
+            guards[number] = failing;
+        }
+    }
+    None
+}
+
+impl<E: Drop> SetIndex<E> {
+    /// Adds a set at the end, where there is memory for it and the bound allows it.
+    pub fn insert(&mut self, entry: Entry<E>) -> Result<(), AllocError>
+        ensures ok { OnOk result (self.new ≡ self.old ++ entry ∷ []) }
+        ensures err { OnErr result (self.new ≡ self.old) }
+    {
+        let groups = entry.set.as_slice();
+        let Some(bytes) = bytes_with(self.bytes, groups.len()) else {
+            return Err(AllocError);
+        };
+        let Ok(number) = u32::try_from(self.entries.len()) else {
+            return Err(AllocError);
+        };
+        self.entries.reserve(1)?;
+        self.guards.reserve(1)?;
+        list_under(&mut self.lists, groups, number)?;
+        self.guards
+            .push_reserved(groups.first().copied().unwrap_or(0));
+        self.entries.push_reserved(entry);
+        self.bytes = bytes;
+        Ok(())
+    }
+}
+
+// How many bytes there are with a set of so many groups more, where that is within the bound.
+fn bytes_with(bytes: usize, groups: usize) -> Option<usize> {
+    let more = groups.checked_mul(GROUP_BYTES)?.checked_add(SET_BYTES)?;
+    let with = bytes.checked_add(more)?;
+    if with <= MOST_BYTES { Some(with) } else { None }
+}
+
+// Writes the number of a set into the list of each of its groups. Where memory is wanting in between, some lists have a
+// number too many, and a look-up finds that there is no such set, or that it doesn't fit.
+fn list_under(lists: &mut [Vec<u32>], groups: &[u32], number: u32) -> Result<(), AllocError> {
+    for group in groups {
+        let at = *group as usize;
+        if at < lists.len() {
+            lists[at].push(number)?;
+        }
+    }
+    Ok(())
+}

@@ -1,0 +1,29 @@
+//! An oracle around an oracle, which remembers what it was told.
+//!
+//! ```text
+//! let mut oracle = KnownSets::new(alloc, &problem, GroupOracle::new(alloc, &problem)?)?;
+//! match oracle.ask(alloc, &set, 0, &mut purse)? {
+//!     Asked::Sat(assign) => ..,                   // found now, or known of a larger set
+//!     Asked::Unsat(core) => oracle.proof(alloc)?, // one more reference to the refutation, found now or before
+//!     Asked::Dry => ..,
+//! }
+//! ```
+//!
+//! Whoever shrinks and grows sets asks most questions next to one that was answered just before: a group less than an
+//! unsatisfiable set, or a group more than a satisfiable one. Most of these are answered by what is known already, and
+//! then the oracle within is asked nothing, and learns and spends nothing. The contracts are those of the trait
+//! `evidence_rec::Oracle`, whatever lawful oracle is within.
+//!
+//! Start with `oracle.rt`, and then `memory.rt`, whose head says which questions are looked up, and why an answer from
+//! memory is right. `index.rt` finds a set by one of its groups.
+//!
+//! Not said here: that a set which is known is found, and that there is memory to remember one. Both only cost a question.
+#![tactic(auto)]
+
+mod entry;
+mod index;
+mod memory;
+mod neighbours;
+mod oracle;
+
+pub use oracle::KnownSets;

@@ -1,0 +1,163 @@
+//! The oracle that remembers.
+//!
+//! A question is answered from memory where that has an answer, and else by the oracle within. What the oracle within
+//! answers is remembered: a satisfied set with its assignment, and a refuted one with its derivation, which is taken from
+//! the log once, at the answer, and from then on shared. Where there is no memory for that, the answer is given all the
+//! same, and its derivation is the oracle's within.
+//!
+//! An answer from memory leaves the log and the purse. That the purse was empty is never remembered: with more in it the
+//! same question can be answered.
+ghost use Rattle.std.specs.Prelude.{◌≡◌, ℕ, true, IfOk, IsSome, List, Some, None, OnErr};
+ghost use Rattle.gm_base.specs.Sets.{IsSubset, all_groups};
+ghost use Rattle.gm_base.specs.Evidence.{refutes};
+ghost use Rattle.evidence_rec.specs.Asking.{OracleState, TellsAsked, IsSpent, IsHonestOver, refuted_by, asked_once};
+ghost use Rattle.evidence_rec.specs.Records.{IsAccepted};
+ghost use Rattle.known_sets.specs.Memory.{IsRightFor};
+ghost use Rattle.known_sets.specs.Inside.{refuted_set, IsProved};
+
+use crate::entry::Refuted;
+use crate::memory::Memory;
+use evidence_rec::{Asked, Oracle, Record};
+use gm_base::{Derivation, GroupSet, Problem, Purse};
+use lrat_steps::Log;
+use std::alloc::{AllocError, Global};
+use std::marker::Model;
+
+/// What the last answer left for a proof.
+#[derive(Drop)]
+pub enum Last {
+    /// It was not that a set is unsatisfiable.
+    Nothing,
+    /// A set with its refutation.
+    Known(Refuted),
+    /// What the oracle within has.
+    Within,
+}
+
+/// Answers from what it knows, and else by another oracle.
+#[derive(Drop)]
+pub struct KnownSets<O: Oracle> {
+    oracle: O,
+    memory: Memory,
+    last: Last,
+    asks: u64,
+}
+
+impl<O: Oracle> Model for KnownSets<O> {
+    ghost use Rattle.evidence_rec.specs.Asking.{OracleState};
+
+    ghost Value = { OracleState };
+
+    ghost use Rattle.known_sets.specs.Inside.{state_of, IsKept};
+
+    ghost view = { λ a. state_of (O.state a.oracle) a.last a.asks };
+
+    ghost invariant = { λ a. IsKept (O.state a.oracle) a.memory a.last };
+}
+
+impl<O: Oracle> KnownSets<O> {
+    /// How many questions there were, up to the greatest `u64`.
+    pub fn asks(&self) -> u64
+        ensures { result ≡ self.now.asks }
+    {
+        self.asks
+    }
+
+    /// The oracle within.
+    pub fn within(&self) -> &O
+        ensures problem { (O.state result.now).problem ≡ self.now.problem }
+        ensures log { (O.state result.now).log ≡ self.now.log }
+    {
+        &self.oracle
+    }
+
+    /// Remembers a record, whoever found it.
+    pub fn know(&mut self, alloc: Global, found: &Record)
+        requires { IsAccepted self.old.problem found.now }
+        ensures { self.new ≡ self.old }
+    {
+        self.memory.keep_record(alloc, found);
+    }
+}
+
+impl<O: Oracle + Drop> KnownSets<O> {
+    /// An oracle that knows nothing yet, around one that is fresh or has an honest log. The problem is not needed from
+    /// then on.
+    pub fn new(alloc: Global, problem: &Problem, oracle: O) -> Result<KnownSets<O>, AllocError>
+        requires problem { (O.state oracle).problem ≡ problem.now }
+        requires honest { IsHonestOver problem.now (O.state oracle).log }
+        ensures { IfOk result (λ known. known ≡ record (O.state oracle) { refuted = None; asks = 0 }) }
+    {
+        let memory = Memory::new(alloc, problem.groups())?;
+        Ok(KnownSets {
+            oracle,
+            memory,
+            last: Last::Nothing,
+            asks: 0,
+        })
+    }
+}
+
+impl<O: Oracle> Oracle for KnownSets<O> {
+    ghost state = { λ known. known };
+
+    fn ask(
+        &mut self,
+        alloc: Global,
+        set: &GroupSet,
+        turn: u64,
+        purse: &mut Purse,
+    ) -> Result<Asked, AllocError> {
+        self.asks = self.asks.saturating_add(1);
+        self.last = Last::Nothing;
+        if let Some(known) = self.memory.refuted_within(alloc, set) {
+            let _groups = known.set.as_slice(); // They ascend.
+            let core = known.set.copy(alloc)?;
+            self.last = Last::Known(known);
+            return Ok(Asked::Unsat(core));
+        }
+        if let Some(assign) = self.memory.satisfying(alloc, set) {
+            return Ok(Asked::Sat(assign));
+        }
+        match self.oracle.ask(alloc, set, turn, purse)? {
+            Asked::Sat(assign) => {
+                self.memory.keep_satisfied(alloc, set, &assign);
+                Ok(Asked::Sat(assign))
+            }
+            Asked::Unsat(core) => {
+                self.last = keep(alloc, &self.oracle, &mut self.memory, &core);
+                Ok(Asked::Unsat(core))
+            }
+            Asked::Dry => Ok(Asked::Dry),
+        }
+    }
+
+    fn proof(&self, alloc: Global) -> Result<Derivation, AllocError> {
+        match &self.last {
+            Last::Nothing => unreachable!(),
+            Last::Known(entry) => entry.evidence.copy(),
+            Last::Within => self.oracle.proof(alloc),
+        }
+    }
+
+    fn into_log(self) -> Log {
+        self.oracle.into_log()
+    }
+}
+
+// Remembers the last answer of the oracle within, which was that this set is unsatisfiable, and says what it leaves for a
+// proof. Its derivation is taken from the log once, here.
+fn keep<O: Oracle>(alloc: Global, oracle: &O, memory: &mut Memory, core: &GroupSet) -> Last
+    requires { (O.state oracle.now).refuted ≡ Some core.now }
+    ensures right { IsRightFor (O.state oracle.now).problem memory.old → IsRightFor (O.state oracle.now).problem memory.new }
+    ensures proved { IsProved (O.state oracle.now).problem result }
+    ensures set { refuted_set (Some core.now) result ≡ Some core.now }
+{
+    let Ok(proof) = oracle.proof(alloc) else {
+        return Last::Within;
+    };
+    match memory.keep_refuted(alloc, core, proof) {
+        Some(known) => Last::Known(known),
+        None => Last::Within,
+    }
+}
