@@ -6,6 +6,7 @@ use crate::marco::enumerate;
 use evidence_rec::{Oracle, Record, Records};
 use gm_base::{Kind, Problem, Sets};
 use group_oracle::GroupOracle;
+use known_sets::KnownSets;
 use lrat_steps::Logs;
 use map_core::{Closing, MapCore};
 use power_map::PowerMap;
@@ -32,7 +33,8 @@ pub struct Enumerated {
 pub fn list_sets(alloc: Global, problem: &Problem, bounds: Bounds) -> Result<Enumerated, AllocError>
     ensures { IfOk result (IsLeft problem.now bounds) }
 {
-    let mut oracle = GroupOracle::new(alloc, problem)?;
+    let solver = GroupOracle::new(alloc, problem)?;
+    let mut oracle = KnownSets::new(alloc, problem, solver)?;
     let map = PowerMap::new(alloc, problem.groups())?;
     let records = Records::new(alloc);
     let mut core = MapCore::start(
