@@ -13,10 +13,6 @@ use crate::entry::Entry;
 use std::alloc::{AllocError, Global};
 use std::marker::Model;
 
-/// How many bytes the sets, lists and guards of one index may take. Evidence is not counted: the refutations and
-/// assignments are shared, most of them with records. What would go past the bound is not remembered.
-pub const MOST_BYTES: usize = 1 << 30;
-
 // A group of a set costs its number and its place in a list; a set its entry, its guard, and what the heap adds.
 const GROUP_BYTES: usize = 8;
 
@@ -29,6 +25,7 @@ pub struct SetIndex<E> {
     guards: Vec<u32>,
     lists: Vec<Vec<u32>>,
     bytes: usize,
+    most: usize,
 }
 
 impl<E> Model for SetIndex<E> {
@@ -65,8 +62,9 @@ impl Wanted<'_> {
 }
 
 impl<E> SetIndex<E> {
-    /// No sets, of groups up to this one.
-    pub fn new(alloc: Global, groups: u32) -> Result<SetIndex<E>, AllocError>
+    /// No sets, of groups up to this one. They, their lists and their guards may take so many bytes at most; evidence is
+    /// not counted, since it is shared.
+    pub fn new(alloc: Global, groups: u32, most: usize) -> Result<SetIndex<E>, AllocError>
         ensures { IfOk result (λ index. index ≡ []) }
     {
         let mut lists = Vec::new(alloc);
@@ -79,6 +77,7 @@ impl<E> SetIndex<E> {
             guards: Vec::new(alloc),
             lists,
             bytes: 0,
+            most,
         })
     }
 
@@ -131,7 +130,7 @@ impl<E: Drop> SetIndex<E> {
         ensures err { OnErr result (self.new ≡ self.old) }
     {
         let groups = entry.set.as_slice();
-        let Some(bytes) = bytes_with(self.bytes, groups.len()) else {
+        let Some(bytes) = bytes_with(self.bytes, groups.len(), self.most) else {
             return Err(AllocError);
         };
         let Ok(number) = u32::try_from(self.entries.len()) else {
@@ -149,10 +148,10 @@ impl<E: Drop> SetIndex<E> {
 }
 
 // How many bytes there are with a set of so many groups more, where that is within the bound.
-fn bytes_with(bytes: usize, groups: usize) -> Option<usize> {
+fn bytes_with(bytes: usize, groups: usize, most: usize) -> Option<usize> {
     let more = groups.checked_mul(GROUP_BYTES)?.checked_add(SET_BYTES)?;
     let with = bytes.checked_add(more)?;
-    if with <= MOST_BYTES { Some(with) } else { None }
+    if with <= most { Some(with) } else { None }
 }
 
 // Writes the number of a set into the list of each of its groups. Where memory is wanting in between, some lists have a

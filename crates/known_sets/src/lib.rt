@@ -25,5 +25,7 @@ mod index;
 mod memory;
 mod neighbours;
 mod oracle;
+#[cfg(test)]
+mod tests;
 
-pub use oracle::KnownSets;
+pub use oracle::{KnownSets, MOST_BYTES};

@@ -42,15 +42,15 @@ pub struct Memory {
 }
 
 impl Memory {
-    /// Nothing is remembered, of sets of groups up to this one.
-    pub fn new(alloc: Global, groups: u32) -> Result<Memory, AllocError>
+    /// Nothing is remembered, of sets of groups up to this one, in so many bytes at most.
+    pub fn new(alloc: Global, groups: u32, most: usize) -> Result<Memory, AllocError>
         ensures { IfOk result (λ memory. (p : Problem) → p.groups ≡ groups → IsRightFor p memory) }
     {
         Ok(Memory {
             groups,
-            refuted: SetIndex::new(alloc, groups)?,
+            refuted: SetIndex::new(alloc, groups, most / 2)?,
             held: None,
-            satisfied: SetIndex::new(alloc, groups)?,
+            satisfied: SetIndex::new(alloc, groups, most / 2)?,
             marks: vec![in alloc; false; groups as usize + 1]?,
             last_refuted: None,
             last_satisfied: None,

@@ -23,6 +23,10 @@ use lrat_steps::Log;
 use std::alloc::{AllocError, Global};
 use std::marker::Model;
 
+/// How many bytes the sets that are remembered, and what they are found by, may take. Their refutations and assignments
+/// are not counted: they are shared, most of them with records. What would go past the bound is not remembered.
+pub const MOST_BYTES: usize = 1 << 31;
+
 /// What the last answer left for a proof.
 #[derive(Drop)]
 pub enum Last {
@@ -82,13 +86,27 @@ impl<O: Oracle> KnownSets<O> {
 
 impl<O: Oracle + Drop> KnownSets<O> {
     /// An oracle that knows nothing yet, around one that is fresh or has an honest log. The problem is not needed from
-    /// then on.
+    /// then on. It remembers up to [`MOST_BYTES`].
     pub fn new(alloc: Global, problem: &Problem, oracle: O) -> Result<KnownSets<O>, AllocError>
         requires problem { (O.state oracle).problem ≡ problem.now }
         requires honest { IsHonestOver problem.now (O.state oracle).log }
         ensures { IfOk result (λ known. known ≡ record (O.state oracle) { refuted = None; asks = 0 }) }
     {
-        let memory = Memory::new(alloc, problem.groups())?;
+        KnownSets::bounded(alloc, problem, oracle, MOST_BYTES)
+    }
+
+    /// The same with another bound of what it remembers.
+    pub fn bounded(
+        alloc: Global,
+        problem: &Problem,
+        oracle: O,
+        most: usize,
+    ) -> Result<KnownSets<O>, AllocError>
+        requires problem { (O.state oracle).problem ≡ problem.now }
+        requires honest { IsHonestOver problem.now (O.state oracle).log }
+        ensures { IfOk result (λ known. known ≡ record (O.state oracle) { refuted = None; asks = 0 }) }
+    {
+        let memory = Memory::new(alloc, problem.groups(), most)?;
         Ok(KnownSets {
             oracle,
             memory,

@@ -5,8 +5,8 @@
 //! `MapEngine` ask for. Where the table or the script has no right answer they answer want of memory, which a caller has
 //! to expect at each call. [`checked`] tells whether the evidence of a record that a test wrote shows what it says.
 //!
-//! The module `example` has a problem of four clauses with its records. The tests of `shrink`, `grow` and `MapCore` over the
-//! two stand here, so that no crate of the program stands on this one.
+//! The module `example` has a problem of four clauses with its records. The tests of `shrink`, `grow`, `KnownSets` and
+//! `MapCore` over the two stand here, so that no crate of the program stands on this one.
 //!
 //! Neither answers Dry: for that a search has to stand before a conflict, and they search for nothing.
 #![tactic(auto)]

@@ -1,4 +1,5 @@
 //! What is written for every lawful oracle and every lawful engine, over these.
 mod enumerating;
 mod growing;
+mod remembering;
 mod shrinking;

@@ -1,7 +1,7 @@
 use Rattle.std.proofs.Common.{◌∙◌, sym, ap, subst}
 use Rattle.gm_base.specs.Problem.{Problem, IsProblem}
 use Rattle.evidence_rec.specs.Asking.{IsHonestOver}
-use Rattle.known_sets.proofs.oracle.KnownSets.new.Goals as goal
+use Rattle.known_sets.proofs.oracle.KnownSets.bounded.Goals as goal
 
 -- nothing is remembered, and the oracle is of this problem
 pub invariant_of-result : goal.invariant_of-result

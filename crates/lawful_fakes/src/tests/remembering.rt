@@ -1,0 +1,135 @@
+//! Which questions the oracle within is asked, and what the answers are.
+ghost use Rattle.std.specs.Prelude.{◌≡◌, IfOk};
+
+use crate::example::{assignments, conflict, correction, four_clauses, set_of};
+use crate::{Lacking, TableOracle};
+use evidence_rec::{Asked, Oracle};
+use gm_base::{Problem, Purse};
+use known_sets::{KnownSets, MOST_BYTES};
+use std::alloc::Global;
+use std::test::Fail;
+
+const ALL: [(bool, bool); 4] = [(false, false), (false, true), (true, false), (true, true)];
+
+// An oracle around one that knows all assignments and both conflicts. It has been told some records, in this order:
+// the conflicts {1, 2} and {1, 3, 4}, and the corrections {1}, {2, 3} and {2, 4}.
+fn oracle_of(
+    alloc: Global,
+    problem: &Problem,
+    told: Told,
+) -> Result<KnownSets<TableOracle>, Lacking>
+    ensures { IfOk result (λ oracle. oracle.problem ≡ problem.now) }
+{
+    let mut within = TableOracle::new(alloc, problem, assignments(alloc, &ALL)?, false)?;
+    within.learn(conflict(alloc, problem, true)?)?;
+    within.learn(conflict(alloc, problem, false)?)?;
+    let most = match told {
+        Told::Nothing | Told::All => MOST_BYTES,
+        Told::AllWithoutRoom => 0,
+    };
+    let mut oracle = KnownSets::bounded(alloc, problem, within, most)?;
+    if !matches!(told, Told::Nothing) {
+        oracle.know(alloc, &conflict(alloc, problem, true)?);
+        oracle.know(alloc, &conflict(alloc, problem, false)?);
+        oracle.know(alloc, &correction(alloc, problem, &[1], (false, false))?);
+        oracle.know(alloc, &correction(alloc, problem, &[2, 3], (true, false))?);
+        oracle.know(alloc, &correction(alloc, problem, &[2, 4], (true, true))?);
+    }
+    Ok(oracle)
+}
+
+// Asks one question, and tells in a word what the answer is: the assignment is tried on the set, the core is looked for
+// in it, and the proof of a core has to have a step.
+fn word(
+    alloc: Global,
+    oracle: &mut KnownSets<TableOracle>,
+    problem: &Problem,
+    groups: &[u32],
+) -> Result<&'static str, Lacking>
+    requires { oracle.old.problem ≡ problem.now }
+    ensures { oracle.new.problem ≡ problem.now }
+{
+    let mut purse = Purse { left: 7 };
+    let set = set_of(alloc, problem, groups)?;
+    match oracle.ask(alloc, &set, 0, &mut purse)? {
+        Asked::Sat(assign) => {
+            let fits = assign.len() == problem.vars() as usize && problem.holds(&set, &assign);
+            Ok(if fits { "sat" } else { "wrong" })
+        }
+        Asked::Unsat(core) => {
+            let proof = oracle.proof(alloc)?;
+            Ok(if core.is_subset(&set) && proof.len() > 0 {
+                "unsat"
+            } else {
+                "wrong"
+            })
+        }
+        Asked::Dry => Ok("dry"),
+    }
+}
+
+// What the oracle has been told, and whether there is room to remember it.
+#[derive(Clone, Copy, Debug)]
+enum Told {
+    Nothing,
+    All,
+    AllWithoutRoom,
+}
+
+// A question, its answer, and how often the oracle within was asked up to there: where nothing was told, where all records
+// were, and where there was no room for them.
+type Row = (&'static [u32], &'static str, u64, u64, u64);
+
+const SHRINKING: [Row; 7] = [
+    (&[1, 2], "unsat", 1, 1, 1),
+    (&[2], "sat", 2, 1, 2),
+    (&[1], "sat", 3, 1, 3),
+    (&[1, 3, 4], "unsat", 4, 2, 4),
+    (&[3, 4], "sat", 5, 2, 5),
+    (&[1, 4], "sat", 6, 2, 6),
+    (&[1, 3], "sat", 7, 2, 7),
+];
+
+const GROWING: [Row; 6] = [
+    (&[2, 3, 4], "sat", 1, 1, 1),
+    (&[1, 2, 3, 4], "unsat", 2, 1, 2),
+    (&[1, 4], "sat", 3, 1, 3),
+    (&[1, 2, 4], "unsat", 3, 1, 3),
+    (&[1, 3, 4], "unsat", 4, 1, 4),
+    (&[1, 2, 4], "unsat", 4, 1, 5),
+];
+
+// The first row whose answer or number of questions is another one.
+fn first_wrong(
+    alloc: Global,
+    problem: &Problem,
+    rows: &[Row],
+    told: Told,
+) -> Result<Option<usize>, Lacking> {
+    let mut oracle = oracle_of(alloc, problem, told)?;
+    for (at, (groups, wanted, untaught, taught, without_room)) in rows.iter().enumerate() {
+        let asks = match told {
+            Told::Nothing => *untaught,
+            Told::All => *taught,
+            Told::AllWithoutRoom => *without_room,
+        };
+        let answer = word(alloc, &mut oracle, problem, groups)?;
+        if answer != *wanted || oracle.within().asks() != asks {
+            return Ok(Some(at));
+        }
+    }
+    Ok(None)
+}
+
+#[test]
+fn the_oracle_within_is_asked_what_is_not_known(rt: HostRuntime) -> Result<(), Fail> {
+    let alloc = rt.alloc();
+    let problem = four_clauses(alloc)?;
+    for told in [Told::Nothing, Told::All, Told::AllWithoutRoom] {
+        let shrinking = first_wrong(alloc, &problem, &SHRINKING, told)?;
+        assert_eq!(rt; shrinking, None, "shrinking, {told:?}");
+        let growing = first_wrong(alloc, &problem, &GROWING, told)?;
+        assert_eq!(rt; growing, None, "growing, {told:?}");
+    }
+    Ok(())
+}
