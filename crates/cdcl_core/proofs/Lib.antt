@@ -6,3 +6,4 @@ pub mod RootLemmas
 pub mod RoundLemmas
 pub mod TestLemmas
 pub mod EntranceLemmas
+mod GreatestLemmas

@@ -6,6 +6,7 @@ use Rattle.sat_base.specs.Database.{StoredClause}
 use Rattle.sat_base.specs.Units.{AllTrue, IsUnset, HasValue}
 use Rattle.trail_book.specs.declared.entry.Entry.{Entry}
 use Rattle.trail_book.specs.Trail.{trues}
+use Rattle.trail_book.specs.Order.{IsPositive}
 use Rattle.learn_step.specs.Learnt.{IsCore}
 use Rattle.lrat_steps.specs.Log.{LogStep, Core}
 use Rattle.propagate.specs.declared.propagated.Propagated.{Propagated}
@@ -15,7 +16,7 @@ use Rattle.cdcl_core.specs.declared.search.Search.{Search}
 use Rattle.cdcl_core.specs.declared.solved.Solved.{Solved}
 use Rattle.cdcl_core.specs.declared.decisions.Next.{Next}
 use Rattle.cdcl_core.specs.declared.decisions.Next.TheVariants as next
-use Rattle.cdcl_core.specs.Answers.{Tells}
+use Rattle.cdcl_core.specs.Answers.{Tells, IsGreatest}
 use Rattle.cdcl_core.specs.State.{IsState, IsRoot}
 
 -- the state of a search under assumed literals, of which the first ones, so many, are true
@@ -52,7 +53,7 @@ pub record KeepsValues (old new : Search) : Type 0 where
 abbrev pub IsNext : ℕ → List ℤ → List ℤ → Next → Type 0
 IsNext vars assumed trues (next.Assume lit) = In lit assumed × IsUnset trues lit
 IsNext vars assumed trues (next.Failed lit) = In lit assumed × In (neg_ℤ lit) trues
-IsNext vars assumed trues (next.Choose lit) = AllTrue trues assumed × IsUnset trues lit × IsLiteral vars lit
+IsNext vars assumed trues (next.Choose lit) = AllTrue trues assumed × IsUnset trues lit × IsLiteral vars lit × IsPositive lit
 IsNext vars assumed trues next.Full = AllTrue trues assumed × ((lit : ℤ) → IsLiteral vars lit → HasValue trues lit)
 
 -- a round that goes on has paid a unit, or one more variable has a value
@@ -64,6 +65,7 @@ pub record GoesOn (old new : Search) (assumed : List ℤ) (before left : ℕ) : 
 pub record Ends (new : Search) (assumed : List ℤ) (left : ℕ) (answer : Solved) : Type 0 where
   pub search : IsSearch new assumed
   pub says : Tells new.trail.vars new.log assumed left answer
+  pub greatest : assumed ≡ [] → IsGreatest new.trail.vars new.log answer
 
 abbrev pub IsRound : Search → Search → List ℤ → ℕ → ℕ → Option Solved → Type 0
 IsRound old new assumed before left None = GoesOn old new assumed before left

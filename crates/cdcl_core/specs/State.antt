@@ -6,14 +6,15 @@ use Rattle.sat_base.specs.Database.{StoredClause, AreOver}
 use Rattle.sat_base.specs.Units.{AllTrue, IsFixpoint, IsReason, IsConsequence}
 use Rattle.trail_book.specs.declared.entry.Entry.{Entry}
 use Rattle.trail_book.specs.Trail.{trues, top, IsTrail}
+use Rattle.trail_book.specs.Order.{IsPositive}
 use Rattle.learn_step.specs.Reasons.{HasUnit}
 use Rattle.lrat_steps.specs.Log.{LogStep, db_of}
 use Rattle.lrat_steps.specs.Honest.{IsHonest}
 
--- how a literal may be decided at a level: up to level `count` it is an assumed one, and above it any, where all assumed
--- literals are true
+-- how a literal may be decided at a level: up to level `count` it is an assumed one, and above it any positive one, where
+-- all assumed literals are true
 abbrev pub IsDecided : List ℤ → ℕ → ℕ → List ℤ → ℤ → Type 0
-IsDecided assumed count level trues lit = ((level ≤ count) × In lit assumed) ⊎ ((count < level) × AllTrue trues assumed)
+IsDecided assumed count level trues lit = ((level ≤ count) × In lit assumed) ⊎ ((count < level) × AllTrue trues assumed × IsPositive lit)
 
 -- before a decision nothing was left to propagate; any other literal is forced by the clause of its reason, and by a live one
 abbrev pub IsSoundEntry : List StoredClause → List ℤ → ℕ → List Entry → ℤ → Option ℕ → Type 0

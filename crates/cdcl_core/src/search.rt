@@ -8,8 +8,8 @@
 //! - A literal of the trail was decided, or the clause of its reason and a live clause force it.
 //! - **Before each decision nothing was left to propagate:** no live clause was falsified or unit.
 //! - What propagation keeps of the watched literals (`propagate/specs/Watches.antt`): it is from there that nothing is left.
-//! - A decision up to level `assumed_levels` is an assumed literal. Before any other decision all assumed ones were
-//!   true.
+//! - A decision up to level `assumed_levels` is an assumed literal. Any other one is a positive literal, and before it all
+//!   assumed ones were true.
 //!
 //! Why each learnt clause is new, so that no unit of the purse is spent on one that is known: it has one literal of the
 //! top level, so all its others were false before the last decision. A live clause within it would have been falsified
@@ -19,12 +19,15 @@
 //! Why a core follows: while no level is a choice, what is falsified is so by propagation from assumed literals alone.
 //! Where a choice stands and no unit is left, the trail itself shows that the clauses are undecided.
 //!
+//! Why a model under no assumed literals is greatest: a true literal of it was decided, and is positive, or is forced by
+//! earlier ones. So a model with all of its true variables agrees with it, literal by literal along the trail.
+//!
 //! It ends, since each round pays a unit or gives one more variable a value.
-ghost use Rattle.std.specs.Prelude.{◌≡◌, ℕ, ◌≤◌, length, IfOk, OnOk};
+ghost use Rattle.std.specs.Prelude.{◌≡◌, ℕ, ◌≤◌, [], length, IfOk, OnOk};
 ghost use Rattle.sat_base.specs.Literals.{AreLiterals};
 ghost use Rattle.trail_book.specs.Trail.{trues};
 ghost use Rattle.propagate.specs.Propagation as propagation;
-ghost use Rattle.cdcl_core.specs.Answers.{IsConsistent, IsHonestlyPaid, Tells};
+ghost use Rattle.cdcl_core.specs.Answers.{IsConsistent, IsHonestlyPaid, Tells, IsGreatest};
 ghost use Rattle.cdcl_core.specs.Search.{IsSearch, IsAtRoot, IsRound, Ends};
 
 use crate::solved::Solved;
@@ -62,6 +65,7 @@ impl Search {
         requires literals { AreLiterals self.old.trail.vars assumed.now }
         requires consistent { IsConsistent assumed.now }
         ensures answer { IfOk result (λ answer. Tells self.new.trail.vars self.new.log assumed.now purse.new.left answer) }
+        ensures greatest { assumed.now ≡ [] → IfOk result (λ answer. IsGreatest self.new.trail.vars self.new.log answer) }
         ensures at_root { OnOk result (IsAtRoot self.new) }
         ensures paid { IsHonestlyPaid self.old.log self.new.log purse.old.left purse.new.left }
         ensures vars { self.new.trail.vars ≡ self.old.trail.vars }

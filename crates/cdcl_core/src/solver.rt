@@ -6,7 +6,7 @@ ghost use Rattle.std.specs.Prelude.{◌≡◌, ◌<◌, ◌^◌, ◌++◌, ◌�
 ghost use Rattle.sat_base.specs.Literals.{AreLiterals};
 ghost use Rattle.lrat_steps.specs.Log.{Input};
 ghost use Rattle.lrat_steps.specs.Honest.{IsHonest};
-ghost use Rattle.cdcl_core.specs.Answers.{IsConsistent, IsHonestlyPaid, Tells};
+ghost use Rattle.cdcl_core.specs.Answers.{IsConsistent, IsHonestlyPaid, Tells, IsGreatest};
 
 use crate::search::Search;
 use crate::solved::Solved;
@@ -23,6 +23,8 @@ use trail_book::Trail;
 #[derive(Drop)]
 pub struct Solver {
     search: Search,
+    // Told to callers only: decisions are positive literals in either case.
+    true_first: bool,
     broken: bool,
 }
 
@@ -42,7 +44,23 @@ impl Solver {
     /// A solver without clauses, for literals over the variables 1 to `vars`.
     pub fn new(alloc: Global, vars: u32) -> Result<Solver, AllocError>
         requires { vars < 2 ^ 31 }
-        ensures { IfOk result (λ solver. solver ≡ record { vars = vars; log = []; broken = false }) }
+        ensures { IfOk result (λ solver. solver ≡ record { vars = vars; log = []; true_first = false; broken = false }) }
+    {
+        Solver::begin(alloc, vars, false)
+    }
+
+    /// A solver as `new` makes it, that decides positive literals only. So each assignment that it finds under no assumed
+    /// literals is a greatest one.
+    pub fn new_true(alloc: Global, vars: u32) -> Result<Solver, AllocError>
+        requires { vars < 2 ^ 31 }
+        ensures { IfOk result (λ solver. solver ≡ record { vars = vars; log = []; true_first = true; broken = false }) }
+    {
+        Solver::begin(alloc, vars, true)
+    }
+
+    fn begin(alloc: Global, vars: u32, true_first: bool) -> Result<Solver, AllocError>
+        requires { vars < 2 ^ 31 }
+        ensures { IfOk result (λ solver. solver ≡ record { vars = vars; log = []; true_first = true_first; broken = false }) }
     {
         let search = Search {
             log: Log::new(alloc),
@@ -54,6 +72,7 @@ impl Solver {
         };
         Ok(Solver {
             search,
+            true_first,
             broken: false,
         })
     }
@@ -85,7 +104,8 @@ impl Solver {
     ///
     /// A conflict under decisions that are not assumed costs one unit of the purse, and a clause is learnt from it;
     /// `Dry` where there is no unit left. `turn` turns the order in which variables are decided. After want of memory
-    /// every later search answers want of memory.
+    /// every later search answers want of memory. Where decisions are positive only and nothing is assumed, the assignment
+    /// is a greatest one.
     pub fn solve(
         &mut self,
         alloc: Global,
@@ -97,7 +117,9 @@ impl Solver {
         requires consistent { IsConsistent assumed.now }
         ensures answer { IfOk result (λ answer. Tells self.new.vars self.new.log assumed.now purse.new.left answer) }
         ensures paid { IsHonestlyPaid self.old.log self.new.log purse.old.left purse.new.left }
+        ensures greatest { self.old.true_first ≡ true → assumed.now ≡ [] → IfOk result (λ answer. IsGreatest self.new.vars self.new.log answer) }
         ensures vars { self.new.vars ≡ self.old.vars }
+        ensures true_first { self.new.true_first ≡ self.old.true_first }
         ensures stays_broken { self.old.broken ≡ true → IsErr result }
         ensures breaks { OnErr result (self.new.broken ≡ true) }
         ensures works { OnOk result (self.new.broken ≡ false) }

@@ -305,3 +305,17 @@ fn the_turn_begins_the_order_of_decisions(rt: HostRuntime) -> Result<(), Fail> {
     }
     Ok(())
 }
+
+#[test]
+fn true_first_finds_a_greatest_model(rt: HostRuntime) -> Result<(), Fail> {
+    let alloc = rt.alloc();
+    let mut solver = Solver::new_true(alloc, 2)?;
+    add_all(alloc, &mut solver, &[-1, -2, 0])?;
+    let mut purse = Purse { left: 0 };
+    let Solved::Sat(assign) = solver.solve(alloc, &[], 0, &mut purse)? else {
+        assert!(rt; false);
+        return Ok(());
+    };
+    assert!(rt; assign.makes_true(Lit::new(1)) != assign.makes_true(Lit::new(2)));
+    Ok(())
+}

@@ -1,7 +1,12 @@
 -- The order of decisions: a circle over the variables. Variables are named by their index in the tables, from 0.
-use Rattle.std.specs.Prelude.{◌≢◌, ℕ, ◌+◌, ◌-◌, ◌<◌, List, length, nat_lt, if◌then◌else◌, slice_index_or}
+use Rattle.std.specs.Prelude.{◌≡◌, ◌≢◌, ℤ, pos, ℕ, ◌+◌, ◌-◌, ◌<◌, List, length, nat_lt, if◌then◌else◌, slice_index_or}
+use Rattle.sat_base.specs.Literals.{var_of}
 use Rattle.trail_book.specs.declared.value.Value.{Value}
 use Rattle.trail_book.specs.declared.value.Value.TheVariants.{Unset}
+
+-- the literal is its variable, and not the negation
+abbrev pub IsPositive : ℤ → Type 0
+IsPositive lit = lit ≡ pos (var_of lit)
 
 -- the variable at a position
 abbrev pub index_at : ℕ → ℕ → ℕ → ℕ

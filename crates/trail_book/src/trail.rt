@@ -11,6 +11,7 @@ ghost use Rattle.sat_base.specs.Members.{In};
 ghost use Rattle.sat_base.specs.Units.{IsUnset, HasValue, IsValue};
 ghost use Rattle.trail_book.specs.declared.entry.Entry.{Entry};
 ghost use Rattle.trail_book.specs.Slots.{entry_of};
+ghost use Rattle.trail_book.specs.Order.{IsPositive};
 ghost use Rattle.trail_book.specs.Trail.{trues, top, keep, oldest, IsTrail, IsPlace, with_unit};
 
 use crate::entry::Entry;
@@ -262,10 +263,11 @@ impl Trail {
         self.next = 0;
     }
 
-    /// A literal that has no value, for the next decision. Which one is left open: here it is the positive literal of
-    /// the first variable, in the order of decisions, that has none.
+    /// A positive literal that has no value, for the next decision. Which one is left open: here it is that of the first
+    /// variable, in the order of decisions, that has none.
     pub fn pick(&mut self) -> Option<Lit>
         ensures some { IfSome result (λ lit. IsUnset (trues self.old.entries) lit × IsLiteral self.old.vars lit) }
+        ensures positive { IfSome result (λ lit. IsPositive lit) }
         ensures none { IfNone result ((lit : ℤ) → IsLiteral self.old.vars lit → HasValue (trues self.old.entries) lit) }
         ensures same { self.new ≡ self.old }
     {

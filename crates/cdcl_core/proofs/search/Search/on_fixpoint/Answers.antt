@@ -10,6 +10,8 @@ use Rattle.cdcl_core.specs.State.{IsState}
 use Rattle.lrat_steps.specs.Log.{inputs_of}
 use Rattle.cdcl_core.specs.Answers.{IsModel}
 use Rattle.cdcl_core.proofs.StateLemmas.{literal_at, state_is, assumed_state, chosen_state, model_of, failed_levels, failed_reason, all_levels_assumed}
+use Rattle.cdcl_core.specs.Answers.{IsGreatestModel}
+use Rattle.cdcl_core.proofs.GreatestLemmas.{greatest_of}
 use Rattle.cdcl_core.proofs.search.Search.on_fixpoint.Goals as goal
 
 pub decide-requires-clause-lit : goal.decide-requires-clause-lit
@@ -88,7 +90,7 @@ returns-in-Choose-clause-round c =
     let h = c.in-Choose.ensures.next in
     let same = c.next_decision.ensures.same in
     let decided = c.decide-in-Choose.new.self in
-    let state = chosen_state s.trail.vars db s.log es assumed s.assumed_levels lit c.requires.search.state c.requires.fixpoint h.0 h.1 h.2 in
+    let state = chosen_state s.trail.vars db s.log es assumed s.assumed_levels lit c.requires.search.state c.requires.fixpoint h.0 h.1 h.2 h.3 in
     let vars : decided.vars ≡ s.trail.vars = c.decide-in-Choose.ensures.vars ∙ ap (λ (t : Trail). t.vars) same in
     let entries : decided.entries ≡ record { lit = lit; reason = None; unit = None } ∷ es =
     c.decide-in-Choose.ensures.entries ∙ ap (λ (t : Trail). record { lit = lit; reason = None; unit = None } ∷ t.entries) same in
@@ -123,5 +125,9 @@ returns-in_ok-assign-in-Full-clause-round c =
       says =
           subst (λ (t : Trail). IsModel t.vars (inputs_of s.log) assumed a) (sym same)
           (model_of s.trail.vars s.store.clauses s.log s.trail.entries assumed s.assumed_levels a c.requires.search.state c.requires.fixpoint h.0 h.1 total
+          (λ l i. values.values l (subst (λ (t : Trail). In l (trues t.entries)) (sym same) i)));
+      greatest = λ none.
+          subst (λ (t : Trail). IsGreatestModel t.vars (inputs_of s.log) a) (sym same)
+          (greatest_of s.trail.vars s.store.clauses s.log s.trail.entries assumed s.assumed_levels a c.requires.search.state none h.1
           (λ l i. values.values l (subst (λ (t : Trail). In l (trues t.entries)) (sym same) i)));
     }

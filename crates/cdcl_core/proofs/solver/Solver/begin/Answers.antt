@@ -3,7 +3,7 @@ use Rattle.trail_book.specs.Trail.{Trail}
 use Rattle.lrat_steps.specs.Honest.{IsHonest}
 use Rattle.propagate.proofs.NewLemmas.{kept_first}
 use Rattle.cdcl_core.proofs.RootLemmas.{root_first, root_is}
-use Rattle.cdcl_core.proofs.solver.Solver.new.Goals as goal
+use Rattle.cdcl_core.proofs.solver.Solver.begin.Goals as goal
 
 -- no clause, no value, no step
 pub invariant_of-result : goal.invariant_of-result
