@@ -2,6 +2,7 @@
 use Rattle.std.specs.Prelude.{◌≡◌, ◌↔◌, ℕ, Bool, true, false, List, [], ◌∷◌, ◌++◌, length, map}
 use Rattle.std.specs.List.{list_all}
 use Rattle.sat_base.specs.Literals.{clause_true}
+use Rattle.gm_base.specs.Sets.{IsProperSubset}
 use Rattle.gm_base.specs.Explored.{Found, is_explored, block_clause, groups_true, IsUnexplored, AllExplored}
 use Rattle.sat_base.specs.Derivation.{Derivation, derives_within}
 use Rattle.lrat_steps.specs.Log.{LogStep, Input, db_of, inputs_of}
@@ -27,12 +28,21 @@ new_engine groups = record { groups = groups; blocks = []; log = []; exhausted =
 abbrev pub blocked : EngineState → Found → EngineState
 blocked e f = record e { blocks = e.blocks ++ f ∷ []; log = e.log ++ Input (block_clause f) ∷ [] }
 
--- what an answer says, with so many units left: a set that nothing explores; that each set is explored; or that the purse is
--- empty and the search stands before a conflict
-abbrev pub TellsSeed : EngineState → ℕ → Seed → Type 0
-TellsSeed e left (seed.Set set) = IsUnexplored e.groups e.blocks set
-TellsSeed e left seed.Empty = AllExplored e.groups e.blocks
-TellsSeed e left seed.Dry = (left ≡ 0) × Undecided (db_of e.log) []
+-- no unexplored set properly holds this one
+abbrev pub IsTop : ℕ → List Found → List ℕ → Type 0
+IsTop groups found set = (other : List ℕ) → IsUnexplored groups found other → ¬ IsProperSubset set other
+
+-- a set that nothing explores; of an engine that gives tops alone, a top
+pub record IsSeed (tops : Bool) (groups : ℕ) (found : List Found) (set : List ℕ) : Type 0 where
+  pub unexplored : IsUnexplored groups found set
+  pub top : tops ≡ true → IsTop groups found set
+
+-- what an answer says, with so many units left: a seed; that each set is explored; or that the purse is empty and the search
+-- stands before a conflict
+abbrev pub TellsSeed : Bool → EngineState → ℕ → Seed → Type 0
+TellsSeed tops e left (seed.Set set) = IsSeed tops e.groups e.blocks set
+TellsSeed tops e left seed.Empty = AllExplored e.groups e.blocks
+TellsSeed tops e left seed.Dry = (left ≡ 0) × Undecided (db_of e.log) []
 
 abbrev pub is_empty : Seed → Bool
 is_empty (seed.Set set) = false

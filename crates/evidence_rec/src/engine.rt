@@ -20,13 +20,18 @@ pub enum Seed {
 
 /// Finds sets of groups that nothing explores yet.
 pub trait MapEngine {
-    ghost use Rattle.std.specs.Prelude.{◌≡◌, ◌||◌, true, OnOk, OnErr, IfOk};
+    ghost use Rattle.std.specs.Prelude.{◌≡◌, ◌||◌, Bool, true, OnOk, OnErr, IfOk};
     ghost use Rattle.gm_base.specs.Sets.{IsSubset, all_groups};
     ghost use Rattle.gm_base.specs.Explored.{block_of};
     ghost use Rattle.evidence_rec.specs.Seeding.{EngineState, TellsSeed, IsSearched, IsHonestMap, HasModels, blocked, is_empty, shows_all_explored};
 
     /// All that it tells.
     ghost state: { Self → EngineState };
+
+    ghost TOPS: { Bool };
+
+    /// Whether no set that is left properly holds a seed.
+    const TOPS: bool;
 
     /// Takes out the sets that hold the set, or those that have no group of it.
     fn block(&mut self, alloc: Global, set: &GroupSet, side: Side) -> Result<(), AllocError>
@@ -36,9 +41,10 @@ pub trait MapEngine {
         ensures honest { IsHonestMap (state self.new).blocks (state self.new).log }
         ensures models { HasModels (state self.new) };
 
-    /// Finds a set that no block explores. `turn` turns the order in which groups are decided.
+    /// Finds a set that no block explores, and where `TOPS` is true one that no other such set holds. `turn` turns the
+    /// order in which groups are decided.
     fn seed(&mut self, alloc: Global, turn: u64, purse: &mut Purse) -> Result<Seed, AllocError>
-        ensures answer { IfOk result (λ answer. TellsSeed (state self.new) purse.new.left answer) }
+        ensures answer { IfOk result (λ answer. TellsSeed TOPS (state self.new) purse.new.left answer) }
         ensures exhausted { IfOk result (λ answer. (state self.new).exhausted ≡ ((state self.old).exhausted || is_empty answer)) }
         ensures err { OnErr result ((state self.new).exhausted ≡ (state self.old).exhausted) }
         ensures spent { IsSearched (state self.old) (state self.new) purse.old.left purse.new.left }

@@ -30,9 +30,9 @@ use Rattle.gm_tool.specs.Marco.{EndsUndecided}
 abbrev pub learned_in : List (List LogStep) → ℕ
 learned_in logs = sum_by learned_count logs
 
--- one worker, and no records yet
+-- one worker, no records yet, and a map that gives tops alone
 abbrev pub opening_for : Problem → Bounds → Opening
-opening_for p b = record { problem = p; records = []; workers = 1; budget = b.conflicts; limit = b.limit }
+opening_for p b = record { problem = p; records = []; workers = 1; budget = b.conflicts; limit = b.limit; tops = true }
 
 -- what is left of a state that its history makes of this opening; two honest logs, the worker's and the map's, in which as
 -- much was learnt as the history says that was used; and a worker's search that stands before a conflict where its last

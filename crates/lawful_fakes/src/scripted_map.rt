@@ -1,5 +1,5 @@
 //! A map engine that follows a script.
-ghost use Rattle.std.specs.Prelude.{◌≡◌, ◌<◌, ◌^◌, true, IfOk, map};
+ghost use Rattle.std.specs.Prelude.{◌≡◌, ◌<◌, ◌^◌, true, false, IfOk, map};
 ghost use Rattle.gm_base.specs.Sets.{IsSubset, all_groups};
 ghost use Rattle.gm_base.specs.Explored.{Found, IsUnexplored};
 ghost use Rattle.evidence_rec.specs.Seeding.{new_engine, shows_all_explored};
@@ -59,6 +59,10 @@ impl ScriptedMap {
 
 impl MapEngine for ScriptedMap {
     ghost state = { λ map. map };
+
+    ghost TOPS = { false };
+
+    const TOPS: bool = false;
 
     fn block(&mut self, alloc: Global, set: &GroupSet, side: Side) -> Result<(), AllocError> {
         self.blocks.reserve(1)?;

@@ -7,7 +7,7 @@ use Rattle.gm_base.specs.Sets.{IsGroupSet, has, IsSubset, IsProperSubset, all_gr
 use Rattle.sat_base.specs.Members.{In}
 use Rattle.gm_base.specs.Problem.{Problem, IsProblem, Sat}
 use Rattle.gm_base.specs.Minimal.{IsConflict, IsCorrection}
-use Rattle.gm_base.specs.Explored.{explores, is_explored, AllExplored}
+use Rattle.gm_base.specs.Explored.{explores, is_explored, IsUnexplored, AllExplored}
 use Rattle.gm_base.specs.declared.kind.Kind.{Kind}
 use Rattle.gm_base.specs.declared.kind.Kind.TheVariants.{Conflict as OfConflict, Correction as OfCorrection}
 use Rattle.sat_base.proofs.Members.{In-from_map, all_at, any_at, any_from}
@@ -19,6 +19,7 @@ use Rattle.evidence_rec.specs.Records.{kind_of, set_of, found_of, founds, IsAcce
 use Rattle.evidence_rec.proofs.VerdictLemmas.{minimal-from_accepts}
 use Rattle.map_core.specs.declared.entry.Call.{Call}
 use Rattle.map_core.specs.declared.entry.Call.TheVariants.{Take, Refill, Post, Retire}
+use Rattle.evidence_rec.specs.Seeding.{IsTop}
 use Rattle.map_core.specs.declared.entry.Reply.TheVariants.{Job, New}
 use Rattle.map_core.specs.declared.entry.Entry.{Entry}
 use Rattle.map_core.specs.declared.turn.Turn.{Turn}
@@ -306,7 +307,7 @@ exhausted_ends_posts s t e ok marked step new =
 job_new : (s : State) (t : Turn) (call : Call) (engine : Option ℕ) (turn n : ℕ) (seed : List ℕ) (u : Turn) (records : List Record)
     → Does s t call engine (Job turn seed n) u records → is_explored (founds s.records) seed ≡ false
 job_new s t Take None turn n seed u records h = absurd h.0
-job_new s t Take (Some k) turn n seed u records h = h.0.1.1.unexplored
+job_new s t Take (Some k) turn n seed u records h = h.0.1.1.unexplored.unexplored
 job_new s t (Refill asked) engine turn n seed u records h = absurd h.1
 job_new s t (Post kind groups) engine turn n seed u records h = absurd h.1
 job_new s t Retire engine turn n seed u records h = cc (h.1)
@@ -316,4 +317,21 @@ pub jobs_are_new : (s t : State) (e : Entry) (turn n : ℕ) (seed : List ℕ) �
     → is_explored (founds s.records) seed ≡ false
 jobs_are_new s t e turn n seed step job =
     job_new s (settle e.used (turn_at s e.worker)) e.call e.engine turn n seed step.turn step.records
+    (subst (λ r. Does s (settle e.used (turn_at s e.worker)) e.call e.engine r step.turn step.records) job step.does)
+
+job_top : (s : State) (t : Turn) (call : Call) (engine : Option ℕ) (turn n : ℕ) (seed : List ℕ) (u : Turn) (records : List Record)
+    → Does s t call engine (Job turn seed n) u records → s.opening.tops ≡ true
+    → IsUnexplored s.opening.problem.groups (founds s.records) seed × IsTop s.opening.problem.groups (founds s.records) seed
+job_top s t Take None turn n seed u records h tops = absurd h.0
+job_top s t Take (Some k) turn n seed u records h tops = (h.0.1.1.unexplored, h.0.1.1.top tops)
+job_top s t (Refill asked) engine turn n seed u records h tops = absurd h.1
+job_top s t (Post kind groups) engine turn n seed u records h tops = absurd h.1
+job_top s t Retire engine turn n seed u records h tops = cc (h.1)
+
+-- of an engine that gives tops alone, each set that is handed out is one
+pub jobs_are_tops : (s t : State) (e : Entry) (turn n : ℕ) (seed : List ℕ) → CoreStep s e t → e.reply ≡ Job turn seed n
+    → s.opening.tops ≡ true
+    → IsUnexplored s.opening.problem.groups (founds s.records) seed × IsTop s.opening.problem.groups (founds s.records) seed
+jobs_are_tops s t e turn n seed step job =
+    job_top s (settle e.used (turn_at s e.worker)) e.call e.engine turn n seed step.turn step.records
     (subst (λ r. Does s (settle e.used (turn_at s e.worker)) e.call e.engine r step.turn step.records) job step.does)

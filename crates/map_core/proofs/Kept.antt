@@ -125,15 +125,15 @@ driven_after {s = s} e u records d on =
     }
 
 -- what a call writes back is the state after its entry
-pub moved : (problem : Problem) (first budget limit : ℕ) (common common' : Common)
+pub moved : (tops : Bool) (problem : Problem) (first budget limit : ℕ) (common common' : Common)
     (records records' : List Record) (workers workers' : List Worker) (history history' : List Entry) (e : Entry)
     (u : Turn) → common' ≡ u.common → workers' ≡ set workers e.worker u.worker → history' ≡ history ++ e ∷ []
     → take first records' ≡ take first records
-    → state_of problem first budget limit common' records' workers' history' ≡ after
-    (state_of problem first budget limit common records workers history) e u records'
-moved problem first budget limit common common' records records' workers workers' history history' e u c w h r =
+    → state_of tops problem first budget limit common' records' workers' history' ≡ after
+    (state_of tops problem first budget limit common records workers history) e u records'
+moved tops problem first budget limit common common' records records' workers workers' history history' e u c w h r =
     let size : length workers' ≡ length workers = ap length w ∙ length-set workers e.worker u.worker in
-    ap (λ x. state_of problem first budget limit x records' workers' history') c
+    ap (λ x. state_of tops problem first budget limit x records' workers' history') c
     ∙ ap (λ x. at (take first records') (length workers') workers' x) h
     ∙ ap (λ x. at x (length workers') workers' (history ++ e ∷ [])) r
     ∙ ap (λ x. at (take first records) x workers' (history ++ e ∷ [])) size
@@ -142,7 +142,7 @@ moved problem first budget limit common common' records records' workers workers
     at : List Record → ℕ → List Worker → List Entry → State
     at opening n workers history =
         record {
-          opening = record { problem = problem; records = opening; workers = n; budget = budget; limit = limit };
+          opening = record { problem = problem; records = opening; workers = n; budget = budget; limit = limit; tops = tops };
           records = records';
           workers = workers;
           available = u.common.available;
@@ -209,18 +209,18 @@ keeps-more s r records (Some d) ok adds h =
     (false≢true (sym adds.fresh ∙ held_at_end s.opening.problem s.records r ok.opening.problem ok.accepted (ok.exhausted h.0) adds.accepted))
 
 -- the step that a call makes
-pub step_made : (problem : Problem) (first budget limit : ℕ) (common common' : Common)
+pub step_made : (tops : Bool) (problem : Problem) (first budget limit : ℕ) (common common' : Common)
     (records records' : List Record) (workers workers' : List Worker) (history history' : List Entry) (e : Entry)
     (u : Turn) → first ≤ length records
-    → IsReady (state_of problem first budget limit common records workers history) e.worker e.used
-    → Does (state_of problem first budget limit common records workers history)
-    (settle e.used (turn_at (state_of problem first budget limit common records workers history) e.worker)) e.call
+    → IsReady (state_of tops problem first budget limit common records workers history) e.worker e.used
+    → Does (state_of tops problem first budget limit common records workers history)
+    (settle e.used (turn_at (state_of tops problem first budget limit common records workers history) e.worker)) e.call
     e.engine e.reply u records' → common' ≡ u.common → workers' ≡ set workers e.worker u.worker
     → history' ≡ history ++ e ∷ []
-    → CoreStep (state_of problem first budget limit common records workers history) e
-    (state_of problem first budget limit common' records' workers' history')
-step_made problem first budget limit common common' records records' workers workers' history history' e u low r does c w h =
-    let s : State = state_of problem first budget limit common records workers history in
+    → CoreStep (state_of tops problem first budget limit common records workers history) e
+    (state_of tops problem first budget limit common' records' workers' history')
+step_made tops problem first budget limit common common' records records' workers workers' history history' e u low r does c w h =
+    let s : State = state_of tops problem first budget limit common records workers history in
     record {
       alive = r.alive;
       within = r.within;
@@ -228,29 +228,29 @@ step_made problem first budget limit common common' records records' workers wor
       records = records';
       does = does;
       is =
-          moved problem first budget limit common common' records records' workers workers' history history' e u c w h
+          moved tops problem first budget limit common common' records records' workers workers' history history' e u c w h
           (first_stays s first (settle e.used (turn_at s e.worker)) u e records' low does);
     }
 
 -- what a core keeps after a call
-pub call_kept : {problem : Problem} {first budget limit : ℕ} {common : Common} {records : List Record}
+pub call_kept : {tops : Bool} {problem : Problem} {first budget limit : ℕ} {common : Common} {records : List Record}
     {workers : List Worker} {history : List Entry} {capacity : ℕ} {held : Held} {engine : EngineState}
     {proof : Option Derivation}
     → (common' : Common) (records' : List Record) (workers' : List Worker) (history' : List Entry) (capacity' : ℕ)
     (held' : Held) (engine' : EngineState) (proof' : Option Derivation) (e : Entry) (u : Turn)
-    → IsKept (state_of problem first budget limit common records workers history) first capacity held engine proof
-    → IsReady (state_of problem first budget limit common records workers history) e.worker e.used
-    → Does (state_of problem first budget limit common records workers history)
-    (settle e.used (turn_at (state_of problem first budget limit common records workers history) e.worker)) e.call
+    → IsKept (state_of tops problem first budget limit common records workers history) first capacity held engine proof
+    → IsReady (state_of tops problem first budget limit common records workers history) e.worker e.used
+    → Does (state_of tops problem first budget limit common records workers history)
+    (settle e.used (turn_at (state_of tops problem first budget limit common records workers history) e.worker)) e.call
     e.engine e.reply u records' → common' ≡ u.common → workers' ≡ set workers e.worker u.worker
     → history' ≡ history ++ e ∷ [] → capacity ≤ capacity'
     → (u.worker.ended ≡ false → length history + (length workers + 1) ≤ capacity') → IsIndex held' records'
     → KeepsProof problem.groups (founds records') u.common.exhausted proof' → IsDrivenOn engine engine' records' e
-    → IsKept (state_of problem first budget limit common' records' workers' history') first capacity' held'
+    → IsKept (state_of tops problem first budget limit common' records' workers' history') first capacity' held'
     engine' proof'
-call_kept {problem = problem} {first = first} {budget = budget} {limit = limit} {common = common} {records = records} {workers = workers} {history = history} common' records' workers' history' capacity' held' engine' proof' e u k r does c w h longer on index keeps driven =
+call_kept {tops = tops} {problem = problem} {first = first} {budget = budget} {limit = limit} {common = common} {records = records} {workers = workers} {history = history} common' records' workers' history' capacity' held' engine' proof' e u k r does c w h longer on index keeps driven =
     let step =
-    step_made problem first budget limit common common' records records' workers workers' history history' e u
+    step_made tops problem first budget limit common common' records records' workers workers' history history' e u
     k.begins r does c w h in
     let room = room_after workers (length history) _ capacity' e.worker u r.seat r.alive k.room longer on in
     let size : length history' ≡ length history + 1 = ap length h ∙ length-append history (e ∷ []) in
@@ -281,14 +281,14 @@ proof_taken groups groups' found found' t u before (Some d) same is h gives =
 
 -- a take's answer over equal parts
 pub takes_here : {groups groups' : ℕ} {found found' : List Found} {size size' : ℕ} {t t' : Turn}
-    (limit number : ℕ) (engine : Option ℕ) (reply : Reply) (u : Turn) → groups ≡ groups' → found ≡ found'
-    → size ≡ size' → t ≡ t' → Takes groups found (leb limit size) number t engine reply u
-    → Takes groups' found' (leb limit size') number t' engine reply u
-takes_here {groups = groups} {groups' = groups'} {found = found} {found' = found'} {size = size} {size' = size'} {t = t} limit number engine reply u a b n e h =
-    subst (λ x. Takes groups' found' (leb limit size') number x engine reply u) e
-    (subst (λ x. Takes groups' found' (leb limit x) number t engine reply u) n
-    (subst (λ x. Takes groups' x (leb limit size) number t engine reply u) b
-    (subst (λ x. Takes x found (leb limit size) number t engine reply u) a h)))
+    (tops : Bool) (limit number : ℕ) (engine : Option ℕ) (reply : Reply) (u : Turn) → groups ≡ groups' → found ≡ found'
+    → size ≡ size' → t ≡ t' → Takes tops groups found (leb limit size) number t engine reply u
+    → Takes tops groups' found' (leb limit size') number t' engine reply u
+takes_here {groups = groups} {groups' = groups'} {found = found} {found' = found'} {size = size} {size' = size'} {t = t} tops limit number engine reply u a b n e h =
+    subst (λ x. Takes tops groups' found' (leb limit size') number x engine reply u) e
+    (subst (λ x. Takes tops groups' found' (leb limit x) number t engine reply u) n
+    (subst (λ x. Takes tops groups' x (leb limit size) number t engine reply u) b
+    (subst (λ x. Takes tops x found (leb limit size) number t engine reply u) a h)))
 
 -- a post's answer over equal parts
 pub posts_here : {size size' : ℕ} {t t' : Turn} (p : Problem) (limit : ℕ) (records : List Record) (kind : Kind)

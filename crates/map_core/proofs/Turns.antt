@@ -235,7 +235,7 @@ facts-unasked s t used Retired u le h = absurd h
 
 facts-asked : (s : State) (t : Turn) (used n : ℕ) (reply : Reply) (u : Turn) → used ≤ t.worker.purse
     → MayAsk (is_full s.opening s.records) (give_back (settle used t)) n
-    → TakesAsked s.opening.problem.groups (founds s.records) (length s.history + 1) (give_back (settle used t)) n reply u
+    → TakesAsked s.opening.tops s.opening.problem.groups (founds s.records) (length s.history + 1) (give_back (settle used t)) n reply u
     → TurnFacts s t used (Some n) reply u
 facts-asked s t used n (Job turn seed g) u le may h =
     let size = h.2 in
@@ -262,7 +262,7 @@ facts-asked s t used n Already u le may h = absurd h
 facts-asked s t used n Retired u le may h = absurd h
 
 facts-takes : (s : State) (t : Turn) (used : ℕ) (engine : Option ℕ) (reply : Reply) (u : Turn) → used ≤ t.worker.purse
-    → Takes s.opening.problem.groups (founds s.records) (is_full s.opening s.records) (length s.history + 1) (give_back (settle used t)) engine reply u
+    → Takes s.opening.tops s.opening.problem.groups (founds s.records) (is_full s.opening s.records) (length s.history + 1) (give_back (settle used t)) engine reply u
     → TurnFacts s t used engine reply u
 facts-takes s t used None reply u le h = facts-unasked s t used reply u le h
 facts-takes s t used (Some n) reply u le h = facts-asked s t used n reply u le h.0 h.1

@@ -12,7 +12,8 @@ use Rattle.gm_base.specs.declared.kind.Kind.{Kind}
 use Rattle.gm_base.specs.declared.kind.Kind.TheVariants.{Conflict, Correction}
 use Rattle.evidence_rec.specs.declared.record.Record.{Record}
 use Rattle.evidence_rec.specs.Records.{kind_of, set_of, founds, IsAccepted}
-use Rattle.gm_base.specs.Explored.{IsUnexplored, AllExplored}
+use Rattle.gm_base.specs.Explored.{AllExplored}
+use Rattle.evidence_rec.specs.Seeding.{IsSeed}
 use Rattle.map_core.specs.declared.entry.Call.{Call}
 use Rattle.map_core.specs.declared.entry.Call.TheVariants.{Take, Refill, Post, Retire}
 use Rattle.map_core.specs.declared.entry.Reply.{Reply}
@@ -147,14 +148,15 @@ TakesUnasked full t Limit new = (t.common.stopped ≡ false) × (t.common.exhaus
 TakesUnasked full t Memory new = new ≡ retire t
 TakesUnasked full t _ new = ⊥
 
--- a take for which the engine was asked, and used so much of what was available; the number of the entry
-abbrev pub TakesAsked : ℕ → List Found → ℕ → Turn → ℕ → Reply → Turn → Type 0
-TakesAsked groups found number t used (Job turn seed n) new =
-    (turn ≡ number) × IsUnexplored groups found seed × (n ≡ min (t.common.available - used) 1000) × (new ≡ grant n (spend used t))
-TakesAsked groups found number t used Exhausted new = AllExplored groups found × (new ≡ end_turn (mark_exhausted (spend used t)))
-TakesAsked groups found number t used Dry new = (used ≡ t.common.available) × (new ≡ end_turn (spend used t))
-TakesAsked groups found number t used Memory new = new ≡ retire (spend used t)
-TakesAsked groups found number t used _ new = ⊥
+-- a take for which the engine was asked, and used so much of what was available; whether the engine gives tops alone, and the
+-- number of the entry
+abbrev pub TakesAsked : Bool → ℕ → List Found → ℕ → Turn → ℕ → Reply → Turn → Type 0
+TakesAsked tops groups found number t used (Job turn seed n) new =
+    (turn ≡ number) × IsSeed tops groups found seed × (n ≡ min (t.common.available - used) 1000) × (new ≡ grant n (spend used t))
+TakesAsked tops groups found number t used Exhausted new = AllExplored groups found × (new ≡ end_turn (mark_exhausted (spend used t)))
+TakesAsked tops groups found number t used Dry new = (used ≡ t.common.available) × (new ≡ end_turn (spend used t))
+TakesAsked tops groups found number t used Memory new = new ≡ retire (spend used t)
+TakesAsked tops groups found number t used _ new = ⊥
 
 -- the engine is asked only where nothing is marked that ends a take
 pub record MayAsk (full : Bool) (t : Turn) (used : ℕ) : Type 0 where
@@ -163,9 +165,9 @@ pub record MayAsk (full : Bool) (t : Turn) (used : ℕ) : Type 0 where
   pub not_full : full ≡ false
   pub within : used ≤ t.common.available
 
-abbrev pub Takes : ℕ → List Found → Bool → ℕ → Turn → Option ℕ → Reply → Turn → Type 0
-Takes groups found full number t None reply new = TakesUnasked full t reply new
-Takes groups found full number t (Some used) reply new = MayAsk full t used × TakesAsked groups found number t used reply new
+abbrev pub Takes : Bool → ℕ → List Found → Bool → ℕ → Turn → Option ℕ → Reply → Turn → Type 0
+Takes tops groups found full number t None reply new = TakesUnasked full t reply new
+Takes tops groups found full number t (Some used) reply new = MayAsk full t used × TakesAsked tops groups found number t used reply new
 
 abbrev pub Refills : Turn → Reply → Turn → Type 0
 Refills t Stopped new = (t.common.stopped ≡ true) × (new ≡ end_turn t)
@@ -190,7 +192,7 @@ Posts p full held t kind set _ new records = ⊥
 
 -- what a call does to the settled part of the worker, with its reply
 abbrev pub Does : State → Turn → Call → Option ℕ → Reply → Turn → List Record → Type 0
-Does s t Take engine reply new records = Takes s.opening.problem.groups (founds s.records) (is_full s.opening s.records) (length s.history + 1) (give_back t) engine reply new × (records ≡ s.records)
+Does s t Take engine reply new records = Takes s.opening.tops s.opening.problem.groups (founds s.records) (is_full s.opening s.records) (length s.history + 1) (give_back t) engine reply new × (records ≡ s.records)
 Does s t (Refill asked) engine reply new records = (engine ≡ None) × Refills (give_back t) reply new × (records ≡ s.records)
 Does s t (Post kind set) engine reply new records = (engine ≡ None) × Posts s.opening.problem (is_full s.opening s.records) s.records t kind set reply new records
 Does s t Retire engine reply new records = (engine ≡ None) × (reply ≡ Retired) × (new ≡ retire t) × (records ≡ s.records)

@@ -22,10 +22,10 @@ use Rattle.map_core.specs.Sound.{IsOpening, live_count}
 use Rattle.map_core.specs.Index.{IsIndex}
 
 -- the state that these parts make; the opening's records are the first ones
-abbrev pub state_of : Problem → ℕ → ℕ → ℕ → Common → List Record → List Worker → List Entry → State
-state_of problem first budget limit common records workers history =
+abbrev pub state_of : Bool → Problem → ℕ → ℕ → ℕ → Common → List Record → List Worker → List Entry → State
+state_of tops problem first budget limit common records workers history =
     record {
-      opening = record { problem = problem; records = take first records; workers = length workers; budget = budget; limit = limit };
+      opening = record { problem = problem; records = take first records; workers = length workers; budget = budget; limit = limit; tops = tops };
       records = records;
       workers = workers;
       available = common.available;

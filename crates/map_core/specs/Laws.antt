@@ -4,11 +4,12 @@ use Rattle.std.specs.List.{AllByRecursion}
 use Rattle.gm_base.specs.Sets.{IsGroupSet, IsSubset, all_groups}
 use Rattle.gm_base.specs.Problem.{Problem, Sat}
 use Rattle.gm_base.specs.Minimal.{IsConflict, IsCorrection}
-use Rattle.gm_base.specs.Explored.{explores, is_explored}
+use Rattle.gm_base.specs.Explored.{explores, is_explored, IsUnexplored}
 use Rattle.gm_base.specs.declared.kind.Kind.{Kind}
 use Rattle.gm_base.specs.declared.kind.Kind.TheVariants.{Conflict, Correction}
 use Rattle.evidence_rec.specs.declared.record.Record.{Record}
 use Rattle.evidence_rec.specs.Records.{kind_of, found_of, founds}
+use Rattle.evidence_rec.specs.Seeding.{IsTop}
 use Rattle.map_core.specs.declared.entry.Reply.TheVariants.{Job, Grant, New}
 use Rattle.map_core.specs.declared.entry.Entry.{Entry}
 use Rattle.map_core.specs.declared.entry.Opening.{Opening}
@@ -43,6 +44,15 @@ StepsExplore = (s t : State) (e : Entry) (set : List ℕ) → CoreStep s e t →
 -- no explored set is handed out
 abbrev pub JobsAreNew : Type 0
 JobsAreNew = (s t : State) (e : Entry) (turn n : ℕ) (seed : List ℕ) → CoreStep s e t → e.reply ≡ Job turn seed n → is_explored (founds s.records) seed ≡ false
+
+-- where the engine gives tops alone, no unexplored set properly holds the one handed out
+abbrev pub JobsAreTops : Type 0
+JobsAreTops =
+    (s t : State) (e : Entry) (turn n : ℕ) (seed : List ℕ)
+    → CoreStep s e t
+    → e.reply ≡ Job turn seed n
+    → s.opening.tops ≡ true
+    → IsUnexplored s.opening.problem.groups (founds s.records) seed × IsTop s.opening.problem.groups (founds s.records) seed
 
 -- what is held is minimal
 abbrev pub HeldIsMinimal : Type 0

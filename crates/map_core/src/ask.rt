@@ -1,9 +1,9 @@
 //! What a take is answered.
-ghost use Rattle.std.specs.Prelude.{◌≡◌, ◌≢◌, ◌+◌, ◌<◌, ◌≤◌, ◌^◌, [], List, ℕ, Some, None, false, true, length, vec_len, vec_capacity, IfOk};
-ghost use Rattle.gm_base.specs.Explored.{Found, IsUnexplored, AllExplored};
+ghost use Rattle.std.specs.Prelude.{◌≡◌, ◌≢◌, ◌+◌, ◌<◌, ◌≤◌, ◌^◌, [], List, ℕ, Bool, Some, None, false, true, length, vec_len, vec_capacity, IfOk};
+ghost use Rattle.gm_base.specs.Explored.{Found, AllExplored};
 ghost use Rattle.lrat_steps.specs.Log.{db_of, learned_count};
 ghost use Rattle.lrat_steps.specs.Undecided.{Undecided};
-ghost use Rattle.evidence_rec.specs.Seeding.{IsHonestMap, shows_all_explored};
+ghost use Rattle.evidence_rec.specs.Seeding.{IsSeed, IsHonestMap, shows_all_explored};
 ghost use Rattle.map_core.specs.Core.{TakesAsked};
 ghost use Rattle.map_core.specs.Asked.{IsSettled, IsAnswered, GivesProof};
 ghost use Rattle.map_core.specs.Own.{engine_part};
@@ -48,7 +48,7 @@ fn answer(turn: Turn, engine: Option<u64>, reply: Taken, kept: Reply) -> TakeAns
 fn job(alloc: Global, number: u64, turn: Turn, used: u64, seed: GroupSet) -> TakeAnswer
     requires settled { IsSettled turn }
     requires within { used ≤ turn.common.available }
-    ensures takes { (groups : ℕ) (found : List Found) → IsUnexplored groups found seed → TakesAsked groups found number turn used result.kept result.turn }
+    ensures takes { (tops : Bool) (groups : ℕ) (found : List Found) → IsSeed tops groups found seed → TakesAsked tops groups found number turn used result.kept result.turn }
     ensures reply { take_reply result.reply ≡ result.kept }
     ensures engine { result.engine ≡ Some used }
     ensures exhausted { result.turn.common.exhausted ≡ turn.common.exhausted }
@@ -77,7 +77,7 @@ fn job(alloc: Global, number: u64, turn: Turn, used: u64, seed: GroupSet) -> Tak
 fn exhausted(turn: Turn, used: u64, proof: Result<Derivation, AllocError>) -> TakeAnswer
     requires settled { IsSettled turn }
     requires within { used ≤ turn.common.available }
-    ensures takes { (groups number : ℕ) (found : List Found) → AllExplored groups found → TakesAsked groups found number turn used result.kept result.turn }
+    ensures takes { (tops : Bool) (groups number : ℕ) (found : List Found) → AllExplored groups found → TakesAsked tops groups found number turn used result.kept result.turn }
     ensures reply { take_reply result.reply ≡ result.kept }
     ensures engine { result.engine ≡ Some used }
     ensures proof { (groups : ℕ) (found : List Found) → IfOk proof (λ d. shows_all_explored groups found d ≡ true) → GivesProof groups found turn result.turn result.proof }
@@ -102,7 +102,7 @@ fn find<M: MapEngine>(alloc: Global, engine: &mut M, number: u64, turn: Turn) ->
     requires settled { IsSettled turn }
     requires not_stopped { turn.common.stopped ≡ false }
     requires not_exhausted { turn.common.exhausted ≡ false }
-    ensures answered { IsAnswered (M.state engine.old) false number turn result }
+    ensures answered { IsAnswered M.TOPS (M.state engine.old) false number turn result }
     ensures groups { (M.state engine.new).groups ≡ (M.state engine.old).groups }
     ensures same_blocks { (M.state engine.new).blocks ≡ (M.state engine.old).blocks }
     ensures learned { learned_count (M.state engine.new).log ≡ learned_count (M.state engine.old).log + engine_part result.engine }
@@ -139,7 +139,7 @@ pub fn ask<M: MapEngine>(
     requires settled { IsSettled turn }
     requires few { workers < 2 ^ 32 }
     requires short { length history.old.items < 2 ^ 63 }
-    ensures answered { IsAnswered (M.state engine.old) full (length history.old.items + 1) turn result }
+    ensures answered { IsAnswered M.TOPS (M.state engine.old) full (length history.old.items + 1) turn result }
     ensures groups { (M.state engine.new).groups ≡ (M.state engine.old).groups }
     ensures same_blocks { (M.state engine.new).blocks ≡ (M.state engine.old).blocks }
     ensures learned { learned_count (M.state engine.new).log ≡ learned_count (M.state engine.old).log + engine_part result.engine }

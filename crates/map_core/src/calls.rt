@@ -59,9 +59,9 @@ impl<M: MapEngine> Model for MapCore<M> {
 
     ghost use Rattle.map_core.specs.Kept.{state_of, IsKept};
 
-    ghost view = { λ a. state_of a.problem a.first a.budget a.limit a.common a.records.items a.workers.items a.history.items };
+    ghost view = { λ a. state_of M.TOPS a.problem a.first a.budget a.limit a.common a.records.items a.workers.items a.history.items };
 
-    ghost invariant = { λ a. IsKept (state_of a.problem a.first a.budget a.limit a.common a.records.items a.workers.items a.history.items) a.first (vec_capacity a.history) a.held (M.state a.engine) a.proof };
+    ghost invariant = { λ a. IsKept (state_of M.TOPS a.problem a.first a.budget a.limit a.common a.records.items a.workers.items a.history.items) a.first (vec_capacity a.history) a.held (M.state a.engine) a.proof };
 }
 
 impl<M: MapEngine> MapCore<M> {
@@ -230,11 +230,11 @@ impl<M: MapEngine + Drop> MapCore<M> {
         limit: u64,
         engine: M,
     ) -> Result<MapCore<M>, AllocError>
-        requires opening { IsOpening (opening_of problem.now records workers budget limit) }
+        requires opening { IsOpening (opening_of problem.now records workers budget limit M.TOPS) }
         requires groups { (M.state engine).groups ≡ problem.now.groups }
         requires blocks { (M.state engine).blocks ≡ [] }
         requires log { (M.state engine).log ≡ [] }
-        ensures { IfOk result (λ core. core ≡ opened (opening_of problem.now records workers budget limit)) }
+        ensures { IfOk result (λ core. core ≡ opened (opening_of problem.now records workers budget limit M.TOPS)) }
     {
         let mut engine = engine;
         let problem = problem.copy(alloc)?;

@@ -53,4 +53,6 @@ pub struct Opening {
     pub workers: u32,
     pub budget: u64,
     pub limit: u64,
+    /// Whether no set that is left properly holds a seed.
+    pub tops: bool,
 }

@@ -1,5 +1,5 @@
 //! What holds after every list of entries, by any workers in any order: each law is the contract of a function with no code.
-ghost use Rattle.map_core.specs.Laws.{OpeningIsSound, StepsKeepSound, RunsAreSound, SoundDecides, StepsExplore, JobsAreNew, HeldIsMinimal, NotBoth, ExhaustedHoldsAll, MarksStay, NoneIsNew, NoneIsJob, NoneIsGrant};
+ghost use Rattle.map_core.specs.Laws.{OpeningIsSound, StepsKeepSound, RunsAreSound, SoundDecides, StepsExplore, JobsAreNew, JobsAreTops, HeldIsMinimal, NotBoth, ExhaustedHoldsAll, MarksStay, NoneIsNew, NoneIsJob, NoneIsGrant};
 
 /// The opening state has the core's facts, and each step keeps them.
 pub fn core_is_sound()
@@ -13,6 +13,7 @@ pub fn explored_is_right()
     ensures decides { SoundDecides }
     ensures stays { StepsExplore }
     ensures jobs { JobsAreNew }
+    ensures tops { JobsAreTops }
 {}
 
 /// What is held, and that nothing is missing once exhausted is marked.

@@ -1,30 +1,31 @@
 -- What a map keeps, and what its answers say.
-use Rattle.std.proofs.Common.{◌≡◌, ℕ, ◌+◌, ◌-◌, Bool, true, false, List, [], ◌∷◌, ◌++◌, map, length, Option, Some, None, sym, ◌∙◌, ap, subst, inl, inr, arith}
+use Rattle.std.proofs.Common.{◌≡◌, ℕ, zero, suc, ◌+◌, ◌-◌, ◌<◌, get_or, Bool, true, false, List, [], ◌∷◌, ◌++◌, map, length, Option, Some, None, sym, ◌∙◌, ap, subst, inl, inr, arith}
 use Rattle.std.specs.Prelude.{ℤ, IfSome}
 use Rattle.std.specs.List.{list_all}
 use Rattle.std.specs.Option.{option_map_or}
-use Rattle.std.proofs.lemmas.Bool.{false_from_ne_true, and_from}
+use Rattle.std.proofs.lemmas.Bool.{false≢true, false_from_ne_true, and_from}
 use Rattle.std.proofs.lemmas.List.{length-map, get_or-map, get_or_append_left, length-append, map_push}
 use Rattle.std.proofs.lemmas.Option.{slice_get_within, get_or_from_slice_get, slice_get-get_or}
 use Rattle.gm_base.specs.declared.kind.Side.{Side}
 use Rattle.gm_base.specs.declared.kind.Side.TheVariants.{Up, Down}
 use Rattle.sat_base.specs.Members.{In}
 use Rattle.sat_base.specs.Literals.{literal_true, clause_true, AreLiterals}
-use Rattle.gm_base.specs.Sets.{IsSubset, all_groups}
-use Rattle.gm_base.specs.Explored.{Found, block_of, block_clause, groups_true, is_model, IsUnexplored, AllExplored}
+use Rattle.gm_base.specs.Sets.{has, IsSubset, all_groups}
+use Rattle.gm_base.proofs.SetLemmas.{all_groups-has, has-all_groups}
+use Rattle.gm_base.specs.Explored.{Found, block_of, block_clause, groups_true, is_model, is_explored, IsUnexplored, AllExplored}
 use Rattle.sat_base.specs.Derivation.{Derivation, clause_of, all_known, is_derivation}
 use Rattle.sat_base.specs.Database.{StoredClause, known_of}
 use Rattle.sat_base.proofs.Members.{In-append_cases, In-from_map, all_at, all_from, any_from}
 use Rattle.sat_base.proofs.DatabaseLemmas.{get_in, named_at}
-use Rattle.gm_base.proofs.ExploredLemmas.{AreWithin, models-unexplored, IsUnexplored-from_model, all_explored-no_model}
+use Rattle.gm_base.proofs.ExploredLemmas.{AreWithin, has-groups_true, values_of, length-values_of, groups_true-values_of, models-unexplored, IsUnexplored-from_model, all_explored-no_model}
 use Rattle.sat_base.proofs.FollowsLemmas.{Holds}
 use Rattle.lrat_steps.specs.Log.{LogStep, Input, Core, lits_of, stored, inputs_of, db_of}
 use Rattle.lrat_steps.specs.Trimmed.{IsTrimmed}
 use Rattle.lrat_steps.proofs.LogLemmas.{inputs-push_input, honest-input}
 use Rattle.lrat_steps.proofs.SoundLemmas.{honest-sound}
 use Rattle.cdcl_core.specs.Solver.{Solver}
-use Rattle.cdcl_core.specs.Answers.{IsModel, IsRefuted, IsHonestlyPaid}
-use Rattle.evidence_rec.specs.Seeding.{EngineState, HasModels, blocked, shows_all_explored}
+use Rattle.cdcl_core.specs.Answers.{IsModel, IsBelow, IsGreatestModel, IsRefuted, IsHonestlyPaid}
+use Rattle.evidence_rec.specs.Seeding.{EngineState, IsSeed, IsTop, HasModels, blocked, shows_all_explored}
 use Rattle.power_map.specs.Blocks.{blocks_of}
 use Rattle.power_map.specs.Inside.{is_kept, IsKept}
 use Rattle.evidence_rec.proofs.BlockLemmas.{block_clause-literal, block_clause-over}
@@ -159,17 +160,68 @@ pub kept_after : (old new : Solver) (before left : ℕ) (sides : List Side) (ste
 kept_after old new before left sides step h paid vars =
     subst (λ n. IsKept n new.log sides step) (sym vars) (kept_searched old.vars before left old.log new.log sides step h paid)
 
+-- the assignment of a set that nothing explores makes the clauses true
+clauses_of : (groups : ℕ) (log : List LogStep) (sides : List Side) (step : Option ℕ) (set : List ℕ) → IsKept groups log sides step
+    → IsUnexplored groups (blocks_of (inputs_of log) sides) set
+    → (c : List ℤ) → In c (inputs_of log) → clause_true (values_of groups set) c ≡ true
+clauses_of groups log sides step set h out c i =
+    let values = values_of groups set in
+    let blocks = blocks_of (inputs_of log) sides in
+    let read : is_explored blocks (groups_true values) ≡ false =
+    ap (is_explored blocks) (groups_true-values_of groups set out.is_set out.within) ∙ out.unexplored in
+    let model = (models-unexplored groups blocks values h.within (length-values_of groups set)).1 read in
+    all_at (clause_true values) (inputs_of log) c (ap (list_all (clause_true values)) h.honest.inputs ∙ model) i
+
+-- what is true stands in the list
+index_within : (xs : List Bool) (index : ℕ) → get_or xs index false ≡ true → index < length xs
+index_within [] index h = absurd (false≢true h)
+index_within (x ∷ xs) zero h = omega arith
+index_within (x ∷ xs) (suc index) h = let rest = index_within xs index h in omega (arith, rest)
+
+-- whether a group is in a set is the value of its variable
+value_in : (groups : ℕ) (assign : List Bool) (index : ℕ) → length assign ≡ groups → index < groups
+    → has (groups_true assign) (index + 1) ≡ get_or assign index false
+value_in groups assign index len within =
+    let down : index + 1 - 1 ≡ index = omega arith in
+    has-groups_true assign (index + 1) (has-all_groups (length assign) (index + 1) (omega arith) (omega (arith, len, within)))
+    ∙ ap (λ (i : ℕ). get_or assign i false) down
+
+-- no set that is left properly holds the set of a greatest model
+top_found : (groups : ℕ) (log : List LogStep) (sides : List Side) (step : Option ℕ) (assign : List Bool) → IsKept groups log sides step
+    → length assign ≡ groups → IsGreatestModel groups (inputs_of log) assign
+    → IsTop groups (blocks_of (inputs_of log) sides) (groups_true assign)
+top_found groups log sides step assign h total most other out more =
+    let values = values_of groups other in
+    let len = length-values_of groups other in
+    let same = groups_true-values_of groups other out.is_set out.within in
+    let (g, in_other, not_here) = more.1 in
+    let (low, high) = all_groups-has groups g (out.within g in_other) in
+    let up : g - 1 + 1 ≡ g = omega arith in
+    let on : get_or values (g - 1) false ≡ true =
+    sym (value_in groups values (g - 1) len (omega arith)) ∙ ap (has (groups_true values)) up ∙ ap (λ (s : List ℕ). has s g) same ∙ in_other in
+    let below : IsBelow assign values = λ index t.
+    let at = index_within assign index t in
+    let inside : index < groups = omega (arith, at, total) in
+    sym (value_in groups values index len inside) ∙ ap (λ (s : List ℕ). has s (index + 1)) same
+    ∙ more.0 (index + 1) (value_in groups assign index total inside ∙ t) in
+    let back = most values len (clauses_of groups log sides step other h out) below (g - 1) on in
+    false≢true (sym not_here ∙ ap (has (groups_true assign)) (sym up) ∙ value_in groups assign (g - 1) total (omega arith) ∙ back)
+
 -- a model
 pub seed_found : (groups : ℕ) (log : List LogStep) (sides : List Side) (step : Option ℕ) (assumed : List ℤ)
     (assign : List Bool) (set : List ℕ)
     → IsKept groups log sides step
-    → IsModel groups (inputs_of log) assumed assign → set ≡ groups_true assign
-    → IsUnexplored groups (blocks_of (inputs_of log) sides) set
-seed_found groups log sides step assumed assign set h m is =
+    → IsModel groups (inputs_of log) assumed assign → IsGreatestModel groups (inputs_of log) assign → set ≡ groups_true assign
+    → IsSeed true groups (blocks_of (inputs_of log) sides) set
+seed_found groups log sides step assumed assign set h m most is =
     let blocks = blocks_of (inputs_of log) sides in
     let model : is_model blocks assign ≡ true =
     sym (ap (list_all (clause_true assign)) h.honest.inputs) ∙ all_from (clause_true assign) (inputs_of log) m.clauses_true in
-    subst (IsUnexplored groups blocks) (sym is) (IsUnexplored-from_model groups blocks assign h.within m.total model)
+    subst (IsSeed true groups blocks) (sym is)
+    (record {
+      unexplored = IsUnexplored-from_model groups blocks assign h.within m.total model;
+      top = λ _. top_found groups log sides step assign h m.total most;
+    })
 
 -- where the block clauses are true, they hold: no literal is 0
 input_holds : (groups : ℕ) (blocks : List Found) (assign : List Bool) (c : List ℤ) → AreWithin groups blocks

@@ -35,5 +35,6 @@ pub record IsKept (groups : ℕ) (log : List LogStep) (sides : List Side) (step 
   pub empty : IfSome step (λ id. IsRefuted log [] id)
 
 -- what the parts of a map are
-abbrev pub IsMap : Inside → Type 0
-IsMap a = IsKept a.solver.vars a.solver.log a.sides.items a.empty
+pub record IsMap (a : Inside) : Type 0 where
+  pub kept : IsKept a.solver.vars a.solver.log a.sides.items a.empty
+  pub true_first : a.solver.true_first ≡ true

@@ -3,7 +3,7 @@
 //! ```text
 //! let mut map = PowerMap::new(alloc, groups)?;
 //! match map.seed(alloc, 0, &mut purse)? {
-//!     Seed::Set(set) => ..,  // no block explores it: shrink or grow it, and block what was found
+//!     Seed::Set(set) => ..,  // no block explores it, nor any set that properly holds it is left: shrink or grow it
 //!     Seed::Empty => ..,     // each set is explored, and map.empty_proof(alloc)? derives the empty clause
 //!     Seed::Dry => ..,       // the purse is empty
 //! }
@@ -16,7 +16,7 @@
 //! Start with `map.rt`, whose head says why the answers are right, and `specs/Inside.antt`, which says what a map keeps.
 //! `sets.rt` reads the set off an assignment.
 //!
-//! Not said here: which of the sets a seed is, how many units it costs, and that memory suffices.
+//! Not said here: which of the greatest sets a seed is, how many units it costs, and that memory suffices.
 #![tactic(auto)]
 
 mod map;

@@ -3,7 +3,7 @@
 //! The map is a learning solver over the block clauses, in which group g is variable g. A block is one clause more, and what
 //! was learnt stays, so each seed is found by all that the earlier ones taught. An assignment that makes all clauses true,
 //! read as the set of the groups whose variables are true, breaks no block: no conflict lies within it, and each correction
-//! has a group in it. Where there is none, the log ends in the empty clause, which follows from the block clauses: each set
+//! has a group in it. The solver decides each variable true first, so no set that is left properly holds this one. Where there is none, the log ends in the empty clause, which follows from the block clauses: each set
 //! is explored, and the steps that lead there say why.
 //!
 //! The sets themselves are kept nowhere but in the log: a clause names its groups. Its signs would tell the side too, but
@@ -50,7 +50,7 @@ impl PowerMap {
         ensures { IfOk result (λ map. map ≡ new_engine groups) }
     {
         Ok(PowerMap {
-            solver: Solver::new(alloc, groups)?,
+            solver: Solver::new_true(alloc, groups)?,
             sides: Vec::new(alloc),
             empty: None,
         })
@@ -59,6 +59,10 @@ impl PowerMap {
 
 impl MapEngine for PowerMap {
     ghost state = { λ map. map };
+
+    ghost TOPS = { true };
+
+    const TOPS: bool = true;
 
     fn block(&mut self, alloc: Global, set: &GroupSet, side: Side) -> Result<(), AllocError> {
         // Room first, so that all is as it was where there is none.

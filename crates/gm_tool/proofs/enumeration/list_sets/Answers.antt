@@ -28,7 +28,7 @@ returns c =
             opening =
                 c.enumerate.ensures.opening
                 ∙ ap (λ (s : State). s.opening) c.in_ok-core.ensures
-                ∙ ap (λ (rs : List Record). opening_of p rs 1 b.conflicts b.limit) c.new-records.ensures;
+                ∙ ap (λ (rs : List Record). opening_of p rs 1 b.conflicts b.limit true) c.new-records.ensures;
             worker_log = mine;
             map_log = maps;
             logs_are = logs;

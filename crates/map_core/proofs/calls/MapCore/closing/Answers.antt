@@ -18,7 +18,7 @@ returns g c =
     let k = c.self.invariant in
     let d = k.driven in
     let s : State =
-    state_of i.problem i.first i.budget i.limit i.common i.records.items i.workers.items i.history.items in
+    state_of g.M.MapEngine.TOPS i.problem i.first i.budget i.limit i.common i.records.items i.workers.items i.history.items in
     let ok = kept_sound k in
     let over = subst (λ (x : State). HaveEnded x.opening x.history) (sym c.self.view_is) c.requires in
     let log : (g.M.MapEngine.state i.engine).log ≡ c.into_log.result = sym c.into_log.ensures.log in

@@ -84,10 +84,10 @@ returns-clause-step g c =
     written c.args.w c.args.used _ _ _ _ _ _ _ _ _ c.kind-kind.ensures given.ensures.set c.kept_post.ensures
     given.ensures.history f.ensures.history in
     let t =
-    state_of i.problem i.first i.budget i.limit f.result given.new.records.items f.new.workers.items
+    state_of g.M.MapEngine.TOPS i.problem i.first i.budget i.limit f.result given.new.records.items f.new.workers.items
     f.new.history.items in
     let step =
-    step_made i.problem i.first i.budget i.limit i.common f.result i.records.items given.new.records.items
+    step_made g.M.MapEngine.TOPS i.problem i.first i.budget i.limit i.common f.result i.records.items given.new.records.items
     i.workers.items f.new.workers.items i.history.items f.new.history.items e u c.self.invariant.begins r (refl, posts)
     f.ensures.common f.ensures.workers history in
     record { engine = None; step = subst (λ s. CoreStep s e t) c.self.view_is step }

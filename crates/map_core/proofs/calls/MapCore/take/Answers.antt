@@ -27,7 +27,7 @@ invariant_of-self g c =
     (c.settled.ensures.turn ∙ ap (λ s. settle c.args.used (turn_at s c.args.w)) (sym c.self.view_is)) in
     let records : c.len.result ≡ length i.records.items = omega (arith, c.len.ensures, i.records.ok.0) in
     let takes =
-    takes_here i.limit (length i.history.items + 1) given.result.engine given.result.kept u d.same_groups
+    takes_here g.M.MapEngine.TOPS i.limit (length i.history.items + 1) given.result.engine given.result.kept u d.same_groups
     d.same_blocks records is asked.takes in
     let marked = ap (λ (t : Turn). t.common.exhausted) is in
     let before =

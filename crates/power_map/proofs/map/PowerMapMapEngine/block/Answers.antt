@@ -26,21 +26,21 @@ pub returns-in_err-reserve-clause-models : goal.returns-in_err-reserve-clause-mo
 returns-in_err-reserve-clause-models c =
     let a = c.self.inside in
     has_models a.solver.vars a.solver.log c.reserve.new.self.items a.empty
-    (kept_in_room a c.reserve.new.self.items c.self.invariant c.in_err-reserve.ensures.items)
+    (kept_in_room a c.reserve.new.self.items c.self.invariant.kept c.in_err-reserve.ensures.items)
 
 pub block_lits-requires : goal.block_lits-requires
 block_lits-requires c = λ g i.
     let a = c.self.inside in
     let range = all_groups-has a.solver.vars g (set_within c.self.inside c.args.self.now c.args.set.now c.self.view_is c.requires g i) in
     let high = range.1 in
-    let small = c.self.invariant.small in
+    let small = c.self.invariant.kept.small in
     omega arith
 
 pub returns-in_err-clause-clause-models : goal.returns-in_err-clause-clause-models
 returns-in_err-clause-clause-models c =
     let a = c.self.inside in
     has_models a.solver.vars a.solver.log c.reserve.new.self.items a.empty
-    (kept_in_room a c.reserve.new.self.items c.self.invariant c.in_ok-reserve.ensures.items)
+    (kept_in_room a c.reserve.new.self.items c.self.invariant.kept c.in_ok-reserve.ensures.items)
 
 pub add-requires : goal.add-requires
 add-requires c =
@@ -54,30 +54,34 @@ returns-in_err-add-clause-models c =
     let s = c.add.new.self in
     has_models s.vars s.log c.reserve.new.self.items a.empty
     (subst (λ (t : Solver). IsKept t.vars t.log c.reserve.new.self.items a.empty) (sym c.in_err-add.ensures.err)
-    (kept_in_room a c.reserve.new.self.items c.self.invariant c.in_ok-reserve.ensures.items))
+    (kept_in_room a c.reserve.new.self.items c.self.invariant.kept c.in_ok-reserve.ensures.items))
 
 pub invariant_of-self-2 : goal.invariant_of-self-2
 invariant_of-self-2 c =
     let a = c.self.inside in
-    kept_block a.solver c.add.new.self a.sides.items c.push_reserved.new.self.items a.empty c.args.side
-    c.args.set.now c.deref.result.now c.self.invariant
-    (set_within c.self.inside c.args.self.now c.args.set.now c.self.view_is c.requires) c.in_ok-add.ensures.ok (c.deref.ensures.value ∙ c.in_ok-clause.ensures)
-    (c.push_reserved.ensures.items ∙ ap (λ (ss : List Side). ss ++ c.args.side ∷ []) c.in_ok-reserve.ensures.items)
+    record {
+      kept =
+          kept_block a.solver c.add.new.self a.sides.items c.push_reserved.new.self.items a.empty c.args.side
+          c.args.set.now c.deref.result.now c.self.invariant.kept
+          (set_within c.self.inside c.args.self.now c.args.set.now c.self.view_is c.requires) c.in_ok-add.ensures.ok (c.deref.ensures.value ∙ c.in_ok-clause.ensures)
+          (c.push_reserved.ensures.items ∙ ap (λ (ss : List Side). ss ++ c.args.side ∷ []) c.in_ok-reserve.ensures.items);
+      true_first = ap (λ (v : Solver). v.true_first) c.in_ok-add.ensures.ok ∙ c.self.invariant.true_first;
+    }
 
 pub returns-clause-ok : goal.returns-clause-ok
 returns-clause-ok c =
     let a = c.self.inside in
     told_block a.solver c.add.new.self a.sides.items c.push_reserved.new.self.items a.empty c.args.side
-    c.args.set.now c.deref.result.now c.self.invariant
+    c.args.set.now c.deref.result.now c.self.invariant.kept
     c.in_ok-add.ensures.ok (c.deref.ensures.value ∙ c.in_ok-clause.ensures)
     (c.push_reserved.ensures.items ∙ ap (λ (ss : List Side). ss ++ c.args.side ∷ []) c.in_ok-reserve.ensures.items)
     ∙ ap (λ (e : EngineState). blocked e (block_of c.args.side c.args.set.now)) c.self.view_is
 
 pub returns-clause-honest : goal.returns-clause-honest
-returns-clause-honest c = (invariant_of-self-2 c).honest
+returns-clause-honest c = (invariant_of-self-2 c).kept.honest
 
 pub returns-clause-models : goal.returns-clause-models
 returns-clause-models c =
     let a = c.self.inside in
     let s = c.add.new.self in
-    has_models s.vars s.log c.push_reserved.new.self.items a.empty (invariant_of-self-2 c)
+    has_models s.vars s.log c.push_reserved.new.self.items a.empty (invariant_of-self-2 c).kept

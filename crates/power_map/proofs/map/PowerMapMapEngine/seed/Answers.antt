@@ -1,5 +1,5 @@
-use Rattle.std.proofs.Common.{[]}
-use Rattle.cdcl_core.specs.Answers.{IsModel, IsRefuted}
+use Rattle.std.proofs.Common.{[], ◌∙◌, refl}
+use Rattle.cdcl_core.specs.Answers.{IsModel, IsGreatestModel, IsRefuted}
 use Rattle.lrat_steps.specs.Log.{inputs_of}
 use Rattle.power_map.proofs.MapLemmas.{has_models, kept_after, seed_found, none_left}
 use Rattle.power_map.proofs.map.PowerMapMapEngine.seed.Goals as goal
@@ -10,43 +10,57 @@ returns-in_err-assign-clause-models c =
     let s = c.solve.new.self in
     has_models s.vars s.log a.sides.items a.empty
     (kept_after a.solver s c.args.purse.now.left c.solve.new.purse.left a.sides.items a.empty
-    c.self.invariant c.in_err-assign.ensures.paid c.in_err-assign.ensures.vars)
+    c.self.invariant.kept c.in_err-assign.ensures.paid c.in_err-assign.ensures.vars)
 
 pub invariant_of-self-in_err-set_of-in-Sat : goal.invariant_of-self-in_err-set_of-in-Sat
 invariant_of-self-in_err-set_of-in-Sat c =
     let a = c.self.inside in
-    kept_after a.solver c.solve.new.self c.args.purse.now.left c.solve.new.purse.left a.sides.items a.empty
-    c.self.invariant c.in_ok-assign.ensures.paid c.in_ok-assign.ensures.vars
+    record {
+      kept =
+          kept_after a.solver c.solve.new.self c.args.purse.now.left c.solve.new.purse.left a.sides.items a.empty
+          c.self.invariant.kept c.in_ok-assign.ensures.paid c.in_ok-assign.ensures.vars;
+      true_first = c.in_ok-assign.ensures.true_first ∙ c.self.invariant.true_first;
+    }
 
 pub returns-in_err-set_of-in-Sat-clause-models : goal.returns-in_err-set_of-in-Sat-clause-models
 returns-in_err-set_of-in-Sat-clause-models c =
     let s = c.solve.new.self in
-    has_models s.vars s.log c.self.inside.sides.items c.self.inside.empty (invariant_of-self-in_err-set_of-in-Sat c)
+    has_models s.vars s.log c.self.inside.sides.items c.self.inside.empty (invariant_of-self-in_err-set_of-in-Sat c).kept
 
 pub invariant_of-self-in-Sat : goal.invariant_of-self-in-Sat
 invariant_of-self-in-Sat c =
     let a = c.self.inside in
-    kept_after a.solver c.solve.new.self c.args.purse.now.left c.solve.new.purse.left a.sides.items a.empty
-    c.self.invariant c.in_ok-assign.ensures.paid c.in_ok-assign.ensures.vars
+    record {
+      kept =
+          kept_after a.solver c.solve.new.self c.args.purse.now.left c.solve.new.purse.left a.sides.items a.empty
+          c.self.invariant.kept c.in_ok-assign.ensures.paid c.in_ok-assign.ensures.vars;
+      true_first = c.in_ok-assign.ensures.true_first ∙ c.self.invariant.true_first;
+    }
 
 pub invariant_of-self-in-Dry : goal.invariant_of-self-in-Dry
 invariant_of-self-in-Dry c =
     let a = c.self.inside in
-    kept_after a.solver c.solve.new.self c.args.purse.now.left c.solve.new.purse.left a.sides.items a.empty
-    c.self.invariant c.in_ok-assign.ensures.paid c.in_ok-assign.ensures.vars
+    record {
+      kept =
+          kept_after a.solver c.solve.new.self c.args.purse.now.left c.solve.new.purse.left a.sides.items a.empty
+          c.self.invariant.kept c.in_ok-assign.ensures.paid c.in_ok-assign.ensures.vars;
+      true_first = c.in_ok-assign.ensures.true_first ∙ c.self.invariant.true_first;
+    }
 
 -- the model breaks no block
 pub returns-in_ok-set_of-in-Sat-clause-answer : goal.returns-in_ok-set_of-in-Sat-clause-answer
 returns-in_ok-set_of-in-Sat-clause-answer c =
     let s = c.solve.new.self in
     let m : IsModel s.vars (inputs_of s.log) [] c.in-Sat.assign = rw c.in-Sat.is at c.in_ok-assign.ensures.answer in
+    let most : IsGreatestModel s.vars (inputs_of s.log) c.in-Sat.assign =
+    rw c.in-Sat.is at c.in_ok-assign.ensures.greatest c.self.invariant.true_first refl in
     seed_found s.vars s.log c.self.inside.sides.items c.self.inside.empty [] c.in-Sat.assign
-    c.in_ok-set_of-in-Sat.field-0 (invariant_of-self-in-Sat c) m c.in_ok-set_of-in-Sat.ensures
+    c.in_ok-set_of-in-Sat.field-0 (invariant_of-self-in-Sat c).kept m most c.in_ok-set_of-in-Sat.ensures
 
 pub returns-in_ok-set_of-in-Sat-clause-models : goal.returns-in_ok-set_of-in-Sat-clause-models
 returns-in_ok-set_of-in-Sat-clause-models c =
     let s = c.solve.new.self in
-    has_models s.vars s.log c.self.inside.sides.items c.self.inside.empty (invariant_of-self-in-Sat c)
+    has_models s.vars s.log c.self.inside.sides.items c.self.inside.empty (invariant_of-self-in-Sat c).kept
 
 -- the empty clause follows from the block clauses
 pub returns-in-Unsat-clause-answer : goal.returns-in-Unsat-clause-answer
@@ -56,7 +70,7 @@ returns-in-Unsat-clause-answer c =
     let r : IsRefuted s.log [] c.in-Unsat.step = rw c.in-Unsat.is at c.in_ok-assign.ensures.answer in
     none_left s.vars s.log a.sides.items a.empty c.in-Unsat.step
     (kept_after a.solver s c.args.purse.now.left c.solve.new.purse.left a.sides.items a.empty
-    c.self.invariant c.in_ok-assign.ensures.paid c.in_ok-assign.ensures.vars) r
+    c.self.invariant.kept c.in_ok-assign.ensures.paid c.in_ok-assign.ensures.vars) r
 
 pub returns-in-Unsat-clause-models : goal.returns-in-Unsat-clause-models
 returns-in-Unsat-clause-models c =
@@ -64,9 +78,9 @@ returns-in-Unsat-clause-models c =
     let s = c.solve.new.self in
     has_models s.vars s.log a.sides.items a.empty
     (kept_after a.solver s c.args.purse.now.left c.solve.new.purse.left a.sides.items a.empty
-    c.self.invariant c.in_ok-assign.ensures.paid c.in_ok-assign.ensures.vars)
+    c.self.invariant.kept c.in_ok-assign.ensures.paid c.in_ok-assign.ensures.vars)
 
 pub returns-in-Dry-clause-models : goal.returns-in-Dry-clause-models
 returns-in-Dry-clause-models c =
     let s = c.solve.new.self in
-    has_models s.vars s.log c.self.inside.sides.items c.self.inside.empty (invariant_of-self-in-Dry c)
+    has_models s.vars s.log c.self.inside.sides.items c.self.inside.empty (invariant_of-self-in-Dry c).kept
