@@ -3,8 +3,9 @@
 //! The map is a learning solver over the block clauses, in which group g is variable g. A block is one clause more, and what
 //! was learnt stays, so each seed is found by all that the earlier ones taught. An assignment that makes all clauses true,
 //! read as the set of the groups whose variables are true, breaks no block: no conflict lies within it, and each correction
-//! has a group in it. The solver decides each variable true first, so no set that is left properly holds this one. Where there is none, the log ends in the empty clause, which follows from the block clauses: each set
-//! is explored, and the steps that lead there say why.
+//! has a group in it. The solver decides each variable true first, so no set that is left properly holds this one. Where
+//! there is none, the log ends in the empty clause, which follows from the block clauses: each set is explored, and the
+//! steps that lead there say why.
 //!
 //! The sets themselves are kept nowhere but in the log: a clause names its groups. Its signs would tell the side too, but
 //! the empty clause has none, so the sides stand in a list of their own.
