@@ -146,28 +146,57 @@ fn written_bytes_are_held_under_their_name(rt: HostRuntime) -> Result<(), Fail> 
     Ok(())
 }
 
+/// One call of files. A row of calls is made of these, so that its proof carries no fact from one to the next.
+#[derive(Clone, Copy)]
+enum Call {
+    OpenIn(&'static str),
+    OpenOut(&'static str),
+    Read,
+    Write(&'static str),
+    FinishOut,
+}
+
+/// Makes the call, and answers how many bytes moved, or that it failed.
+fn make<F: Files>(files: &mut F, call: Call, into: &mut [u8; 4]) -> Option<usize> {
+    match call {
+        Call::OpenIn(name) => files.open_in(name).ok().map(|_| 0),
+        Call::OpenOut(name) => files.open_out(name).ok().map(|_| 0),
+        Call::Read => files.read(into).ok(),
+        Call::Write(text) => files.write(text.as_bytes()).ok(),
+        Call::FinishOut => files.finish_out().ok().map(|_| 0),
+    }
+}
+
 #[test]
 fn calls_without_an_open_file_fail(rt: HostRuntime) -> Result<(), Fail> {
     let mut files = files_with(rt.alloc(), b"old", 9, 100, &[], &[])?;
-    assert!(rt; files.read(&mut [0; 4]).is_err());
-    assert!(rt; files.write(b"x").is_err());
-    assert!(rt; files.finish_out().is_err());
-    assert_eq!(rt; files.read_faults(), 1);
-    assert_eq!(rt; files.write_faults(), 2);
-
-    // an output that was ended, and one that a failed opening closed
-    assert_eq!(rt; put(&mut files, "g", b"new").ok(), Some(3));
-    assert!(rt; files.write(b"x").is_err());
-    assert!(rt; files.open_out("g").is_ok());
-    assert!(rt; files.open_out("h").is_err());
-    assert!(rt; files.write(b"x").is_err());
-    assert_eq!(rt; files.write_faults(), 5);
-
-    // an input that a failed opening closed
-    assert!(rt; files.open_in("f").is_ok());
-    assert!(rt; files.open_in("h").is_err());
-    assert!(rt; files.read(&mut [0; 4]).is_err());
-    assert_eq!(rt; files.read_faults(), 3);
+    let mut into = [0; 4];
+    // the call, its answer, and the faults of reading and of writing up to there
+    for (call, answer, read_faults, write_faults) in [
+        (Call::Read, None, 1, 0),
+        (Call::Write("x"), None, 1, 1),
+        (Call::FinishOut, None, 1, 2),
+        // an output that was ended, and one that a failed opening closed
+        (Call::OpenOut("g"), Some(0), 1, 2),
+        (Call::Write("new"), Some(3), 1, 2),
+        (Call::FinishOut, Some(0), 1, 2),
+        (Call::Write("x"), None, 1, 3),
+        (Call::OpenOut("g"), Some(0), 1, 3),
+        (Call::OpenOut("h"), None, 1, 4),
+        (Call::Write("x"), None, 1, 5),
+        // an input that a failed opening closed
+        (Call::OpenIn("f"), Some(0), 1, 5),
+        (Call::OpenIn("h"), None, 2, 5),
+        (Call::Read, None, 3, 5),
+    ] {
+        assert_eq!(rt;
+            make(&mut files, call, &mut into),
+            answer,
+            "{read_faults} {write_faults}"
+        );
+        assert_eq!(rt; files.read_faults(), read_faults, "{write_faults}");
+        assert_eq!(rt; files.write_faults(), write_faults, "{read_faults}");
+    }
     Ok(())
 }
 
@@ -175,17 +204,19 @@ fn calls_without_an_open_file_fail(rt: HostRuntime) -> Result<(), Fail> {
 fn what_was_written_is_read_back(rt: HostRuntime) -> Result<(), Fail> {
     let mut files = files_with(rt.alloc(), b"old", 9, 2, &[], &[])?;
     let mut into = [0; 4];
-    assert!(rt; files.open_in("f").is_ok());
-    assert_eq!(rt; files.read(&mut into).ok(), Some(2));
-    assert_eq!(rt; into.as_slice(), b"ol\0\0".as_slice());
-
-    // the file is emptied under its reader, and grows again
-    assert!(rt; files.open_out("f").is_ok());
-    assert_eq!(rt; files.read(&mut into).ok(), Some(0));
-    assert_eq!(rt; files.write(b"ne").ok(), Some(2));
-    assert_eq!(rt; files.write(b"w").ok(), Some(1));
-    assert_eq!(rt; files.read(&mut into).ok(), Some(1));
-    assert_eq!(rt; into.as_slice(), b"wl\0\0".as_slice());
+    for (call, answer, wanted) in [
+        (Call::OpenIn("f"), 0, "\0\0\0\0"),
+        (Call::Read, 2, "ol\0\0"),
+        // the file is emptied under its reader, and grows again
+        (Call::OpenOut("f"), 0, "ol\0\0"),
+        (Call::Read, 0, "ol\0\0"),
+        (Call::Write("ne"), 2, "ol\0\0"),
+        (Call::Write("w"), 1, "ol\0\0"),
+        (Call::Read, 1, "wl\0\0"),
+    ] {
+        assert_eq!(rt; make(&mut files, call, &mut into), Some(answer), "{wanted}");
+        assert_eq!(rt; into.as_slice(), wanted.as_bytes(), "{answer}");
+    }
     Ok(())
 }
 
@@ -278,21 +309,26 @@ fn name_that_is_not_held_is_an_empty_file(rt: HostRuntime) -> Result<(), Fail> {
 fn sure_files_take_bytes_where_nothing_is_opened(rt: HostRuntime) -> Result<(), Fail> {
     let mut files = sure_files_with(rt.alloc(), 9, 4)?;
     let mut into = [0; 4];
-    assert_eq!(rt; files.read(&mut into), 0);
-    assert_eq!(rt; files.write(b""), 0);
-    files.finish_out();
-    assert!(rt; files.tells());
-    assert_eq!(rt; files.write(b"lost!"), 4);
-    assert!(rt; !files.tells());
-
-    // a name that is not held reads as empty, and as what was written once it is opened again
-    files.open_in("g");
-    assert_eq!(rt; files.read(&mut into), 0);
-    assert_eq!(rt; put(&mut files, "g", b"new").ok(), Some(3));
-    assert_eq!(rt; files.write(b"x"), 1);
-    assert_eq!(rt; files.held("g"), b"new".as_slice());
-    files.open_in("g");
-    assert_eq!(rt; files.read(&mut into), 3);
+    // the call, how many bytes moved, whether all is told from then on, and what is held under `g`
+    for (call, answer, tells, held) in [
+        (Call::Read, 0, true, ""),
+        (Call::Write(""), 0, true, ""),
+        (Call::FinishOut, 0, true, ""),
+        (Call::Write("lost!"), 4, false, ""),
+        // a name that is not held reads as empty, and as what was written once it is opened again
+        (Call::OpenIn("g"), 0, false, ""),
+        (Call::Read, 0, false, ""),
+        (Call::OpenOut("g"), 0, false, ""),
+        (Call::Write("new"), 3, false, "new"),
+        (Call::FinishOut, 0, false, "new"),
+        (Call::Write("x"), 1, false, "new"),
+        (Call::OpenIn("g"), 0, false, "new"),
+        (Call::Read, 3, false, "new"),
+    ] {
+        assert_eq!(rt; make(&mut files, call, &mut into), Some(answer), "{held}");
+        assert_eq!(rt; files.tells(), tells, "{answer} {held}");
+        assert_eq!(rt; files.held("g"), held.as_bytes(), "{answer}");
+    }
     assert_eq!(rt; into.as_slice(), b"new\0".as_slice());
     Ok(())
 }
