@@ -56,6 +56,7 @@ impl TableOracle {
         whole: bool,
     ) -> Result<TableOracle, AllocError>
         ensures problem { IfOk result (λ oracle. oracle.problem ≡ problem.now) }
+        ensures honest { IfOk result (λ oracle. IsHonestOver problem.now oracle.log) }
         ensures asks { IfOk result (λ oracle. oracle.asks ≡ 0) }
     {
         let log = input_log(alloc, problem)?;
