@@ -18,7 +18,8 @@
 //! are the two ways on from there, `entrance.rt` has learnt clauses be watched, `units.rt` logs what holds at level 0,
 //! and `steps.rt` keeps log and clauses in step.
 //!
-//! Not said here: how many units a search needs, which model or core it finds, and that memory suffices.
+//! Not said here: how many units a search needs, which core it finds, which model beyond that those of `new_true` under no
+//! assumed literals are greatest, and that memory suffices.
 #![tactic(auto)]
 
 mod conflicts;
