@@ -1,9 +1,11 @@
 //! Which questions the oracle within is asked, and what the answers are.
 ghost use Rattle.std.specs.Prelude.{◌≡◌, IfOk};
+ghost use Rattle.evidence_rec.specs.Asking.{IsHonestOver};
+ghost use Rattle.evidence_rec.specs.Records.{IsAccepted};
 
 use crate::example::{assignments, conflict, correction, four_clauses, set_of};
 use crate::{Lacking, TableOracle};
-use evidence_rec::{Asked, Oracle};
+use evidence_rec::{Asked, Oracle, Record};
 use gm_base::{Problem, Purse};
 use known_sets::{KnownSets, MOST_BYTES};
 use std::alloc::Global;
@@ -11,8 +13,65 @@ use std::test::Fail;
 
 const ALL: [(bool, bool); 4] = [(false, false), (false, true), (true, false), (true, true)];
 
-// An oracle around one that knows all assignments and both conflicts. It has been told some records, in this order:
-// the conflicts {1, 2} and {1, 3, 4}, and the corrections {1}, {2, 3} and {2, 4}.
+// An oracle of the four clauses that knows all assignments and both conflicts.
+fn table_of(alloc: Global, problem: &Problem) -> Result<TableOracle, Lacking>
+    ensures problem { IfOk result (λ oracle. oracle.problem ≡ problem.now) }
+    ensures honest { IfOk result (λ oracle. IsHonestOver problem.now oracle.log) }
+{
+    let mut oracle = TableOracle::new(alloc, problem, assignments(alloc, &ALL)?, false)?;
+    oracle.learn(conflict(alloc, problem, true)?)?;
+    oracle.learn(conflict(alloc, problem, false)?)?;
+    Ok(oracle)
+}
+
+// Tells it a record.
+fn tell(alloc: Global, oracle: &mut KnownSets<TableOracle>, problem: &Problem, found: &Record)
+    requires problem { oracle.old.problem ≡ problem.now }
+    requires accepted { IsAccepted problem.now found.now }
+    ensures { oracle.new.problem ≡ problem.now }
+{
+    oracle.know(alloc, found);
+}
+
+// Tells it the conflicts {1, 2} and {1, 3, 4}.
+fn tell_conflicts(
+    alloc: Global,
+    oracle: &mut KnownSets<TableOracle>,
+    problem: &Problem,
+) -> Result<(), Lacking>
+    requires { oracle.old.problem ≡ problem.now }
+    ensures { oracle.new.problem ≡ problem.now }
+{
+    for of_two in [true, false] {
+        let found = conflict(alloc, problem, of_two)?;
+        tell(alloc, oracle, problem, &found);
+    }
+    Ok(())
+}
+
+const CORRECTIONS: [(&[u32], (bool, bool)); 3] = [
+    (&[1], (false, false)),
+    (&[2, 3], (true, false)),
+    (&[2, 4], (true, true)),
+];
+
+// Tells it the corrections {1}, {2, 3} and {2, 4}.
+fn tell_corrections(
+    alloc: Global,
+    oracle: &mut KnownSets<TableOracle>,
+    problem: &Problem,
+) -> Result<(), Lacking>
+    requires { oracle.old.problem ≡ problem.now }
+    ensures { oracle.new.problem ≡ problem.now }
+{
+    for (groups, values) in CORRECTIONS {
+        let found = correction(alloc, problem, groups, values)?;
+        tell(alloc, oracle, problem, &found);
+    }
+    Ok(())
+}
+
+// An oracle around such a table, and what it has been told.
 fn oracle_of(
     alloc: Global,
     problem: &Problem,
@@ -20,20 +79,15 @@ fn oracle_of(
 ) -> Result<KnownSets<TableOracle>, Lacking>
     ensures { IfOk result (λ oracle. oracle.problem ≡ problem.now) }
 {
-    let mut within = TableOracle::new(alloc, problem, assignments(alloc, &ALL)?, false)?;
-    within.learn(conflict(alloc, problem, true)?)?;
-    within.learn(conflict(alloc, problem, false)?)?;
+    let within = table_of(alloc, problem)?;
     let most = match told {
         Told::Nothing | Told::All => MOST_BYTES,
         Told::AllWithoutRoom => 0,
     };
     let mut oracle = KnownSets::bounded(alloc, problem, within, most)?;
-    if !matches!(told, Told::Nothing) {
-        oracle.know(alloc, &conflict(alloc, problem, true)?);
-        oracle.know(alloc, &conflict(alloc, problem, false)?);
-        oracle.know(alloc, &correction(alloc, problem, &[1], (false, false))?);
-        oracle.know(alloc, &correction(alloc, problem, &[2, 3], (true, false))?);
-        oracle.know(alloc, &correction(alloc, problem, &[2, 4], (true, true))?);
+    if told.is_all() {
+        tell_conflicts(alloc, &mut oracle, problem)?;
+        tell_corrections(alloc, &mut oracle, problem)?;
     }
     Ok(oracle)
 }
@@ -74,6 +128,15 @@ enum Told {
     Nothing,
     All,
     AllWithoutRoom,
+}
+
+impl Told {
+    fn is_all(self) -> bool {
+        match self {
+            Told::Nothing => false,
+            Told::All | Told::AllWithoutRoom => true,
+        }
+    }
 }
 
 // A question, its answer, and how often the oracle within was asked up to there: where nothing was told, where all records
