@@ -8,6 +8,7 @@ mod system;
 mod tests;
 
 use files::RealFiles;
+use gm_ports::write_all;
 use sinks::StreamSink;
 use std::alloc::Global;
 use std::process::ExitCode;
@@ -16,10 +17,13 @@ use system::run_on_system;
 
 fn main(rt: HostRuntime) -> ExitCode {
     let alloc = rt.alloc();
+    let mut err = StreamSink::new(rt.stderr());
     let words = match words_after_name(&rt, alloc) {
         Ok(words) => words,
         Err(error) => {
             if error.kind() == io::ErrorKind::OutOfMemory {
+                // A fault of standard error changes no status.
+                let _ = write_all(&mut err, b"gmus: out of memory\n");
                 return ExitCode::from(8);
             }
             // A word that is not UTF-8 is a wrong command line, as no words are.
@@ -28,7 +32,6 @@ fn main(rt: HostRuntime) -> ExitCode {
     };
     let mut files = RealFiles::new(&rt);
     let mut out = StreamSink::new(rt.stdout());
-    let mut err = StreamSink::new(rt.stderr());
     let finish = run_on_system(&rt, alloc, words.as_slice(), &mut files, &mut out, &mut err);
     ExitCode::from(finish.status)
 }
