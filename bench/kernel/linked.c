@@ -1,6 +1,7 @@
 // Unit propagation by lists that are linked through the clauses, without a check: what propagate is measured by.
 //
-// A clause's record holds its bounds, its two watched literals and the next clause in the list of each, in 32 bytes. A
+// A clause's record holds its bounds, its two watched literals, the next clause in the list of each and, of a clause of
+// three literals, all three as one number, in 32 bytes. A
 // watch that moves is appended to its new list. What stays is not written, or, with -DRELINK, each list is taken off and
 // put back clause by clause; the order of all lists is the same in both. With -DMALLOC the records lie as malloc has them,
 // where every second one is in two lines of the cache. -DCOUNT counts visits.
@@ -15,7 +16,7 @@ typedef struct {
     uint32_t start, end;
     Lit watched[2];
     uint32_t next[2];
-    uint32_t position, flags;
+    uint32_t third, flags;
 } Clause;
 
 _Static_assert(sizeof(Clause) == 32, "a record is half a line of the cache");
@@ -62,8 +63,12 @@ static inline void append(uint32_t id, int place, Lit lit) {
         heads[lit] = id;
 }
 
-// A literal of the clause that is not false and is not this other one, or 0.
-static inline Lit replacement(const Clause *clause, Lit other) {
+// A literal of the clause that is neither false nor this other one, or 0. Of a clause of three it is the third one.
+static inline Lit replacement(const Clause *clause, Lit falsified, Lit other) {
+    if (clause->end - clause->start == 3) {
+        Lit third = clause->third ^ falsified ^ other;
+        return values[third] >= 0 ? third : 0;
+    }
     for (uint32_t at = clause->start; at < clause->end; at++)
         if (values[lits[at]] >= 0 && lits[at] != other)
             return lits[at];
@@ -83,7 +88,7 @@ static uint32_t visit_all(Lit falsified) {
         visits += !conflict;
 #endif
         if (!conflict && values[other] <= 0) {
-            Lit found = replacement(clause, other);
+            Lit found = replacement(clause, falsified, other);
             if (found)
                 to = found;
             else if (values[other] < 0)
@@ -108,7 +113,7 @@ static uint32_t visit_all(Lit falsified) {
         visits++;
 #endif
         if (values[other] <= 0) {
-            Lit found = replacement(clause, other);
+            Lit found = replacement(clause, falsified, other);
             if (found) {
                 *from = next;
                 if (!next)
@@ -170,6 +175,8 @@ static void read_formula(void) {
         clauses[id].start = begin;
         clauses[id].end = ends[id - 1];
         clauses[id].watched[0] = lits[begin];
+        if (ends[id - 1] - begin == 3)
+            clauses[id].third = lits[begin] ^ lits[begin + 1] ^ lits[begin + 2];
         append(id, 0, lits[begin]);
         append(id, 1, lits[begin + 1]);
     }

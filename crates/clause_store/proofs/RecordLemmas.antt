@@ -1,12 +1,13 @@
 -- What an added clause changes in the list of the clauses, and that all of them are over the variables.
-use Rattle.std.proofs.Common.{suc, refl, sym, ap, ap₂, ◌∙◌, arith, subst, inl, inr, drop, ◌≡◌, ℕ, ℤ, ◌-◌, List, [], ◌∷◌, ◌++◌, length, map, All, slice_range}
+use Rattle.std.proofs.Common.{suc, refl, sym, ap, ap₂, ◌∙◌, arith, subst, inl, inr, drop, ◌≡◌, ℕ, ℤ, ◌-◌, List, [], ◌∷◌, ◌++◌, length, map, get_or, All, slice_range}
 use Rattle.std.proofs.lemmas.List.{map_push}
 use Rattle.std.proofs.lemmas.List.Elements.{All-drop, All-take}
 use Rattle.std.specs.List.{AllByRecursion}
 use Rattle.sat_base.proofs.SpanLemmas.{range_before, range_at_end}
 use Rattle.sat_base.specs.Literals.{IsLiteral, AreLiterals}
 use Rattle.sat_base.specs.Database.{StoredClause, AreOver}
-use Rattle.clause_store.specs.Inner.{cut_by, IsWithin}
+use Rattle.clause_store.specs.Inner.{cut_by, IsWithin, HasMix}
+use Rattle.clause_store.specs.Thirds.{mix_of}
 use Rattle.clause_store.specs.declared.store.ClauseRecord.{ClauseRecord}
 
 -- a record within the old literals cuts the same from the longer list
@@ -19,6 +20,11 @@ cuts_before : (vars last : ℕ) (ls ms : List ℤ) (records : List ClauseRecord)
 cuts_before vars last ls ms [] w = refl
 cuts_before vars last ls ms (r ∷ records) w =
     ap₂ ◌∷◌ (cut_before vars last ls ms r (w 0 r (omega arith))) (cuts_before vars last ls ms records (λ k d h. w (suc k) d (omega arith)))
+
+-- and so do the numbers of clauses of three
+pub mixes_before : (vars last : ℕ) (ls ms : List ℤ) (records : List ClauseRecord) → All (IsWithin vars (length ls) last) records → All (HasMix ls) records → All (HasMix (ls ++ ms)) records
+mixes_before vars last ls ms records w mixed k d h =
+    subst (λ (c : StoredClause). length c.lits ≡ 3 → (get_or records k d).third ≡ mix_of c.lits) (sym (cut_before vars last ls ms (get_or records k d) (w k d h))) (mixed k d h)
 
 -- and the record of what was added cuts just that
 pub cuts_after_add : (vars last : ℕ) (ls ms : List ℤ) (records : List ClauseRecord) (r : ClauseRecord)

@@ -3,6 +3,7 @@ use Rattle.std.specs.Prelude.{true, ◌≡◌, ℕ, ℤ, ◌+◌, ◌-◌, ◌*�
 use Rattle.sat_base.specs.Literals.{IsLiteral}
 use Rattle.sat_base.specs.Database.{StoredClause}
 use Rattle.clause_store.specs.Clauses.{Clauses}
+use Rattle.clause_store.specs.Thirds.{mix_of}
 use Rattle.clause_store.specs.declared.store.ClauseRecord.{ClauseRecord}
 use Rattle.clause_store.specs.declared.store.Store.TheInside.{Inside}
 
@@ -22,6 +23,10 @@ pub record IsWithin (vars count last : ℕ) (r : ClauseRecord) : Type 0 where
   pub next : All (λ id. id ≤ last) r.next
   pub two_watched : length r.watched ≡ 2
   pub two_next : length r.next ≡ 2
+
+-- the record of a clause of three has the rows of its literals
+abbrev pub HasMix : List ℤ → ClauseRecord → Type 0
+HasMix lits r = length (cut_by lits r).lits ≡ 3 → r.third ≡ mix_of (cut_by lits r).lits
 
 -- the greatest number of clauses, and of literals, that the records can count
 abbrev pub most : ℕ
@@ -48,6 +53,7 @@ pub record IsLaidOut (a : Inside) : Type 0 where
   pub small : a.vars < 2 ^ 31
   pub over : All (IsLiteral a.vars) a.lits.items
   pub within : All (IsWithin a.vars (length a.lits.items) (length a.records.items)) a.records.items
+  pub mixes : All (HasMix a.lits.items) a.records.items
   pub counted : vec_len a.records ≤ most
   pub lits_counted : vec_len a.lits ≤ most
   pub a_head_each : length a.heads.items ≡ 2 * a.vars + 2

@@ -1,3 +1,4 @@
 pub mod Clauses
 pub mod Links
+pub mod Thirds
 pub mod Inner

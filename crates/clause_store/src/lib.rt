@@ -16,5 +16,6 @@ mod links;
 mod store;
 #[cfg(test)]
 mod tests;
+mod thirds;
 
 pub use store::Store;

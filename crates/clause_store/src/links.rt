@@ -2,7 +2,7 @@
 //!
 //! These calls read and write one place each, and take no memory. That a list has just the clauses that watch its literal
 //! is for the callers, who move a watch in several steps. At first each of them reads none.
-ghost use Rattle.std.specs.Prelude.{◌≡◌, ◌≢◌, ℕ, ℤ, ◌+◌, ◌-◌, ◌*◌, ◌<◌, ◌≤◌, Some, None, IfSome, length};
+ghost use Rattle.std.specs.Prelude.{◌≡◌, ◌≢◌, ℕ, ℤ, ◌+◌, ◌-◌, ◌*◌, ◌<◌, ◌≤◌, ◌^◌, Some, None, IfSome, length};
 ghost use Rattle.sat_base.specs.Literals.{IsLiteral};
 ghost use Rattle.clause_store.specs.Clauses.{Clauses, IsId};
 ghost use Rattle.clause_store.specs.Links.{watched_at, watch_of, next_of, row_of, head_of, tail_of, link_of, IsLink};
@@ -10,9 +10,10 @@ ghost use Rattle.clause_store.specs.Links.{watched_at, watch_of, next_of, row_of
 use crate::store::Store;
 use sat_base::Lit;
 
-// The row of a literal in a table of two rows for each variable.
-fn row_of(lit: Lit) -> usize
+/// The row of a literal in a table of two rows for each variable.
+pub fn row_of(lit: Lit) -> usize
     ensures row { result ≡ row_of lit }
+    ensures small { result < 2 ^ 32 }
 {
     if lit.is_positive() {
         2 * lit.var() as usize

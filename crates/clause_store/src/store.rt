@@ -16,6 +16,7 @@ ghost use Rattle.sat_base.specs.Database.{AreOver};
 ghost use Rattle.clause_store.specs.Clauses.{clause_at, IsId, HasRoomFor};
 ghost use Rattle.clause_store.specs.Links.{watched_at, next_of, head_of, tail_of, KeepsLinks};
 
+use crate::thirds::mix;
 use sat_base::Lit;
 use std::alloc::{AllocError, Global};
 use std::marker::Model;
@@ -31,8 +32,9 @@ pub(crate) struct ClauseRecord {
     pub end: u32,
     pub watched: [Lit; 2],
     pub next: [u32; 2],
-    /// Kept for a place in the clause at which a search for a literal is to begin.
-    pub position: u32,
+    /// Of a clause of three literals: their rows in one number, from which two of them tell the third. Of a longer one it is
+    /// kept for the place at which a search for a literal is to begin.
+    pub third: u32,
     pub live: bool,
     pub is_watched: bool,
 }
@@ -143,7 +145,7 @@ impl Store {
             end,
             watched: [Lit::new(1), Lit::new(1)],
             next: [0, 0],
-            position: 0,
+            third: mix(lits),
             live,
             is_watched: false,
         });

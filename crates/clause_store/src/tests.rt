@@ -96,3 +96,21 @@ fn place_is_told_by_the_watched_literals(rt: HostRuntime) -> Result<(), AllocErr
     assert!(rt; store.lits(id)[0] == Lit::new(1));
     Ok(())
 }
+
+#[test]
+fn two_literals_of_three_tell_the_third(rt: HostRuntime) -> Result<(), AllocError> {
+    let alloc = rt.alloc();
+    let mut store = Store::new(alloc, 7)?;
+    let (a, b, c) = (Lit::new(7), Lit::new(-1), Lit::new(2));
+    let three = store.add(&[a, b, c], true)?;
+    let twice = store.add(&[b, c, c], true)?;
+    let two = store.add(&[a, b], true)?;
+    let four = store.add(&[a, b, c, Lit::new(4)], true)?;
+    assert!(rt; store.third(three, a, b) == Some(c));
+    assert!(rt; store.third(three, c, a) == Some(b));
+    assert!(rt; store.third(three, b, c) == Some(a));
+    assert!(rt; store.third(twice, b, c) == Some(c));
+    assert!(rt; store.third(two, a, b).is_none());
+    assert!(rt; store.third(four, a, b).is_none());
+    Ok(())
+}

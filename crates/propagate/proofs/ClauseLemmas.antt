@@ -1,13 +1,16 @@
--- Clauses of two literals.
+-- Clauses of two literals, and of three.
 use Rattle.std.proofs.Common.{◌≡◌, ◌≢◌, ◌⊎◌, ℕ, ◌+◌, ◌<◌, ◌≤◌, List, [], ◌∷◌, length, take, get_or, sym, subst, ◌∙◌, inl, inr, arith}
 use Rattle.std.proofs.lemmas.List.{take_all}
 use Rattle.sat_base.proofs.DatabaseLemmas.{In-take_more}
-use Rattle.std.specs.Prelude.{ℤ, neg_ℤ, Bool, true, false, Option, Some, None}
+use Rattle.std.specs.Prelude.{ℤ, neg_ℤ, Bool, true, false, Option, Some, None, IfSome, IfNone}
 use Rattle.std.specs.Option.{option_eq}
 use Rattle.std.proofs.lemmas.Bool.{false≢true}
 use mathlib.Core.Bool.{beq}
 use Rattle.sat_base.specs.Members.{In}
+use Rattle.sat_base.specs.Literals.{IsLiteral}
 use Rattle.sat_base.specs.Units.{AllFalse, AllFalseBut, IsUnset, IsValue}
+use Rattle.clause_store.specs.Thirds.{IsLeft}
+use Rattle.propagate.specs.Walk.{CanWatch}
 
 cases_two : (x y l : ℤ) → In l (x ∷ y ∷ []) → (l ≡ x) ⊎ (l ≡ y)
 cases_two x y l i = elim i [ inl e ↦ inl e | inr j ↦ elim j [ inl e ↦ inr e | inr k ↦ absurd k ] ]
@@ -33,6 +36,28 @@ pair_false t (x ∷ y ∷ []) a b two i j ne f = λ l k. elim (of_two x y a b l 
   | inr e ↦ inr (subst (λ (m : ℤ). In (neg_ℤ m) t) (sym e) f)
 ]
 pair_false t (x ∷ y ∷ z ∷ zs) a b two i j ne f = absurd (omega (arith, two))
+
+-- the third literal of a clause can be watched where it is neither false nor the other one
+pub third_found : (vars : ℕ) (t c : List ℤ) (a b third : ℤ) (o : Option ℤ) → IsLeft c a b third → IsLiteral vars third
+    → IfSome o (λ lit. (lit ≡ third) × (third ≢ b) × (¬ In (neg_ℤ third) t)) → IfSome o (CanWatch vars t c b)
+third_found vars t c a b third None left literal h = tt
+third_found vars t c a b third (Some lit) left literal h =
+    subst (CanWatch vars t c b) (sym h.0) (record { stands = left.stands; differs = h.1; not_false = h.2; literal = literal })
+
+-- and where it is one of these, all but the other one are false
+pub third_false : (t c : List ℤ) (a b third : ℤ) (o : Option ℤ) → IsLeft c a b third → In (neg_ℤ a) t
+    → IfNone o ((third ≡ b) ⊎ In (neg_ℤ third) t) → IfNone o (AllFalseBut t c b)
+third_false t c a b third (Some lit) left f h = tt
+third_false t c a b third None left f h = λ l i. elim (left.others l i) [
+  | inl is_a ↦ inr (subst (λ (m : ℤ). In (neg_ℤ m) t) (sym is_a) f)
+  | inr other ↦ elim other [
+    | inl is_b ↦ inl is_b
+    | inr is_third ↦ elim h [ inl third_b ↦ inl (is_third ∙ third_b) | inr g ↦ inr (subst (λ (m : ℤ). In (neg_ℤ m) t) (sym is_third) g) ]
+  ]
+]
+
+pub but_of : (t c d : List ℤ) (b : ℤ) (o : Option ℤ) → c ≡ d → IfNone o (AllFalseBut t c b) → IfNone o (AllFalseBut t d b)
+but_of t c d b o same h = subst (λ (ls : List ℤ). IfNone o (AllFalseBut t ls b)) same h
 
 -- one literal more that is false, or the one that is left out
 pub but_more : (t c : List ℤ) (i : ℕ) (x other : ℤ) → i < length c → x ≡ get_or c i x → (x ≡ other) ⊎ In (neg_ℤ x) t → AllFalseBut t (take i c) other → AllFalseBut t (take (i + 1) c) other

@@ -36,7 +36,7 @@ pub fn visit(store: &Store, trail: &Trail, id: u64, falsified: Lit, other: Lit) 
     if value == Some(true) {
         return Finding::Satisfied;
     }
-    if let Some(lit) = replacement(store.lits(id), trail, falsified, other) {
+    if let Some(lit) = replacement(store, trail, id, falsified, other) {
         return Finding::Moved(lit);
     }
     if value == Some(false) {
@@ -46,8 +46,35 @@ pub fn visit(store: &Store, trail: &Trail, id: u64, falsified: Lit, other: Lit) 
     }
 }
 
-// A literal that is neither false nor `other`. A clause of two literals has none, and its literals are not read.
-fn replacement(clause: &[Lit], trail: &Trail, falsified: Lit, other: Lit) -> Option<Lit>
+// A literal that is neither false nor `other`. Of a clause of three literals it is the third one, or none.
+fn replacement(store: &Store, trail: &Trail, id: u64, falsified: Lit, other: Lit) -> Option<Lit>
+    requires vars { store.now.vars ≡ trail.now.vars }
+    requires id { IsId store.now.clauses id }
+    requires watch { IsFalseWatch (trues trail.now.entries) (clause_at store.now.clauses id).lits falsified other }
+    ensures found { IfSome result (CanWatch trail.now.vars (trues trail.now.entries) (clause_at store.now.clauses id).lits other) }
+    ensures none { IfNone result (AllFalseBut (trues trail.now.entries) (clause_at store.now.clauses id).lits other) }
+{
+    let _vars = store.vars(); // The literals of its clauses are over the variables.
+    match store.third(id, falsified, other) {
+        Some(third) => third_open(trail, third, other),
+        None => among(store.lits(id), trail, falsified, other),
+    }
+}
+
+fn third_open(trail: &Trail, third: Lit, other: Lit) -> Option<Lit>
+    requires { IsLiteral trail.now.vars third }
+    ensures found { IfSome result (λ lit. (lit ≡ third) × (third ≢ other) × (¬ In (neg_ℤ third) (trues trail.now.entries))) }
+    ensures none { IfNone result ((third ≡ other) ⊎ In (neg_ℤ third) (trues trail.now.entries)) }
+{
+    if may_watch(trail, third, other) {
+        Some(third)
+    } else {
+        None
+    }
+}
+
+// The same of a clause of any length. A clause of two literals has none, and its literals are not read.
+fn among(clause: &[Lit], trail: &Trail, falsified: Lit, other: Lit) -> Option<Lit>
     requires literals { AreLiterals trail.now.vars clause.now }
     requires watch { IsFalseWatch (trues trail.now.entries) clause.now falsified other }
     ensures found { IfSome result (CanWatch trail.now.vars (trues trail.now.entries) clause.now other) }

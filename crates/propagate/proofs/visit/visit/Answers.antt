@@ -9,12 +9,12 @@ use Rattle.propagate.proofs.visit.visit.Goals as goal
 pub returns-then-eq-2 : goal.returns-then-eq-2
 returns-then-eq-2 c =
     let t = trues c.args.trail.now.entries in
-    let all = subst (λ (ls : List ℤ). AllFalseBut t ls c.args.other) c.lits.ensures.lits c.in_default.ensures.none in
+    let all = c.in_default.ensures.none in
     but_false t _ c.args.other all (value_is_false t c.args.other c.value-value.result (sym c.eq-2.ensures ∙ c.if-eq-2.true) c.value-value.ensures)
 
 -- or has no value
 pub returns-else-eq-2 : goal.returns-else-eq-2
 returns-else-eq-2 c =
     let t = trues c.args.trail.now.entries in
-    let all = subst (λ (ls : List ℤ). AllFalseBut t ls c.args.other) c.lits.ensures.lits c.in_default.ensures.none in
+    let all = c.in_default.ensures.none in
     (value_is_none t c.args.other c.value-value.result (sym c.eq.ensures ∙ c.if-eq.false) (sym c.eq-2.ensures ∙ c.if-eq-2.false) c.value-value.ensures, all)

@@ -5,8 +5,10 @@ use Rattle.std.proofs.lemmas.List.Elements.{All-push, All-append}
 use Rattle.sat_base.specs.Literals.{IsLiteral, AreLiterals}
 use Rattle.clause_store.specs.Clauses.{Clauses}
 use Rattle.clause_store.specs.declared.store.ClauseRecord.{ClauseRecord}
-use Rattle.clause_store.specs.Inner.{watched_by, IsWithin}
-use Rattle.clause_store.proofs.RecordLemmas.{cuts_after_add}
+use Rattle.clause_store.specs.Inner.{cut_by, watched_by, IsWithin, HasMix}
+use Rattle.clause_store.specs.Thirds.{mix_of}
+use Rattle.sat_base.proofs.SpanLemmas.{range_at_end}
+use Rattle.clause_store.proofs.RecordLemmas.{cuts_after_add, mixes_before}
 use Rattle.clause_store.proofs.NodeLemmas.{watches-push, nexts-push, within-more, all-more, from_recursion}
 use Rattle.clause_store.proofs.store.Store.add.Goals as goal
 
@@ -19,7 +21,7 @@ returns-clause-added c =
     let longer : c.extend_from_slice.new.self.items ≡ a.lits.items ++ c.args.lits.now = c.in_ok-extend_from_slice.ensures.items in
     let same : c.reserve.new.self.items ≡ a.records.items = c.in_ok-reserve.ensures.items in
     let ends : c.len-end.result ≡ length (a.lits.items ++ c.args.lits.now) = long ∙ ap length longer in
-    let y : ClauseRecord = record { start = c.len-start.result; end = c.len-end.result; watched = c.new.result ∷ c.new-2.result ∷ []; next = 0 ∷ 0 ∷ []; position = 0; live = c.args.live; is_watched = false } in
+    let y : ClauseRecord = record { start = c.len-start.result; end = c.len-end.result; watched = c.new.result ∷ c.new-2.result ∷ []; next = 0 ∷ 0 ∷ []; third = c.mix.result; live = c.args.live; is_watched = false } in
     rw (← c.self.view_is, c.push_reserved.ensures.items, same, longer) (cuts_after_add a.vars (length a.records.items) a.lits.items c.args.lits.now a.records.items y c.self.invariant.within starts ends)
 
 -- it is not watched
@@ -27,7 +29,7 @@ pub returns-clause-links : goal.returns-clause-links
 returns-clause-links c =
     let a = c.self.inside in
     let same : c.reserve.new.self.items ≡ a.records.items = c.in_ok-reserve.ensures.items in
-    let y : ClauseRecord = record { start = c.len-start.result; end = c.len-end.result; watched = c.new.result ∷ c.new-2.result ∷ []; next = 0 ∷ 0 ∷ []; position = 0; live = c.args.live; is_watched = false } in
+    let y : ClauseRecord = record { start = c.len-start.result; end = c.len-end.result; watched = c.new.result ∷ c.new-2.result ∷ []; next = 0 ∷ 0 ∷ []; third = c.mix.result; live = c.args.live; is_watched = false } in
     rw (← c.self.view_is, c.push_reserved.ensures.items, same) (record {
       watched = λ id. watches-push a.records.items watched_by y refl id;
       nexts = λ node. nexts-push a.records.items (λ r. r.next) y refl (node / 2) (node % 2);
@@ -46,9 +48,10 @@ invariant_of-self-2 c =
     let longer : c.extend_from_slice.new.self.items ≡ a.lits.items ++ c.args.lits.now = c.in_ok-extend_from_slice.ensures.items in
     let over_args : AreLiterals a.vars c.args.lits.now = subst (λ (s : Clauses). AreLiterals s.vars c.args.lits.now) (sym c.self.view_is) c.requires in
     let lits_more : length a.lits.items ≤ length c.extend_from_slice.new.self.items = omega (arith, ap length longer, length-append a.lits.items c.args.lits.now) in
-    let y : ClauseRecord = record { start = c.len-start.result; end = c.len-end.result; watched = c.new.result ∷ c.new-2.result ∷ []; next = 0 ∷ 0 ∷ []; position = 0; live = c.args.live; is_watched = false } in
+    let y : ClauseRecord = record { start = c.len-start.result; end = c.len-end.result; watched = c.new.result ∷ c.new-2.result ∷ []; next = 0 ∷ 0 ∷ []; third = c.mix.result; live = c.args.live; is_watched = false } in
     let items : c.push_reserved.new.self.items ≡ a.records.items ++ y ∷ [] = c.push_reserved.ensures.items ∙ ap (λ (rs : List ClauseRecord). rs ++ y ∷ []) c.in_ok-reserve.ensures.items in
     let more : length c.push_reserved.new.self.items ≡ length a.records.items + 1 = ap length items ∙ length_push a.records.items y in
+    let cut : (cut_by c.extend_from_slice.new.self.items y).lits ≡ c.args.lits.now = rw (longer, starts) (range_at_end a.lits.items c.args.lits.now c.len-end.result (long ∙ ap length longer)) in
     let P = IsWithin a.vars (length c.extend_from_slice.new.self.items) (length c.push_reserved.new.self.items) in
     let fits : P y = record {
       ordered = omega (arith, starts, long, lits_more);
@@ -65,6 +68,9 @@ invariant_of-self-2 c =
       small = inv.small;
       over = subst (λ (ls : List ℤ). All (IsLiteral a.vars) ls) (sym longer) (All-append (IsLiteral a.vars) a.lits.items c.args.lits.now inv.over (from_recursion (IsLiteral a.vars) c.args.lits.now over_args));
       within = subst (λ (rs : List ClauseRecord). All P rs) (sym items) (All-push P a.records.items y old fits);
+      mixes = subst (λ (rs : List ClauseRecord). All (HasMix c.extend_from_slice.new.self.items) rs) (sym items) (All-push (HasMix c.extend_from_slice.new.self.items) a.records.items y
+          (subst (λ (ls : List ℤ). All (HasMix ls) a.records.items) (sym longer) (mixes_before a.vars (length a.records.items) a.lits.items c.args.lits.now a.records.items inv.within inv.mixes))
+          (λ is. c.mix.ensures (ap length (sym cut) ∙ is) ∙ ap mix_of (sym cut)));
       counted = grind (arith, starts, more);
       lits_counted = grind (arith, long, starts);
       a_head_each = inv.a_head_each;

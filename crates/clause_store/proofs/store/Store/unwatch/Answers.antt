@@ -13,14 +13,14 @@ returns-clause-set c =
     let records = a.records.items in
     let le : c.args.id ≤ length (store_of a).clauses = subst (λ (s : Clauses). c.args.id ≤ length s.clauses) (sym c.self.view_is) c.requires.within in
     let within : c.args.id ≤ length records = omega (arith, le, length-map records (cut_by a.lits.items)) in
-    let y : ClauseRecord = record { start = r.start; end = r.end; watched = r.watched; next = r.next; position = r.position; live = r.live; is_watched = false } in
+    let y : ClauseRecord = record { start = r.start; end = r.end; watched = r.watched; next = r.next; third = r.third; live = r.live; is_watched = false } in
     row-same watched_by records y c.args.id _ c.requires.from_one within
 
 pub returns-clause-others : goal.returns-clause-others
 returns-clause-others c = λ i ne.
     let a = c.self.inside in
     let r = c.index_mut-record.result.now in
-    let y : ClauseRecord = record { start = r.start; end = r.end; watched = r.watched; next = r.next; position = r.position; live = r.live; is_watched = false } in
+    let y : ClauseRecord = record { start = r.start; end = r.end; watched = r.watched; next = r.next; third = r.third; live = r.live; is_watched = false } in
     rw (← c.self.view_is) (row-other watched_by a.records.items y c.args.id i _ c.requires.from_one ne)
 
 pub returns-clause-rest : goal.returns-clause-rest
@@ -28,7 +28,7 @@ returns-clause-rest c =
     let a = c.self.inside in
     let r = c.index_mut-record.result.now in
     let records = a.records.items in
-    let y : ClauseRecord = record { start = r.start; end = r.end; watched = r.watched; next = r.next; position = r.position; live = r.live; is_watched = false } in
+    let y : ClauseRecord = record { start = r.start; end = r.end; watched = r.watched; next = r.next; third = r.third; live = r.live; is_watched = false } in
     rw (
       ← c.self.view_is,
       map-kept (cut_by a.lits.items) records y r (c.args.id - 1) c.index_mut-record.ensures.value refl,

@@ -2,7 +2,7 @@ use Rattle.std.proofs.Common.{◌≡◌, ◌≢◌, ◌≤◌, ◌<◌, ◌-◌,
 use Rattle.std.proofs.lemmas.List.{length-map}
 use Rattle.clause_store.specs.Clauses.{Clauses}
 use Rattle.clause_store.specs.declared.store.ClauseRecord.{ClauseRecord}
-use Rattle.clause_store.specs.Inner.{store_of, cut_by, watched_by, IsWithin}
+use Rattle.clause_store.specs.Inner.{store_of, cut_by, watched_by, IsWithin, HasMix}
 use Rattle.std.proofs.lemmas.List.Elements.{All-set}
 use Rattle.sat_base.specs.Literals.{IsLiteral}
 use Rattle.clause_store.proofs.NodeLemmas.{row-same, row-other, map-kept, pair-set}
@@ -17,7 +17,7 @@ returns-clause-set c =
     let within : c.args.id ≤ length records = omega (arith, le, length-map records (cut_by a.lits.items)) in
     let i : c.args.id - 1 < length records = omega (arith, within, c.requires.id.from_one) in
     let safe = subst (λ (x : ClauseRecord). IsWithin a.vars (length a.lits.items) (length records) x) (sym c.index_mut-record.ensures.value) (c.self.invariant.within (c.args.id - 1) r i) in
-    let y : ClauseRecord = record { start = r.start; end = r.end; watched = set (set r.watched 0 c.args.first) 1 c.args.second; next = r.next; position = r.position; live = r.live; is_watched = true } in
+    let y : ClauseRecord = record { start = r.start; end = r.end; watched = set (set r.watched 0 c.args.first) 1 c.args.second; next = r.next; third = r.third; live = r.live; is_watched = true } in
     let ne : ◌≢◌ {A = ℕ} 0 1 = omega arith in
     let first : get_or (set (set r.watched 0 c.args.first) 1 c.args.second) 0 (pos 0) ≡ c.args.first =
     get_or-set_other (set r.watched 0 c.args.first) 1 0 c.args.second (pos 0) ne ∙ get_or-set_same r.watched 0 c.args.first (pos 0) (omega (arith, safe.two_watched))
@@ -31,7 +31,7 @@ pub returns-clause-others : goal.returns-clause-others
 returns-clause-others c = λ i ne.
     let a = c.self.inside in
     let r = c.index_mut-record.result.now in
-    let y : ClauseRecord = record { start = r.start; end = r.end; watched = set (set r.watched 0 c.args.first) 1 c.args.second; next = r.next; position = r.position; live = r.live; is_watched = true } in
+    let y : ClauseRecord = record { start = r.start; end = r.end; watched = set (set r.watched 0 c.args.first) 1 c.args.second; next = r.next; third = r.third; live = r.live; is_watched = true } in
     rw (← c.self.view_is) (row-other watched_by a.records.items y c.args.id i _ c.requires.id.from_one ne)
 
 pub returns-clause-rest : goal.returns-clause-rest
@@ -39,7 +39,7 @@ returns-clause-rest c =
     let a = c.self.inside in
     let r = c.index_mut-record.result.now in
     let records = a.records.items in
-    let y : ClauseRecord = record { start = r.start; end = r.end; watched = set (set r.watched 0 c.args.first) 1 c.args.second; next = r.next; position = r.position; live = r.live; is_watched = true } in
+    let y : ClauseRecord = record { start = r.start; end = r.end; watched = set (set r.watched 0 c.args.first) 1 c.args.second; next = r.next; third = r.third; live = r.live; is_watched = true } in
     rw (
       ← c.self.view_is,
       map-kept (cut_by a.lits.items) records y r (c.args.id - 1) c.index_mut-record.ensures.value refl,
@@ -56,7 +56,7 @@ invariant_of-self c =
     let within : c.args.id ≤ length records = omega (arith, le, length-map records (cut_by a.lits.items)) in
     let i : c.args.id - 1 < length records = omega (arith, within, c.requires.id.from_one) in
     let safe = subst (λ (x : ClauseRecord). IsWithin a.vars (length a.lits.items) (length records) x) (sym c.index_mut-record.ensures.value) (inv.within (c.args.id - 1) r i) in
-    let y : ClauseRecord = record { start = r.start; end = r.end; watched = set (set r.watched 0 c.args.first) 1 c.args.second; next = r.next; position = r.position; live = r.live; is_watched = true } in
+    let y : ClauseRecord = record { start = r.start; end = r.end; watched = set (set r.watched 0 c.args.first) 1 c.args.second; next = r.next; third = r.third; live = r.live; is_watched = true } in
     let first = subst (λ (s : Clauses). IsLiteral s.vars c.args.first) (sym c.self.view_is) c.requires.first in
     let second = subst (λ (s : Clauses). IsLiteral s.vars c.args.second) (sym c.self.view_is) c.requires.second in
     let long : length (set records (c.args.id - 1) y) ≡ length records = length-set records (c.args.id - 1) y in
@@ -73,6 +73,7 @@ invariant_of-self c =
       over = inv.over;
       within = subst (λ (n : ℕ). All (IsWithin a.vars (length a.lits.items) n) (set records (c.args.id - 1) y)) (sym long)
           (All-set (IsWithin a.vars (length a.lits.items) (length records)) records (c.args.id - 1) y fits inv.within);
+      mixes = All-set (HasMix a.lits.items) records (c.args.id - 1) y (subst (λ (x : ClauseRecord). HasMix a.lits.items x) (sym c.index_mut-record.ensures.value) (inv.mixes (c.args.id - 1) r i)) inv.mixes;
       counted = inv.counted;
       lits_counted = inv.lits_counted;
       a_head_each = inv.a_head_each;
