@@ -13,9 +13,9 @@
 typedef uint32_t Lit;   // 2 * v for v, and 2 * v + 1 for -v
 
 typedef struct {
-    uint32_t start, end;
     Lit watched[2];
     uint32_t next[2];
+    uint32_t start, end;
     uint32_t third, flags;
 } Clause;
 

@@ -24,14 +24,15 @@ use std::marker::Model;
 // The greatest number of clauses, and of literals.
 const MOST: usize = 4_294_967_295;
 
-/// Where the literals of a clause stand, what it watches and which clauses come next in the lists of those literals, and
-/// whether it is live. It has 32 bytes. An id 0 stands for none.
+/// What a clause watches and which clauses come next in the lists of those literals, where its literals stand, and whether
+/// it is live. It has 32 bytes. An id 0 stands for none. A visit that the other watched literal ends reads the first half
+/// alone, which lies in one line of the cache.
 #[derive(Clone, Copy)]
 pub(crate) struct ClauseRecord {
-    pub start: u32,
-    pub end: u32,
     pub watched: [Lit; 2],
     pub next: [u32; 2],
+    pub start: u32,
+    pub end: u32,
     /// Of a clause of three literals: their rows in one number, from which two of them tell the third. Of a longer one it is
     /// kept for the place at which a search for a literal is to begin.
     pub third: u32,
@@ -141,10 +142,10 @@ impl Store {
         self.lits.extend_from_slice(lits)?;
         let end = self.lits.len() as u32;
         self.records.push_reserved(ClauseRecord {
-            start,
-            end,
             watched: [Lit::new(1), Lit::new(1)],
             next: [0, 0],
+            start,
+            end,
             third: mix(lits),
             live,
             is_watched: false,
