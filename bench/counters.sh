@@ -6,20 +6,13 @@
 #
 # The program prints its counts on standard error when it ends. The counters change bodies and no contract, so all is
 # proved as before, but for the calls of C that count: the changed functions anew, and else what is kept of earlier checks.
-# counters/ has the patches: one for propagation, as it goes over all clauses or over those that watch a literal, of which
-# the one that fits is taken, and one for what stands above it.
+# counters/ has the patches, one for propagation and one for what stands above it.
 set -eu
 here=$(CDPATH= cd -- "$(dirname -- "$0")" && pwd)
 folder=${1:-$(mktemp -d "${TMPDIR:-/tmp}/gmus-counters-XXXXXX")}
 git clone -q "$(dirname -- "$here")" "$folder"
 cd "$folder"
-fitting=
-for patch in "$here"/counters/propagate*.patch; do
-    if git apply --check "$patch" 2>/dev/null; then
-        fitting=$patch
-    fi
-done
-git apply "${fitting:?counters.sh: no patch of propagation fits this commit}" "$here/counters/search.patch"
+git apply "$here/counters/propagation.patch" "$here/counters/search.patch"
 mkdir -p crates/bench_count/src crates/bench_count/c
 cp "$here/counters/count.rt.txt" crates/bench_count/src/lib.rt
 cp "$here/counters/count.c" crates/bench_count/c/
