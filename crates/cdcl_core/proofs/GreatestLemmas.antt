@@ -6,15 +6,15 @@ use Rattle.sat_base.specs.Members.{In}
 use Rattle.sat_base.specs.Literals.{var_of, IsLiteral, literal_true, clause_true}
 use Rattle.sat_base.specs.Database.{StoredClause, IsLive}
 use Rattle.sat_base.specs.Units.{HasValue}
-use Rattle.sat_base.proofs.Members.{In-from_map, any_from}
+use Rattle.sat_base.proofs.Members.{any_from}
 use Rattle.sat_base.proofs.FollowsLemmas.{Holds, literal_true-neg}
 use Rattle.trail_book.specs.declared.entry.Entry.{Entry}
 use Rattle.trail_book.specs.Trail.{trues, top, IsTrail}
 use Rattle.trail_book.specs.Order.{IsPositive}
 use Rattle.trail_book.proofs.TrailLemmas.{trail_vars}
-use Rattle.lrat_steps.specs.Log.{LogStep, stored, db_of, inputs_of}
+use Rattle.lrat_steps.specs.Log.{LogStep, db_of, inputs_of}
 use Rattle.lrat_steps.proofs.LogLemmas.{input_in}
-use Rattle.lrat_steps.proofs.SoundLemmas.{honest-sound}
+use Rattle.lrat_steps.proofs.SoundLemmas.{all_hold}
 use Rattle.cdcl_core.specs.State.{IsSoundEntry, IsSound, IsState}
 use Rattle.cdcl_core.specs.Answers.{IsBelow, IsGreatestModel}
 use Rattle.cdcl_core.proofs.StateLemmas.{literal_at}
@@ -62,15 +62,13 @@ live_hold : (vars : ℕ) (db : List StoredClause) (log : List LogStep) (es : Lis
 live_hold vars db log es count other s inputs c live =
     let w = s.recorded in
     let there : IsLive (db_of log) c = subst (λ (k : List StoredClause). IsLive k c) (sym w.same) live in
-    let (step, i, is) = In-from_map stored (record { lits = c; live = true }) log there in
-    subst (Holds other) (sym (ap (λ (k : StoredClause). k.lits) is))
-    (honest-sound other log w.honest
+    all_hold other log w.honest
     (λ d j.
-    let at : IsLive db d = subst (λ (k : List StoredClause). IsLive k d) w.same (input_in log d j) in
+    let at : IsLive db d = subst (λ (k : List StoredClause). IsLive k d) w.same (input_in log d w.honest j) in
     record {
       is_true = inputs d j;
       not_zero = λ l k. (literal_at vars d l (w.over (record { lits = d; live = true }) at) k).not_zero;
-    }) step i)
+    }) (record { lits = c; live = true }) there
 
 -- the variable of an index is a positive literal
 value_of : (assign : List Bool) (index : ℕ) → literal_true assign (pos (index + 1)) ≡ slice_index_or assign index false

@@ -15,10 +15,10 @@ use Rattle.trail_book.specs.declared.entry.Entry.{Entry}
 use Rattle.trail_book.specs.Trail.{trues, level_after, top, keep, IsTrail}
 use Rattle.trail_book.specs.Order.{IsPositive}
 use Rattle.trail_book.proofs.TrailLemmas.{keep-whole, keep-skip, top-keep_exact, lit-keep_more, IsTrail-keep, trail_consistent, level_after-at_least}
-use Rattle.lrat_steps.specs.Log.{LogStep, Learned, Core, db_of, inputs_of}
+use Rattle.lrat_steps.specs.Log.{LogStep, Learned, Core, steps_of, db_of, inputs_of}
 use Rattle.lrat_steps.specs.Honest.{HasVar, IsHonest}
 use Rattle.lrat_steps.specs.Undecided.{Undecided}
-use Rattle.lrat_steps.proofs.LogLemmas.{db_of-push, inputs-push_learned, inputs-push_core, learned-push, honest-learned, honest-core, honest_vars, input_in}
+use Rattle.lrat_steps.proofs.LogLemmas.{db_len, steps-append, db_of-push, inputs-push_learned, inputs-push_core, learned-push, honest-learned, honest-core, honest_vars, input_in}
 use Rattle.propagate.specs.Propagation.{Grows}
 use Rattle.learn_step.specs.Reasons.{before_last, IsConflict, IsDecision}
 use Rattle.learn_step.specs.Learnt.{IsUsed, IsLearnt, IsCore}
@@ -252,10 +252,6 @@ get_last [] s (suc n) h = absurd (omega arith)
 get_last (x ∷ log) s zero h = absurd (omega arith)
 get_last (x ∷ log) s (suc n) h = get_last log s n (omega arith)
 
-db_len : (log : List LogStep) → length (db_of log) ≡ length log
-db_len [] = refl
-db_len (s ∷ log) = ap suc (db_len log)
-
 -- a core of assumed literals only
 pub refuted_of : (vars : ℕ) (db new : List StoredClause) (log more : List LogStep) (es : List Entry) (assumed start : List ℤ) (count id : ℕ) → IsState vars db log es assumed count → IsCoreAdded db new log more es start id
     → top es ≤ count → ((l : ℤ) → In l start → In (neg_ℤ l) assumed) → IsRefuted more assumed id
@@ -269,7 +265,9 @@ refuted_of vars db new log more es assumed start count id s r all first =
       lits = r.lits;
       hints = r.hints;
       from_one = omega (arith, grown, is, new_len);
-      step = ap (λ (k : List LogStep). slice_get k (id - 1)) r.logged ∙ get_last log (Core r.lits r.hints) (id - 1) (omega (arith, len, grown, same, is, new_len));
+      step = ap (λ (k : List LogStep). slice_get (steps_of k) (id - 1)) r.logged
+          ∙ ap (λ (k : List LogStep). slice_get k (id - 1)) (steps-append log (Core r.lits r.hints ∷ []))
+          ∙ get_last (steps_of log) (Core r.lits r.hints) (id - 1) (omega (arith, len, grown, same, is, new_len));
       negated = λ l i. elim (In-append_cases l start r.core.negated (subst (In l) r.core.is i)) [
         | inl x ↦ first l x
         | inr d ↦ decisions_assumed db assumed count es (neg_ℤ l) all s.sound (r.core.decided l d)
@@ -355,7 +353,7 @@ pub model_of : (vars : ℕ) (db : List StoredClause) (log : List LogStep) (es : 
 model_of vars db log es assumed count assign s fix all full total values = record {
   total = total;
   clauses_true = λ c i.
-      let live : IsLive db c = subst (λ (k : List StoredClause). IsLive k c) s.recorded.same (input_in log c i) in
+      let live : IsLive db c = subst (λ (k : List StoredClause). IsLive k c) s.recorded.same (input_in log c s.recorded.honest i) in
       let (l, j, t) = loose_true_lit vars es c (λ m k. literal_at vars c m (s.recorded.over (record { lits = c; live = true }) live) k) full (fix c live) in
       any_at (literal_true assign) c l j (values l t);
   assumed_true = λ l i. values l (all l i);

@@ -2,7 +2,7 @@
 use Rattle.std.specs.Prelude.{◌≡◌, ℕ, ◌-◌, ◌<◌, Bool, true, false, List, ℤ, neg_ℤ, length, Some, slice_get, slice_index_or}
 use Rattle.sat_base.specs.Members.{In}
 use Rattle.sat_base.specs.Literals.{literal_true, clause_true}
-use Rattle.lrat_steps.specs.Log.{LogStep, Core, db_of, inputs_of}
+use Rattle.lrat_steps.specs.Log.{LogStep, Core, steps_of, db_of, inputs_of}
 use Rattle.lrat_steps.specs.Honest.{IsHonest}
 use Rattle.lrat_steps.specs.Paid.{IsPaid}
 use Rattle.lrat_steps.specs.Undecided.{Undecided}
@@ -24,7 +24,7 @@ pub record IsRefuted (log : List LogStep) (assumed : List ℤ) (id : ℕ) : Type
   pub lits : List ℤ
   pub hints : List ℕ
   pub from_one : 0 < id
-  pub step : slice_get log (id - 1) ≡ Some (Core lits hints)
+  pub step : slice_get (steps_of log) (id - 1) ≡ Some (Core lits hints)
   pub negated : (l : ℤ) → In l lits → In (neg_ℤ l) assumed
 
 -- what the answer says, with so many units left

@@ -10,7 +10,7 @@ use Rattle.gm_base.specs.Problem.{Problem, IsProblem, Sat}
 use Rattle.sat_base.specs.Derivation.{Derivation, clause_of}
 use Rattle.sat_base.specs.Database.{known_of}
 use Rattle.gm_base.specs.Evidence.{is_witness, refutes}
-use Rattle.lrat_steps.specs.Log.{LogStep, lits_of, step_at, inputs_of, db_of}
+use Rattle.lrat_steps.specs.Log.{LogStep, lits_of, steps_of, step_at, inputs_of, db_of}
 use Rattle.lrat_steps.specs.Honest.{IsHonest}
 use Rattle.lrat_steps.specs.Trimmed.{IsTrimmed}
 use Rattle.cdcl_core.specs.Answers.{IsConsistent, IsModel, IsRefuted, IsHonestlyPaid}
@@ -54,8 +54,8 @@ witness_found vars groups n set log assumed assign values ok h e is m found =
 
 -- a core
 
-pub core_low : (log same : List LogStep) (assumed : List ℤ) (id : ℕ) → IsRefuted log assumed id → same ≡ log → id ≤ length same
-core_low log same assumed id r e = subst (λ (l : List LogStep). id ≤ length l) (sym e) (core_at log id r.lits r.hints r.from_one r.step).0
+pub core_low : (log same : List LogStep) (assumed : List ℤ) (id : ℕ) → IsRefuted log assumed id → same ≡ log → id ≤ length (steps_of same)
+core_low log same assumed id r e = subst (λ (l : List LogStep). id ≤ length (steps_of l)) (sym e) (core_at log id r.lits r.hints r.from_one r.step).0
 
 core_lits : (log same : List LogStep) (id : ℕ) (lits : List ℤ) → same ≡ log → lits ≡ lits_of (step_at same id) → lits ≡ lits_of (step_at log id)
 core_lits log same id lits e is = is ∙ ap (λ (l : List LogStep). lits_of (step_at l id)) e

@@ -6,22 +6,22 @@ use Rattle.std.specs.List.{list_any, list_all}
 use Rattle.std.specs.Option.{option_map_or}
 use Rattle.std.proofs.lemmas.Bool.{false≢true, and_from, and_parts}
 use Rattle.std.proofs.lemmas.Bool.Decides.{Decides-int_eq}
-use Rattle.std.proofs.lemmas.List.{length-map, get_or-map}
 use Rattle.sat_base.specs.Members.{In}
 use Rattle.sat_base.specs.Literals.{AreLiterals, literal_true, clause_true}
 use Rattle.gm_base.specs.Sets.{has, IsSubset, IsGroupSet, all_groups}
 use Rattle.gm_base.specs.Problem.{Problem, IsProblem, Sat}
 use Rattle.sat_base.specs.Derivation.{Derivation, clause_of, all_known, is_derivation, contains_lit}
-use Rattle.sat_base.specs.Database.{StoredClause, known_of}
+use Rattle.sat_base.specs.Database.{known_of}
 use Rattle.gm_base.specs.Evidence.{left_out, selector_form, refutes}
 use Rattle.gm_base.proofs.SetLemmas.{AscendsAbove-filter, AscendsAbove-range, AscendsAbove-same, has-filter}
 use Rattle.learn_step.proofs.AnalysisLemmas.{lit_in, in_lit}
 use Rattle.sat_base.proofs.Members.{In-from_map, all_from, any_at, any_from}
-use Rattle.sat_base.proofs.DatabaseLemmas.{get_in, named_at}
+use Rattle.sat_base.proofs.DatabaseLemmas.{get_in}
 use Rattle.sat_base.proofs.FollowsLemmas.{Holds}
-use Rattle.lrat_steps.specs.Log.{LogStep, Input, Core, lits_of, step_at, stored, inputs_of, db_of}
+use Rattle.lrat_steps.specs.Log.{LogStep, Input, Core, lits_of, steps_of, step_at, inputs_of, db_of}
 use Rattle.lrat_steps.specs.Honest.{IsHonest}
 use Rattle.lrat_steps.specs.Trimmed.{IsTrimmed}
+use Rattle.lrat_steps.proofs.LogLemmas.{named_step}
 use Rattle.lrat_steps.proofs.SoundLemmas.{honest-sound}
 use Rattle.cdcl_core.specs.Answers.{IsRefuted}
 use Rattle.evidence_rec.specs.Asking.{IsHonestOver}
@@ -33,11 +33,11 @@ use Rattle.group_oracle.proofs.WitnessLemmas.{chosen, off-value, form_extended}
 
 -- the step at a place
 
-pub core_at : (log : List LogStep) (id : ℕ) (lits : List ℤ) (hints : List ℕ) → 0 < id → slice_get log (id - 1) ≡ Some (Core lits hints)
-    → (id ≤ length log) × (step_at log id ≡ Core lits hints) × In (Core lits hints) log
+pub core_at : (log : List LogStep) (id : ℕ) (lits : List ℤ) (hints : List ℕ) → 0 < id → slice_get (steps_of log) (id - 1) ≡ Some (Core lits hints)
+    → (id ≤ length (steps_of log)) × (step_at log id ≡ Core lits hints) × In (Core lits hints) (steps_of log)
 core_at log id lits hints low h =
-    let (lt, same) = get_or-from log (id - 1) (Core lits hints) (Input []) h in
-    (omega arith, same, subst (λ (s : LogStep). In s log) same (get_in log (id - 1) (Input []) lt))
+    let (lt, same) = get_or-from (steps_of log) (id - 1) (Core lits hints) (Input []) h in
+    (omega arith, same, subst (λ (s : LogStep). In s (steps_of log)) same (get_in (steps_of log) (id - 1) (Input []) lt))
 
 neg_neg : (l : ℤ) → neg_ℤ (neg_ℤ l) ≡ l
 neg_neg (pos zero) = refl
@@ -106,14 +106,8 @@ refuted-unsat p log set id ok honest within r (assign, len, satisfied) =
 
 -- the derivation of that clause
 
-pub core_named : (log : List LogStep) (id : ℕ) (lits : List ℤ) (hints : List ℕ) → 0 < id → slice_get log (id - 1) ≡ Some (Core lits hints) → clause_of (known_of (db_of log)) id ≡ Some lits
-core_named log id lits hints low h =
-    let (high, same, i) = core_at log id lits hints low h in
-    let none : StoredClause = stored (Input []) in
-    let len = length-map log stored in
-    named_at (db_of log) id none low (omega arith)
-    ∙ ap (λ (c : StoredClause). Some c.lits) (get_or-map stored log (id - 1) (Input []) none (omega arith))
-    ∙ ap (λ (s : LogStep). Some (lits_of s)) same
+pub core_named : (log : List LogStep) (id : ℕ) (lits : List ℤ) (hints : List ℕ) → 0 < id → slice_get (steps_of log) (id - 1) ≡ Some (Core lits hints) → clause_of (known_of (db_of log)) id ≡ Some lits
+core_named log id lits hints low h = let (high, same, i) = core_at log id lits hints low h in named_step log id low high ∙ ap (λ (s : LogStep). Some (lits_of s)) same
 
 pub refuted-refutes : (p : Problem) (log : List LogStep) (set : List ℕ) (id : ℕ) (d : Derivation) → IsProblem p → IsHonestOver p log → IsRefutedBy p.vars log set id
     → ((lits : List ℤ) → clause_of (known_of (db_of log)) id ≡ Some lits → IsTrimmed log lits d) → refutes p set d ≡ true

@@ -13,8 +13,6 @@ use Rattle.gm_base.specs.Evidence.{with_selector, selector_form}
 use Rattle.sat_base.proofs.Members.{In-from_map}
 use Rattle.lrat_steps.specs.Log.{LogStep, Input, inputs_of, learned_count}
 use Rattle.lrat_steps.specs.Honest.{HonestFrom, IsHonest}
-use Rattle.sat_base.specs.Database.{StoredClause}
-use Rattle.lrat_steps.specs.Log.{stored}
 use Rattle.cdcl_core.specs.Answers.{IsConsistent}
 use Rattle.evidence_rec.specs.Asking.{IsHonestOver}
 use Rattle.group_oracle.specs.Selectors.{on, off, group_in, without_selector, problem_of}
@@ -179,9 +177,9 @@ pub learned-given : (cs : List (List ℤ)) → learned_count (map Input cs) ≡ 
 learned-given [] = refl
 learned-given (c ∷ cs) = learned-given cs
 
-given_from : (inputs : List (List ℤ)) (earlier : List StoredClause) (cs : List (List ℤ)) → HonestFrom inputs earlier (map Input cs)
+given_from : (inputs : List (List ℤ)) (earlier : List LogStep) (cs : List (List ℤ)) → HonestFrom inputs earlier (map Input cs)
 given_from inputs earlier [] = tt
-given_from inputs earlier (c ∷ cs) = (tt, given_from inputs (earlier ++ stored (Input c) ∷ []) cs)
+given_from inputs earlier (c ∷ cs) = (tt, given_from inputs (earlier ++ Input c ∷ []) cs)
 
 pub honest-given : (p : Problem) → IsHonestOver p (map Input (selector_form p))
 honest-given p = record { inputs = inputs-given (selector_form p); honest = given_from (inputs_of (map Input (selector_form p))) [] (selector_form p) }

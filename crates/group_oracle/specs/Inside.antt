@@ -4,7 +4,7 @@ use Rattle.std.specs.Option.{option_map}
 use Rattle.sat_base.specs.Members.{In}
 use Rattle.gm_base.specs.Sets.{has}
 use Rattle.gm_base.specs.Problem.{IsProblem}
-use Rattle.lrat_steps.specs.Log.{LogStep, Core, lits_of, step_at}
+use Rattle.lrat_steps.specs.Log.{LogStep, Core, lits_of, steps_of, step_at}
 use Rattle.evidence_rec.specs.Asking.{OracleState, IsHonestOver}
 use Rattle.group_oracle.specs.Selectors.{off, switched_off, problem_of}
 use Rattle.group_oracle.specs.declared.oracle.GroupOracle.TheInside.{Inside}
@@ -23,7 +23,7 @@ pub record IsRefutedBy (vars : ℕ) (log : List LogStep) (set : List ℕ) (id : 
   pub lits : List ℤ
   pub hints : List ℕ
   pub from_one : 0 < id
-  pub step : slice_get log (id - 1) ≡ Some (Core lits hints)
+  pub step : slice_get (steps_of log) (id - 1) ≡ Some (Core lits hints)
   pub within : (l : ℤ) → In l lits → (g : ℕ) × (has set g ≡ true) × (l ≡ off vars g)
 
 -- the solver has the clauses of the problem with their selectors, and a step of its log refutes the last set

@@ -1,35 +1,81 @@
 -- Lemmas on honest logs: what they say of a derived step, and that its hints name earlier steps.
-use Rattle.std.proofs.Common.{◌≡◌, ℕ, zero, suc, ◌-◌, ◌<◌, Bool, true, false, List, [], ◌∷◌, ◌++◌, map, length, get_or, take, Option, Some, None, refl, sym, ◌∙◌, ap, subst, inl, inr, arith, append_assoc}
+use Rattle.std.proofs.Common.{◌≡◌, ℕ, ◌-◌, ◌<◌, ◌≤◌, Bool, true, false, List, [], ◌∷◌, ◌++◌, map, length, take, Option, Some, None, refl, sym, ◌∙◌, ap, subst, inl, inr, arith}
 use Rattle.std.specs.Prelude.{ℤ, neg_ℤ}
 use Rattle.std.specs.Option.{option_map_or}
-use Rattle.std.proofs.lemmas.Bool.{cases_Bool, false≢true}
-use Rattle.std.proofs.lemmas.List.{append-nil, length-take}
+use Rattle.std.proofs.lemmas.Bool.{cases_Bool, cases_lt, false≢true}
+use Rattle.std.proofs.lemmas.List.{append-nil, length-take, length-map, length_push, map_push, take-append-le, take_all, get_or_append_left, get_or_push}
 use Rattle.sat_base.specs.Members.{In}
-use Rattle.sat_base.specs.Derivation.{clause_of, open_lits, only_lit, is_nil, follows}
+use Rattle.sat_base.specs.Derivation.{numbered, clause_of, open_lits, only_lit, is_nil, follows}
 use Rattle.sat_base.specs.Database.{StoredClause, known_of}
 use Rattle.sat_base.proofs.DatabaseLemmas.{named_range}
-use Rattle.lrat_steps.specs.Log.{LogStep, Input, Learned, Core, lits_of, hints_of, step_at, stored, db_of, inputs_of}
-use Rattle.lrat_steps.specs.Honest.{IsDerived, IsHonestStep, HonestFrom, IsHonest}
+use Rattle.lrat_steps.specs.Log.{LogStep, Input, Learned, Core, Forgot, lits_of, hints_of, steps_of, step_in, stored, db_of, inputs_of}
+use Rattle.lrat_steps.specs.Honest.{IsDerived, IsHonestStep, IsHonest}
 use Rattle.lrat_steps.specs.Cone.{is_input, lits_at, hints_at, is_input_at, IsBackward, IsDerivedId}
+use Rattle.lrat_steps.proofs.LogLemmas.{steps-append, lits_all, honest-fold}
 
 -- what an honest log says of a derived step
 
-derived_of : (inputs : List (List ℤ)) (earlier : List StoredClause) (s : LogStep) → is_input s ≡ false → IsHonestStep inputs earlier s → IsDerived inputs earlier (lits_of s) (hints_of s)
-derived_of inputs earlier (Input lits) e h = absurd (false≢true (sym e))
-derived_of inputs earlier (Learned lits hints) e h = h.0
-derived_of inputs earlier (Core lits hints) e h = h
+-- of steps without marks: each derived one follows from those before it by its hints
+abbrev pub AreDerived : List (List ℤ) → List LogStep → Type 0
+AreDerived inputs steps = (id : ℕ) → IsDerivedId steps id → IsDerived inputs (take (id - 1) (map stored steps)) (lits_at steps id) (hints_at steps id)
 
-honest_from : (inputs : List (List ℤ)) (earlier : List StoredClause) (log : List LogStep) (at : ℕ) (d : LogStep) → HonestFrom inputs earlier log → at < length log → is_input (get_or log at d) ≡ false
-    → IsDerived inputs (earlier ++ take at (db_of log)) (lits_of (get_or log at d)) (hints_of (get_or log at d))
-honest_from inputs earlier [] at d h lt e = absurd (omega arith)
-honest_from inputs earlier (s ∷ log) zero d h lt e =
-    subst (λ (db : List StoredClause). IsDerived inputs db (lits_of s) (hints_of s)) (sym (append-nil earlier)) (derived_of inputs earlier s e h.0)
-honest_from inputs earlier (s ∷ log) (suc at) d h lt e =
-    subst (λ (db : List StoredClause). IsDerived inputs db (lits_of (get_or log at d)) (hints_of (get_or log at d))) (append_assoc earlier (stored s ∷ []) (take at (db_of log)))
-    (honest_from inputs (earlier ++ stored s ∷ []) log at d h.1 (omega arith) e)
+lits-stored : (steps : List LogStep) → map (λ (c : StoredClause). c.lits) (map stored steps) ≡ map lits_of steps
+lits-stored [] = refl
+lits-stored (s ∷ steps) = ap (λ (rest : List (List ℤ)). lits_of s ∷ rest) (lits-stored steps)
 
-pub derived_at : (log : List LogStep) (id : ℕ) → IsHonest log → IsDerivedId log id → IsDerived (inputs_of log) (take (id - 1) (db_of log)) (lits_at log id) (hints_at log id)
-derived_at log id honest d = let low = d.from_one in let high = d.within in honest_from (inputs_of log) [] log (id - 1) (Input []) honest (omega arith) d.derived
+-- what the clauses of a log are known as does not tell which are live
+pub known_all : (log : List LogStep) → known_of (db_of log) ≡ known_of (map stored (steps_of log))
+known_all log = ap (numbered 1) (lits_all log ∙ sym (lits-stored (steps_of log)))
+
+derived_old : (inputs : List (List ℤ)) (steps : List LogStep) (s : LogStep) (id : ℕ) → AreDerived inputs steps → id ≤ length steps → IsDerivedId (steps ++ s ∷ []) id
+    → IsDerived inputs (take (id - 1) (map stored (steps ++ s ∷ []))) (lits_at (steps ++ s ∷ []) id) (hints_at (steps ++ s ∷ []) id)
+derived_old inputs steps s id all high d =
+    let low = d.from_one in
+    let len = length-map steps stored in
+    let same : step_in (steps ++ s ∷ []) id ≡ step_in steps id = get_or_append_left steps (s ∷ []) (Input []) (id - 1) (omega arith) in
+    let old : take (id - 1) (map stored (steps ++ s ∷ [])) ≡ take (id - 1) (map stored steps) =
+    ap (take (id - 1)) (map_push stored steps s) ∙ take-append-le (id - 1) (map stored steps) (stored s ∷ []) (omega arith) in
+    let is = all id (record { from_one = low; within = high; derived = sym (ap is_input same) ∙ d.derived }) in
+    subst (λ (db : List StoredClause). IsDerived inputs db (lits_at (steps ++ s ∷ []) id) (hints_at (steps ++ s ∷ []) id)) (sym old)
+    (subst (λ (t : LogStep). IsDerived inputs (take (id - 1) (map stored steps)) (lits_of t) (hints_of t)) (sym same) is)
+
+derived_new : (inputs : List (List ℤ)) (steps : List LogStep) (s : LogStep) (id : ℕ) → length steps < id → IsDerivedId (steps ++ s ∷ []) id
+    → (is_input s ≡ false → IsDerived inputs (map stored steps) (lits_of s) (hints_of s))
+    → IsDerived inputs (take (id - 1) (map stored (steps ++ s ∷ []))) (lits_at (steps ++ s ∷ []) id) (hints_at (steps ++ s ∷ []) id)
+derived_new inputs steps s id past d here =
+    let high = d.within in
+    let longer = length_push steps s in
+    let len = length-map steps stored in
+    let same : step_in (steps ++ s ∷ []) id ≡ s = get_or_push steps s (Input []) (id - 1) (omega arith) in
+    let all : take (id - 1) (map stored (steps ++ s ∷ [])) ≡ map stored steps =
+    ap (take (id - 1)) (map_push stored steps s) ∙ take-append-le (id - 1) (map stored steps) (stored s ∷ []) (omega arith) ∙ take_all (id - 1) (map stored steps) (omega arith) in
+    subst (λ (db : List StoredClause). IsDerived inputs db (lits_at (steps ++ s ∷ []) id) (hints_at (steps ++ s ∷ []) id)) (sym all)
+    (subst (λ (t : LogStep). IsDerived inputs (map stored steps) (lits_of t) (hints_of t)) (sym same) (here (sym (ap is_input same) ∙ d.derived)))
+
+derived_more : (inputs : List (List ℤ)) (steps : List LogStep) (s : LogStep) → AreDerived inputs steps → (is_input s ≡ false → IsDerived inputs (map stored steps) (lits_of s) (hints_of s))
+    → AreDerived inputs (steps ++ s ∷ [])
+derived_more inputs steps s all here id d =
+    elim (cases_lt (length steps) id) [
+      | inl past ↦ derived_new inputs steps s id past d here
+      | inr high ↦ derived_old inputs steps s id all high d
+    ]
+
+-- only what the clauses are known as counts
+derived_known : (inputs : List (List ℤ)) (before : List LogStep) (lits : List ℤ) (hints : List ℕ) → IsDerived inputs (db_of before) lits hints → IsDerived inputs (map stored (steps_of before)) lits hints
+derived_known inputs before lits hints h =
+    record { follows = subst (λ (known : List (ℕ × List ℤ)). follows known lits hints ≡ true) (known_all before) h.follows; proper = h.proper }
+
+derived_step : (inputs : List (List ℤ)) (before : List LogStep) (s : LogStep) → AreDerived inputs (steps_of before) → IsHonestStep inputs before s → AreDerived inputs (steps_of before ++ steps_of (s ∷ []))
+derived_step inputs before (Input c) all h = derived_more inputs (steps_of before) (Input c) all (λ e. absurd (false≢true (sym e)))
+derived_step inputs before (Learned c hints) all h = derived_more inputs (steps_of before) (Learned c hints) all (λ e. derived_known inputs before c hints h.0)
+derived_step inputs before (Core c hints) all h = derived_more inputs (steps_of before) (Core c hints) all (λ e. derived_known inputs before c hints h)
+derived_step inputs before (Forgot id) all h = subst (AreDerived inputs) (sym (append-nil (steps_of before))) all
+
+pub derived_all : (log : List LogStep) → IsHonest log → AreDerived (inputs_of log) (steps_of log)
+derived_all log honest =
+    honest-fold (inputs_of log) (λ e. AreDerived (inputs_of log) (steps_of e)) [] log (λ id d. let low = d.from_one in let high = d.within in absurd (omega arith))
+    (λ before s i all h. subst (AreDerived (inputs_of log)) (sym (steps-append before (s ∷ []))) (derived_step (inputs_of log) before s all h))
+    honest
 
 -- a hint names a known clause
 
@@ -79,18 +125,19 @@ no_hints : (s : LogStep) (h : ℕ) → is_input s ≡ true → In h (hints_of s)
 no_hints (Input lits) h e i = i
 no_hints (Learned lits hints) h e i = false≢true e
 no_hints (Core lits hints) h e i = false≢true e
+no_hints (Forgot id) h e i = i
 
--- in an honest log each hint names an earlier step
-pub backward_of : (log : List LogStep) → IsHonest log → IsBackward log
-backward_of log honest id low high h i =
-    elim (cases_Bool (is_input_at log id)) [
-      | inl input ↦ absurd (no_hints (step_at log id) h input i)
+-- each hint names an earlier step
+pub backward_of : (inputs : List (List ℤ)) (steps : List LogStep) → AreDerived inputs steps → IsBackward steps
+backward_of inputs steps all id low high h i =
+    elim (cases_Bool (is_input_at steps id)) [
+      | inl input ↦ absurd (no_hints (step_in steps id) h input i)
       | inr derived ↦
-          let d = derived_at log id honest (record { from_one = low; within = high; derived = derived }) in
-          let (c, named) = hint_known (known_of (take (id - 1) (db_of log))) (lits_at log id) (hints_at log id) h d.follows i in
-          let range = named_range (take (id - 1) (db_of log)) h c named in
+          let d = all id (record { from_one = low; within = high; derived = derived }) in
+          let (c, named) = hint_known (known_of (take (id - 1) (map stored steps))) (lits_at steps id) (hints_at steps id) h d.follows i in
+          let range = named_range (take (id - 1) (map stored steps)) h c named in
           let first = range.0 in
           let last = range.1 in
-          let len = length-take (id - 1) (db_of log) in
+          let len = length-take (id - 1) (map stored steps) in
           (first, omega arith)
     ]

@@ -1,4 +1,6 @@
 pub mod LogLemmas
+pub mod ForgettingLemmas
+pub mod MarkLemmas
 pub mod LayoutLemmas
 pub mod PlaceLemmas
 pub mod ConeLemmas

@@ -1,6 +1,6 @@
 -- Lemmas on what searches do to the log and the purse.
 use Rattle.std.proofs.Common.{◌≡◌, ℕ, ◌+◌, ◌-◌, ◌≤◌, List, [], ◌∷◌, ◌++◌, refl, sym, subst, ◌∙◌, ap, arith, append-nil, append_assoc}
-use Rattle.lrat_steps.specs.Log.{LogStep, Input, Learned, Core, learned_count}
+use Rattle.lrat_steps.specs.Log.{LogStep, Input, Learned, Core, Forgot, learned_count}
 use Rattle.lrat_steps.specs.Paid.{IsPaid}
 
 -- no search costs nothing
@@ -22,6 +22,7 @@ learned-more [] more = omega arith
 learned-more (Input lits ∷ log) more = learned-more log more
 learned-more (Learned lits hints ∷ log) more = let h = learned-more log more in omega arith
 learned-more (Core lits hints ∷ log) more = learned-more log more
+learned-more (Forgot id ∷ log) more = learned-more log more
 
 -- no learnt clause is lost
 pub learned-grows : {old new : List LogStep} {before left : ℕ} → IsPaid old new before left → learned_count old ≤ learned_count new

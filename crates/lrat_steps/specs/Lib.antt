@@ -1,4 +1,5 @@
 pub mod Log
+pub mod Forgetting
 pub mod Honest
 pub mod Undecided
 pub mod Trimmed

@@ -1,12 +1,13 @@
 -- A worked log over two variables x and y, one that is not honest, and clauses that are undecided. Computed here, or shown
 -- case by case.
-use Rattle.std.specs.Prelude.{◌≡◌, ◌≢◌, true, List, [], ◌∷◌, take, pos, negsuc, neg_ℤ, ℤ}
-use Rattle.std.proofs.Common.{refl, sym, ap, subst, inl, inr}
+use Rattle.std.specs.Prelude.{◌≡◌, ◌≢◌, true, false, List, [], ◌∷◌, take, pos, negsuc, neg_ℤ, ℤ}
+use Rattle.std.proofs.Common.{refl, sym, ap, subst, inl, inr, arith}
 use Rattle.sat_base.specs.Literals.{var_of}
 use Rattle.sat_base.specs.Members.{In}
 use Rattle.sat_base.specs.Database.{StoredClause}
 use Rattle.sat_base.specs.Units.{IsLoose, IsFixpoint}
-use Rattle.lrat_steps.specs.Log.{LogStep, Input, Learned, Core, db_of, inputs_of, learned_count}
+use Rattle.lrat_steps.specs.Log.{LogStep, Input, Learned, Core, Forgot, step_at, db_of, inputs_of, learned_count}
+use Rattle.lrat_steps.specs.Forgetting.{live_count}
 use Rattle.lrat_steps.specs.Honest.{HasVar, IsProper, IsDerived, IsNew, IsHonest, Subsumes}
 use Rattle.lrat_steps.specs.Undecided.{Choice, Consequence, Undecided}
 
@@ -80,6 +81,27 @@ worked_honest =
 -- "x or y" follows from "x", but is no new clause
 pub subsumed_clause_is_not_honest : ¬ IsHonest (Input (pos 1 ∷ []) ∷ Input (pos 2 ∷ []) ∷ Learned (pos 1 ∷ pos 2 ∷ []) (1 ∷ []) ∷ [])
 subsumed_clause_is_not_honest h = h.1.1.0.1 (pos 1 ∷ []) (inl refl) (λ l i. elim i [ inl same ↦ inl same | inr none ↦ absurd none ])
+
+-- "x or y" and "x or not y", so "x", which is then forgotten, and "y or x": the mark takes no id, and the learnt clause stays
+-- as it was but for being live
+abbrev pub marked_log : List LogStep
+marked_log =
+    Input (pos 1 ∷ pos 2 ∷ []) ∷ Input (pos 1 ∷ negsuc 1 ∷ []) ∷ Learned (pos 1 ∷ []) (1 ∷ 2 ∷ []) ∷ Forgot 3 ∷ Input (pos 2 ∷ pos 1 ∷ []) ∷ []
+
+pub marked_step : step_at marked_log 4 ≡ Input (pos 2 ∷ pos 1 ∷ [])
+marked_step = refl
+
+pub marked_db :
+    db_of marked_log
+    ≡ stored_live (pos 1 ∷ pos 2 ∷ []) ∷ stored_live (pos 1 ∷ negsuc 1 ∷ []) ∷ record { lits = pos 1 ∷ []; live = false } ∷ stored_live (pos 2 ∷ pos 1 ∷ []) ∷ []
+marked_db = refl
+
+pub marked_counts : (learned_count marked_log ≡ 1) × (live_count marked_log ≡ 0)
+marked_counts = (refl, refl)
+
+-- but one learnt clause is not so many that it may be forgotten
+pub early_mark_is_not_honest : ¬ IsHonest marked_log
+early_mark_is_not_honest h = absurd (omega (arith, h.1.1.1.0.enough))
 
 -- the four clauses over x and y: propagation tells nothing until a literal is chosen, and then ends in a conflict
 abbrev pub four_clauses : List StoredClause

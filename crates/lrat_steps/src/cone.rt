@@ -5,7 +5,7 @@
 //! and once. Inputs need nothing and are not followed. This costs what the cone costs, however long the log is.
 ghost use Rattle.std.specs.Prelude.{◌≡◌, ◌<◌, ◌≤◌, ◌∷◌, [], length, IfOk, OnOk};
 ghost use Rattle.sat_base.specs.Members.{In};
-ghost use Rattle.lrat_steps.specs.Log.{kind_of, step_at};
+ghost use Rattle.lrat_steps.specs.Log.{steps_of};
 ghost use Rattle.lrat_steps.specs.Cone.{is_input_at, hints_at, IsBackward, IsDerivedId, PutsDerived, IsCone};
 
 use crate::log::Log;
@@ -15,10 +15,10 @@ use std::alloc::{AllocError, Global};
 
 /// The ids of the derived steps that a goal needs, ascending.
 pub fn cone_of(log: &Log, alloc: Global, goal: u64) -> Result<Vec<u64>, AllocError>
-    requires backward { IsBackward log.now }
+    requires backward { IsBackward (steps_of log.now) }
     requires from_one { 0 < goal }
-    requires within { goal ≤ length log.now }
-    ensures { IfOk result (λ ids. IsCone log.now goal ids.items) }
+    requires within { goal ≤ length (steps_of log.now) }
+    ensures { IfOk result (λ ids. IsCone (steps_of log.now) goal ids.items) }
 {
     let mut work = WorkList::new(alloc);
     let mut ids = Vec::new(alloc);
@@ -33,10 +33,10 @@ pub fn cone_of(log: &Log, alloc: Global, goal: u64) -> Result<Vec<u64>, AllocErr
 
 // Puts in the hints of a step that were derived.
 fn put_hints(log: &Log, work: &mut WorkList, id: u64) -> Result<(), AllocError>
-    requires backward { IsBackward log.now }
+    requires backward { IsBackward (steps_of log.now) }
     requires from_one { 0 < id }
-    requires within { id ≤ length log.now }
-    ensures { OnOk result (PutsDerived log.now work.old (hints_at log.now id) work.new) }
+    requires within { id ≤ length (steps_of log.now) }
+    ensures { OnOk result (PutsDerived (steps_of log.now) work.old (hints_at (steps_of log.now) id) work.new) }
 {
     for hint in log.hints(id) {
         put(log, work, u64::from(*hint))?;
@@ -47,8 +47,8 @@ fn put_hints(log: &Log, work: &mut WorkList, id: u64) -> Result<(), AllocError>
 // Puts in an id unless it is an input's.
 fn put(log: &Log, work: &mut WorkList, id: u64) -> Result<(), AllocError>
     requires from_one { 0 < id }
-    requires within { id ≤ length log.now }
-    ensures { OnOk result (PutsDerived log.now work.old (id ∷ []) work.new) }
+    requires within { id ≤ length (steps_of log.now) }
+    ensures { OnOk result (PutsDerived (steps_of log.now) work.old (id ∷ []) work.new) }
 {
     if is_input(log, id) {
         return Ok(());
@@ -59,8 +59,8 @@ fn put(log: &Log, work: &mut WorkList, id: u64) -> Result<(), AllocError>
 /// Whether the step of an id is an input.
 pub fn is_input(log: &Log, id: u64) -> bool
     requires from_one { 0 < id }
-    requires within { id ≤ length log.now }
-    ensures { result ≡ is_input_at log.now id }
+    requires within { id ≤ length (steps_of log.now) }
+    ensures { result ≡ is_input_at (steps_of log.now) id }
 {
     log.kind(id) == StepKind::Input
 }

@@ -13,6 +13,9 @@
 //! let derivation = log.trim(alloc, id)?;
 //! ```
 //!
+//! A learnt clause that is live may be forgotten where [`may_forget`] says so. [`Log::forget`] puts a mark among the
+//! steps; the step itself stays, and what it derived may be named by later hints.
+//!
 //! Start reading at `specs/Log.antt` and `specs/Honest.antt`, which say what a log is and when it is honest, and go on
 //! with `specs/Trimmed.antt`, which says what a derivation of a clause is. `specs/Undecided.antt` is about searches
 //! that stopped early, and `specs/Rows.antt` has a worked log. The walk back from a goal is in `cone.rt`.
@@ -22,6 +25,7 @@
 
 mod arena;
 mod cone;
+mod forget;
 mod log;
 mod logs;
 mod renumber;
@@ -29,6 +33,7 @@ mod step;
 #[cfg(test)]
 mod tests;
 
+pub use forget::may_forget;
 pub use log::Log;
 pub use logs::Logs;
 pub use step::{LogStep, StepKind};

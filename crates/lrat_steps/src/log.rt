@@ -5,10 +5,14 @@
 //! memory, so the literals of all steps stand one after another, and so do their hints, and a step itself is a small
 //! record of where its own begin and end. Each record counts the inputs up to its step: so the number of an input
 //! among the inputs, which a derivation goes by, is read off in one step, wherever the input stands in the log.
+//!
+//! Among the steps stand marks of the clauses that were forgotten. A mark takes no id, so the marks lie in a list of
+//! their own, each with the number of the steps before it, and the id of a step is the place of its record.
 ghost use Rattle.std.specs.Prelude.{◌≡◌, ◌<◌, ◌≤◌, ◌++◌, ◌∷◌, [], length, IfOk, OnOk, OnErr, Some, List, ℤ};
 ghost use Rattle.sat_base.specs.Derivation.{clause_of};
 ghost use Rattle.sat_base.specs.Database.{known_of};
-ghost use Rattle.lrat_steps.specs.Log.{step_of, step_at, lits_of, hints_of, kind_of, learned_count, inputs_of, db_of};
+ghost use Rattle.lrat_steps.specs.Log.{Forgot, step_of, steps_of, step_at, lits_of, hints_of, kind_of, learned_count, inputs_of, db_of};
+ghost use Rattle.lrat_steps.specs.Forgetting.{IsLiveLearned, live_count};
 ghost use Rattle.lrat_steps.specs.Cone.{inputs_up_to};
 ghost use Rattle.lrat_steps.specs.Honest.{IsHonest};
 ghost use Rattle.lrat_steps.specs.Trimmed.{IsTrimmed};
@@ -33,14 +37,23 @@ struct StepRecord {
     inputs: u32,
 }
 
-/// The steps of a solver, in order. The id of a step is its place, from 1.
+// How many steps stand before a mark, and the id of the clause that was forgotten there.
+#[derive(Clone, Copy)]
+struct Mark {
+    steps: u32,
+    id: u32,
+}
+
+/// The steps of a solver, in order, and marks among them. The id of a step is its place among the steps, from 1.
 #[derive(Drop)]
 pub struct Log {
     steps: Vec<StepRecord>,
     lits: Vec<Lit>,
     hints: Vec<u32>,
+    marks: Vec<Mark>,
     inputs: u32,
     learned: u64,
+    live: u64,
 }
 
 impl Model for Log {
@@ -65,15 +78,17 @@ impl Log {
             steps: Vec::new(alloc),
             lits: Vec::new(alloc),
             hints: Vec::new(alloc),
+            marks: Vec::new(alloc),
             inputs: 0,
             learned: 0,
+            live: 0,
         }
     }
 
     /// Adds a step, and gives its id.
     pub fn push(&mut self, step: LogStep<'_>) -> Result<u64, AllocError>
         ensures ok { OnOk result (self.new ≡ self.old ++ step_of step.entry ∷ []) }
-        ensures id { IfOk result (λ id. id ≡ length self.new) }
+        ensures id { IfOk result (λ id. id ≡ length (steps_of self.new)) }
         ensures err { OnErr result (self.new ≡ self.old) }
     {
         let parts = parts_of(step);
@@ -90,6 +105,7 @@ impl Log {
         let (more_inputs, more_learned) = counts_of(parts.kind);
         let inputs = self.inputs + more_inputs;
         let learned = self.learned + more_learned;
+        let live = self.live + more_learned;
         self.steps.push_reserved(StepRecord {
             kind: parts.kind,
             lits_from,
@@ -100,21 +116,45 @@ impl Log {
         });
         self.inputs = inputs;
         self.learned = learned;
+        self.live = live;
         Ok(u64::from(id))
+    }
+
+    /// Marks that a learnt clause, which is live, is so no more. Its step stays, and may be named still.
+    pub fn forget(&mut self, id: u64) -> Result<(), AllocError>
+        requires live { IsLiveLearned self.old id }
+        ensures ok { OnOk result (self.new ≡ self.old ++ Forgot id ∷ []) }
+        ensures err { OnErr result (self.new ≡ self.old) }
+    {
+        let steps = self.steps.len() as u32;
+        let live = self.live - 1;
+        self.marks.push(Mark {
+            steps,
+            id: id as u32,
+        })?;
+        self.live = live;
+        Ok(())
     }
 
     /// How many steps it has, which is the id of the last one.
     pub fn len(&self) -> u64
-        ensures { result ≡ length self.now }
+        ensures { result ≡ length (steps_of self.now) }
     {
         self.steps.len() as u64
     }
 
-    /// How many clauses were learnt.
+    /// How many clauses were learnt, forgotten or not.
     pub fn learned(&self) -> u64
         ensures { result ≡ learned_count self.now }
     {
         self.learned
+    }
+
+    /// How many learnt clauses are live.
+    pub fn live_learned(&self) -> u64
+        ensures { result ≡ live_count self.now }
+    {
+        self.live
     }
 
     /// How many clauses were given.
@@ -127,7 +167,7 @@ impl Log {
     /// What the step of an id is.
     pub fn kind(&self, id: u64) -> StepKind
         requires from_one { 0 < id }
-        requires within { id ≤ length self.now }
+        requires within { id ≤ length (steps_of self.now) }
         ensures { result ≡ kind_of (step_at self.now id) }
     {
         self.steps[(id - 1) as usize].kind
@@ -136,7 +176,7 @@ impl Log {
     /// The clause of the step of an id.
     pub fn lits(&self, id: u64) -> &[Lit]
         requires from_one { 0 < id }
-        requires within { id ≤ length self.now }
+        requires within { id ≤ length (steps_of self.now) }
         ensures { result.now ≡ lits_of (step_at self.now id) }
     {
         let step = self.steps[(id - 1) as usize];
@@ -146,7 +186,7 @@ impl Log {
     /// The ids of the clauses from which the step of an id follows, in the order of propagation. An input has none.
     pub fn hints(&self, id: u64) -> &[u32]
         requires from_one { 0 < id }
-        requires within { id ≤ length self.now }
+        requires within { id ≤ length (steps_of self.now) }
         ensures { result.now ≡ hints_of (step_at self.now id) }
     {
         let step = self.steps[(id - 1) as usize];
@@ -158,7 +198,7 @@ impl Log {
     pub fn trim(&self, alloc: Global, goal: u64) -> Result<Derivation, AllocError>
         requires honest { IsHonest self.now }
         requires from_one { 0 < goal }
-        requires within { goal ≤ length self.now }
+        requires within { goal ≤ length (steps_of self.now) }
         ensures { IfOk result (λ d. (lits : List ℤ) → clause_of (known_of (db_of self.now)) goal ≡ Some lits → IsTrimmed self.now lits d) }
     {
         let cone = cone_of(self, alloc, goal)?;
@@ -168,21 +208,21 @@ impl Log {
     // How many steps there are, how many of them are inputs, and how many inputs there are up to a step: few enough for
     // numbers of half the size.
     pub(crate) fn count(&self) -> u32
-        ensures { result ≡ length self.now }
+        ensures { result ≡ length (steps_of self.now) }
     {
         self.steps.len() as u32
     }
 
     pub(crate) fn input_count(&self) -> u32
-        ensures { result ≡ length (inputs_of self.now) }
+        ensures { result ≡ length (inputs_of (steps_of self.now)) }
     {
         self.inputs
     }
 
     pub(crate) fn input_number(&self, id: u64) -> u32
         requires from_one { 0 < id }
-        requires within { id ≤ length self.now }
-        ensures { result ≡ inputs_up_to self.now id }
+        requires within { id ≤ length (steps_of self.now) }
+        ensures { result ≡ inputs_up_to (steps_of self.now) id }
     {
         self.steps[(id - 1) as usize].inputs
     }

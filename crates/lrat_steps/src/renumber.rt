@@ -4,6 +4,7 @@
 //! an input gets its number among the inputs, and a derived step its place among those that the goal needs.
 ghost use Rattle.std.specs.Prelude.{◌≡◌, ℕ, ◌<◌, ◌≤◌, length, map, All, IfOk, OnOk};
 ghost use Rattle.sat_base.specs.Derivation.{max_id};
+ghost use Rattle.lrat_steps.specs.Log.{steps_of};
 ghost use Rattle.lrat_steps.specs.Cone.{IsBackward, IsCone, AreDerivedIds, IsReached, Ascends, place_in, number_in, hints_at, trimmed};
 ghost use Rattle.sat_base.specs.Members.{In};
 
@@ -19,11 +20,11 @@ pub fn derivation_of(
     cone: &[u64],
     goal: u64,
 ) -> Result<Derivation, AllocError>
-    requires backward { IsBackward log.now }
+    requires backward { IsBackward (steps_of log.now) }
     requires from_one { 0 < goal }
-    requires within { goal ≤ length log.now }
-    requires cone { IsCone log.now goal cone.now }
-    ensures { IfOk result (λ d. d ≡ trimmed log.now goal cone.now) }
+    requires within { goal ≤ length (steps_of log.now) }
+    requires cone { IsCone (steps_of log.now) goal cone.now }
+    ensures { IfOk result (λ d. d ≡ trimmed (steps_of log.now) goal cone.now) }
 {
     let mut builder = DerivationBuilder::new(alloc, number_of(log, cone, goal));
     let mut numbers = Vec::new(alloc);
@@ -36,12 +37,12 @@ pub fn derivation_of(
 
 // The hints of a step by their new numbers, in place of what was there.
 fn renumber(log: &Log, cone: &[u64], id: u64, numbers: &mut Vec<u64>) -> Result<(), AllocError>
-    requires backward { IsBackward log.now }
+    requires backward { IsBackward (steps_of log.now) }
     requires from_one { 0 < id }
-    requires within { id ≤ length log.now }
-    requires cone { AreDerivedIds log.now cone.now }
-    requires reached { (h : ℕ) → In h (hints_at log.now id) → IsReached log.now cone.now h }
-    ensures numbers { OnOk result (numbers.new.items ≡ map (number_in log.now cone.now) (hints_at log.now id)) }
+    requires within { id ≤ length (steps_of log.now) }
+    requires cone { AreDerivedIds (steps_of log.now) cone.now }
+    requires reached { (h : ℕ) → In h (hints_at (steps_of log.now) id) → IsReached (steps_of log.now) cone.now h }
+    ensures numbers { OnOk result (numbers.new.items ≡ map (number_in (steps_of log.now) cone.now) (hints_at (steps_of log.now) id)) }
     ensures small { OnOk result (All (λ n. n ≤ max_id) numbers.new.items) }
 {
     numbers.clear();
@@ -54,10 +55,10 @@ fn renumber(log: &Log, cone: &[u64], id: u64, numbers: &mut Vec<u64>) -> Result<
 // The new number of a step. An input has its number among the inputs.
 fn number_of(log: &Log, cone: &[u64], id: u64) -> u64
     requires from_one { 0 < id }
-    requires within { id ≤ length log.now }
-    requires cone { AreDerivedIds log.now cone.now }
-    requires reached { IsReached log.now cone.now id }
-    ensures number { result ≡ number_in log.now cone.now id }
+    requires within { id ≤ length (steps_of log.now) }
+    requires cone { AreDerivedIds (steps_of log.now) cone.now }
+    requires reached { IsReached (steps_of log.now) cone.now id }
+    ensures number { result ≡ number_in (steps_of log.now) cone.now id }
     ensures small { result ≤ max_id }
 {
     if is_input(log, id) {

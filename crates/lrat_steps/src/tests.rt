@@ -101,3 +101,44 @@ fn log_tells_its_steps(rt: HostRuntime) -> Result<(), Fail> {
     }
     Ok(())
 }
+
+#[test]
+fn one_may_be_forgotten_above_two_thousand_and_a_quarter(rt: HostRuntime) -> Result<(), Fail> {
+    let rows: [(u64, u64, bool); 10] = [
+        (2000, 0, false),
+        (2001, 0, true),
+        (2000, 3, false),
+        (2001, 3, true),
+        (2001, 4, false),
+        (2002, 4, true),
+        (2500, 2500, false),
+        (2750, 3000, false),
+        (2751, 3000, true),
+        (3000, 3000, true),
+    ];
+    for (live, learned, wanted) in rows {
+        assert_eq!(rt; may_forget(live, learned), wanted, "{live} of {learned}");
+    }
+    Ok(())
+}
+
+#[test]
+fn mark_takes_no_id_and_leaves_the_step(rt: HostRuntime) -> Result<(), Fail> {
+    let alloc = rt.alloc();
+    let x = Lit::new(1);
+    let y = Lit::new(2);
+    let mut log = Log::new(alloc);
+    log.push(LogStep::Input(&[x, y]))?;
+    log.push(LogStep::Input(&[x, y.negated()]))?;
+    log.push(LogStep::Learned(&[x], &[1, 2]))?;
+    assert_eq!(rt; log.live_learned(), 1);
+    log.forget(3)?;
+    assert_eq!(rt; log.push(LogStep::Input(&[y, x]))?, 4);
+    assert_eq!(rt; log.len(), 4);
+    assert_eq!(rt; log.learned(), 1);
+    assert_eq!(rt; log.live_learned(), 0);
+    assert_eq!(rt; log.kind(3), StepKind::Learned);
+    assert_eq!(rt; log.lits(3).len(), 1);
+    assert_eq!(rt; log.kind(4), StepKind::Input);
+    Ok(())
+}

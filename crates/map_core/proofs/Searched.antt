@@ -1,6 +1,6 @@
 -- What an engine's calls do to the number of learnt clauses.
 use Rattle.std.proofs.Common.{◌≡◌, ℕ, ◌+◌, ◌-◌, ◌≤◌, List, [], ◌∷◌, ◌++◌, refl, ap, arith}
-use Rattle.lrat_steps.specs.Log.{LogStep, Input, Learned, Core, learned_count}
+use Rattle.lrat_steps.specs.Log.{LogStep, Input, Learned, Core, Forgot, learned_count}
 use Rattle.lrat_steps.proofs.PaidLemmas.{left-within, learned-used}
 use Rattle.gm_base.specs.Explored.{Found, block_clause}
 use Rattle.evidence_rec.specs.Seeding.{EngineState, blocked, IsSearched}
@@ -22,3 +22,4 @@ learned_blocked e f = at e.log
     at (Input lits ∷ log) = at log
     at (Learned lits hints ∷ log) = ap (λ n. n + 1) (at log)
     at (Core lits hints ∷ log) = at log
+    at (Forgot id ∷ log) = at log

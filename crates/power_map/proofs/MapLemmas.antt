@@ -1,10 +1,10 @@
 -- What a map keeps, and what its answers say.
 use Rattle.std.proofs.Common.{◌≡◌, ℕ, zero, suc, ◌+◌, ◌-◌, ◌<◌, get_or, Bool, true, false, List, [], ◌∷◌, ◌++◌, map, length, Option, Some, None, sym, ◌∙◌, ap, subst, inl, inr, arith}
-use Rattle.std.specs.Prelude.{ℤ, IfSome}
+use Rattle.std.specs.Prelude.{slice_get, ℤ, IfSome}
 use Rattle.std.specs.List.{list_all}
 use Rattle.std.specs.Option.{option_map_or}
 use Rattle.std.proofs.lemmas.Bool.{false≢true, false_from_ne_true, and_from}
-use Rattle.std.proofs.lemmas.List.{length-map, get_or-map, get_or_append_left, length-append, map_push}
+use Rattle.std.proofs.lemmas.List.{get_or_append_left, length-append, map_push}
 use Rattle.std.proofs.lemmas.Option.{slice_get_within, get_or_from_slice_get, slice_get-get_or}
 use Rattle.gm_base.specs.declared.kind.Side.{Side}
 use Rattle.gm_base.specs.declared.kind.Side.TheVariants.{Up, Down}
@@ -14,14 +14,14 @@ use Rattle.gm_base.specs.Sets.{has, IsSubset, all_groups}
 use Rattle.gm_base.proofs.SetLemmas.{all_groups-has, has-all_groups}
 use Rattle.gm_base.specs.Explored.{Found, block_of, block_clause, groups_true, is_model, is_explored, IsUnexplored, AllExplored}
 use Rattle.sat_base.specs.Derivation.{Derivation, clause_of, all_known, is_derivation}
-use Rattle.sat_base.specs.Database.{StoredClause, known_of}
+use Rattle.sat_base.specs.Database.{known_of}
 use Rattle.sat_base.proofs.Members.{In-append_cases, In-from_map, all_at, all_from, any_from}
-use Rattle.sat_base.proofs.DatabaseLemmas.{get_in, named_at}
+use Rattle.sat_base.proofs.DatabaseLemmas.{get_in}
 use Rattle.gm_base.proofs.ExploredLemmas.{AreWithin, has-groups_true, values_of, length-values_of, groups_true-values_of, models-unexplored, IsUnexplored-from_model, all_explored-no_model}
 use Rattle.sat_base.proofs.FollowsLemmas.{Holds}
-use Rattle.lrat_steps.specs.Log.{LogStep, Input, Core, lits_of, stored, inputs_of, db_of}
+use Rattle.lrat_steps.specs.Log.{LogStep, Input, Core, lits_of, steps_of, inputs_of, db_of}
 use Rattle.lrat_steps.specs.Trimmed.{IsTrimmed}
-use Rattle.lrat_steps.proofs.LogLemmas.{inputs-push_input, honest-input}
+use Rattle.lrat_steps.proofs.LogLemmas.{steps-append, named_step, inputs-push_input, honest-input}
 use Rattle.lrat_steps.proofs.SoundLemmas.{honest-sound}
 use Rattle.cdcl_core.specs.Solver.{Solver}
 use Rattle.cdcl_core.specs.Answers.{IsModel, IsBelow, IsGreatestModel, IsRefuted, IsHonestlyPaid}
@@ -49,15 +49,16 @@ refuted_more : (log more : List LogStep) (id : ℕ) → IsRefuted log [] id → 
 refuted_more log more id r =
     let none : LogStep = Input [] in
     let step : LogStep = Core r.lits r.hints in
-    let lt = slice_get_within log (id - 1) step r.step in
-    let longer = length-append log more in
+    let lt = slice_get_within (steps_of log) (id - 1) step r.step in
+    let longer = length-append (steps_of log) (steps_of more) in
     record {
       lits = r.lits;
       hints = r.hints;
       from_one = r.from_one;
       step =
-          slice_get-get_or (log ++ more) (id - 1) none (omega arith)
-          ∙ ap Some (get_or_append_left log more none (id - 1) lt ∙ get_or_from_slice_get log (id - 1) step none r.step);
+          ap (λ (steps : List LogStep). slice_get steps (id - 1)) (steps-append log more)
+          ∙ slice_get-get_or (steps_of log ++ steps_of more) (id - 1) none (omega arith)
+          ∙ ap Some (get_or_append_left (steps_of log) (steps_of more) none (id - 1) lt ∙ get_or_from_slice_get (steps_of log) (id - 1) step none r.step);
       negated = r.negated;
     }
 
@@ -240,9 +241,9 @@ none_left groups log sides step id h r =
     let blocks = blocks_of (inputs_of log) sides in
     let core : LogStep = Core r.lits r.hints in
     let none : LogStep = Input [] in
-    let there : In core log =
-    subst (λ (s : LogStep). In s log) (get_or_from_slice_get log (id - 1) core none r.step)
-    (get_in log (id - 1) none (slice_get_within log (id - 1) core r.step)) in
+    let there : In core (steps_of log) =
+    subst (λ (s : LogStep). In s (steps_of log)) (get_or_from_slice_get (steps_of log) (id - 1) core none r.step)
+    (get_in (steps_of log) (id - 1) none (slice_get_within (steps_of log) (id - 1) core r.step)) in
     all_explored-no_model groups blocks h.within
     (λ assign len.
     false_from_ne_true (is_model blocks assign)
@@ -258,13 +259,9 @@ none_left groups log sides step id h r =
 named : (log : List LogStep) (id : ℕ) (r : IsRefuted log [] id) → clause_of (known_of (db_of log)) id ≡ Some r.lits
 named log id r =
     let core : LogStep = Core r.lits r.hints in
-    let none : StoredClause = stored (Input []) in
-    let lt = slice_get_within log (id - 1) core r.step in
+    let lt = slice_get_within (steps_of log) (id - 1) core r.step in
     let low = r.from_one in
-    let len = length-map log stored in
-    named_at (db_of log) id none low (omega arith)
-    ∙ ap (λ (c : StoredClause). Some c.lits) (get_or-map stored log (id - 1) (Input []) none lt)
-    ∙ ap (λ (s : LogStep). Some (lits_of s)) (get_or_from_slice_get log (id - 1) core (Input []) r.step)
+    named_step log id low (omega arith) ∙ ap (λ (s : LogStep). Some (lits_of s)) (get_or_from_slice_get (steps_of log) (id - 1) core (Input []) r.step)
 
 pub empty_derived : (groups : ℕ) (log : List LogStep) (sides : List Side) (step : Option ℕ) (id : ℕ) (d : Derivation)
     → IsKept groups log sides step → IsRefuted log [] id

@@ -5,3 +5,4 @@ pub mod SpanLemmas
 pub mod FollowsLemmas
 pub mod Soundness
 pub mod BitLemmas
+pub mod ForgottenLemmas

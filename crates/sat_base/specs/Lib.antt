@@ -6,3 +6,4 @@ pub mod Units
 pub mod Work
 pub mod Spans
 pub mod Bits
+pub mod Forgotten

@@ -16,7 +16,7 @@ returns g c =
     record {
       working = working;
       opening = steps-opening c.take.ensures.step ∙ c.loop-turn.invariant.opening;
-      undecided = ends-post c.args.problem.now _ (λ asked e. cc) c.take.ensures.step;
+      undecided = ends-post c.args.problem.now (g.O.Oracle.state c.loop-turn.oracle).log (λ asked e. cc) c.take.ensures.step;
       ended =
           all-ended c.args.problem.now _ c.take.new.self working
           (ap (λ (w : Worker). w.ended) (steps-me c.take.ensures.step) ∙ ended-take (me c.loop-turn.core) 0 c.take.result c.in_default.not-Job);

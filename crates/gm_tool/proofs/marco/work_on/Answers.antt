@@ -54,7 +54,7 @@ returns-in_default-refill g c =
       working = working-after c.args.problem.now i.working e.spent e.honest (omega arith) c.refill.ensures.step;
       opening = steps-opening c.refill.ensures.step ∙ i.opening;
       undecided =
-          ends-refill c.args.problem.now _
+          ends-refill c.args.problem.now o.log
           (λ _. subst (λ p. Undecided (db_of o.log) (selectors p c.in-Ok-Dry.asked)) (e.spent.problem ∙ i.working.asks_of) told.2)
           c.refill.ensures.step;
       goes_on = λ no. cc;

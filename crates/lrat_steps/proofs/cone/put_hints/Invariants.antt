@@ -1,11 +1,12 @@
 use Rattle.std.proofs.Common.{◌≡◌, take}
 use Rattle.lrat_steps.specs.Cone.{hints_at, PutsDerived}
+use Rattle.lrat_steps.specs.Log.{steps_of}
 use Rattle.lrat_steps.proofs.cone.put_hints.Given as goal
 
 -- the derived ones of the hints up to this one were put in
 abbrev pub invariant-loop-hint : goal.invariant-loop-hint
 invariant-loop-hint l =
     record {
-      items : l.hint-items ≡ hints_at l.log l.id;
-      puts : PutsDerived l.log l.fn.work (take l.hint-index (hints_at l.log l.id)) l.work;
+      items : l.hint-items ≡ hints_at (steps_of l.log) l.id;
+      puts : PutsDerived (steps_of l.log) l.fn.work (take l.hint-index (hints_at (steps_of l.log) l.id)) l.work;
     }

@@ -1,13 +1,14 @@
 use Rattle.std.proofs.Common.{◌≡◌, ◌≤◌, All, map, take}
 use Rattle.sat_base.specs.Derivation.{max_id}
 use Rattle.lrat_steps.specs.Cone.{hints_at, number_in}
+use Rattle.lrat_steps.specs.Log.{steps_of}
 use Rattle.lrat_steps.proofs.renumber.renumber.Given as goal
 
 -- the hints up to this one have their new numbers
 abbrev pub invariant-loop-hint : goal.invariant-loop-hint
 invariant-loop-hint l =
     record {
-      items : l.hint-items ≡ hints_at l.log l.id;
-      numbers : l.numbers.items ≡ map (number_in l.log l.cone) (take l.hint-index l.hint-items);
+      items : l.hint-items ≡ hints_at (steps_of l.log) l.id;
+      numbers : l.numbers.items ≡ map (number_in (steps_of l.log) l.cone) (take l.hint-index l.hint-items);
       small : All (λ n. n ≤ max_id) l.numbers.items;
     }

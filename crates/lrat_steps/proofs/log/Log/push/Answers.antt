@@ -1,10 +1,12 @@
-use Rattle.std.proofs.Common.{◌+◌, ◌∷◌, [], ◌++◌, List, ap, sym, refl, ◌∙◌, arith}
+use Rattle.std.proofs.Common.{◌+◌, ◌∷◌, [], ◌++◌, List, length, ap, sym, refl, ◌∙◌, arith}
 use Rattle.std.specs.Prelude.{ℤ}
-use Rattle.std.proofs.lemmas.List.{length-append}
+use Rattle.std.proofs.lemmas.List.{length-append, length_push}
 use Rattle.lrat_steps.specs.Parts.{step_with}
 use Rattle.lrat_steps.specs.declared.log.StepRecord.{StepRecord}
 use Rattle.lrat_steps.specs.declared.log.Log.TheInside.{Inside}
 use Rattle.lrat_steps.specs.Log.{LogStep}
+use Rattle.lrat_steps.specs.Layout.{log_of}
+use Rattle.lrat_steps.proofs.MarkLemmas.{read}
 use Rattle.lrat_steps.proofs.LayoutLemmas.{IsPushed, log_pushed, laid_out_pushed}
 use Rattle.lrat_steps.proofs.log.Log.push.Goals as goal
 
@@ -28,6 +30,8 @@ new_inside c =
       hints = c.push_hints.new.hints;
       inputs = c.self.inside.inputs + c.counts_of-more_inputs.result.0;
       learned = c.self.inside.learned + c.counts_of-more_inputs.result.1;
+      marks = c.self.inside.marks;
+      live = c.self.inside.live + c.counts_of-more_inputs.result.1;
     }
 
 pushed : (c : goal.After-from) → IsPushed c.self.inside (new_inside c) c.parts_of-parts.result.kind c.parts_of-parts.result.lits.now c.parts_of-parts.result.hints.now (pushed_record c)
@@ -48,6 +52,8 @@ pushed c =
       counted = refl;
       inputs = ap (λ n. c.self.inside.inputs + n) c.counts_of-more_inputs.ensures.inputs;
       learned = ap (λ n. c.self.inside.learned + n) c.counts_of-more_inputs.ensures.learned;
+      live = ap (λ n. c.self.inside.live + n) c.counts_of-more_inputs.ensures.learned;
+      marks = refl;
       few = omega arith;
       one = omega arith;
     }
@@ -62,3 +68,12 @@ returns-clause-ok c =
     log_pushed c.self.inside (new_inside c) c.parts_of-parts.result.kind c.parts_of-parts.result.lits.now c.parts_of-parts.result.hints.now (pushed_record c) c.self.invariant (pushed c)
     ∙ ap (λ (log : List LogStep). log ++ step_with c.parts_of-parts.result.kind c.parts_of-parts.result.lits.now c.parts_of-parts.result.hints.now ∷ []) c.self.view_is
     ∙ ap (λ (s : LogStep). c.args.self.now ++ s ∷ []) (sym c.parts_of-parts.ensures.step)
+
+-- a mark has no id, so the last id is the number of records
+pub returns-clause-id : goal.returns-clause-id
+returns-clause-id c =
+    let count = (read (new_inside c) (log_of (new_inside c)) refl).count in
+    let one = length_push c.self.inside.steps.items (pushed_record c) in
+    let all = ap length (pushed c).steps in
+    let id = c.in_ok-id.ensures in
+    omega arith

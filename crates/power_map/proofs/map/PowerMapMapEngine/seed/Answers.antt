@@ -4,6 +4,16 @@ use Rattle.lrat_steps.specs.Log.{inputs_of}
 use Rattle.power_map.proofs.MapLemmas.{has_models, kept_after, seed_found, none_left}
 use Rattle.power_map.proofs.map.PowerMapMapEngine.seed.Goals as goal
 
+pub invariant_of-self : goal.invariant_of-self
+invariant_of-self c =
+    let a = c.self.inside in
+    record {
+      kept =
+          kept_after a.solver c.solve.new.self c.args.purse.now.left c.solve.new.purse.left a.sides.items a.empty
+          c.self.invariant.kept c.in_err-assign.ensures.paid c.in_err-assign.ensures.vars;
+      true_first = c.in_err-assign.ensures.true_first ∙ c.self.invariant.true_first;
+    }
+
 pub returns-in_err-assign-clause-models : goal.returns-in_err-assign-clause-models
 returns-in_err-assign-clause-models c =
     let a = c.self.inside in

@@ -1,0 +1,169 @@
+-- Lemmas on marks that lie apart from the steps: what one more step and one more mark change, and what is read of the steps.
+use Rattle.std.proofs.Common.{◌≡◌, ℕ, ◌+◌, ◌-◌, ◌<◌, ◌≤◌, List, [], ◌∷◌, ◌++◌, map, length, get_or, take, drop, refl, sym, ◌∙◌, ap, ap₂, subst, arith, append_assoc}
+use Rattle.std.specs.Prelude.{ℤ, slice_range}
+use Rattle.std.proofs.lemmas.List.{take-append-le, drop-append-le, take_all, drop_all, length-drop, length-map, get_or-map, take-append-drop}
+use Rattle.lrat_steps.specs.declared.step.StepKind.{StepKind}
+use Rattle.lrat_steps.specs.declared.step.StepKind.TheVariants as step_kind
+use Rattle.lrat_steps.specs.declared.log.StepRecord.{StepRecord}
+use Rattle.lrat_steps.specs.declared.log.Mark.{Mark}
+use Rattle.lrat_steps.specs.declared.log.Log.TheInside.{Inside}
+use Rattle.lrat_steps.specs.Log.{LogStep, Input, Learned, Core, Forgot, lits_of, hints_of, kind_of, steps_of, step_in, step_at, inputs_of, learned_count}
+use Rattle.lrat_steps.specs.Parts.{step_with}
+use Rattle.lrat_steps.specs.Layout.{step_of_record, all_steps, woven, log_of, IsRecord, AreInOrder, IsLaidOut}
+use Rattle.lrat_steps.specs.Cone.{inputs_up_to}
+use Rattle.lrat_steps.proofs.LogLemmas.{steps-append}
+
+order_ends : (done last : ℕ) (marks : List Mark) → AreInOrder done last marks → done ≤ last
+order_ends done last [] h = h
+order_ends done last (m ∷ marks) h = let first = h.0 in let rest = order_ends m.steps last marks h.1 in omega arith
+
+pub order_more : (done last more : ℕ) (marks : List Mark) → AreInOrder done last marks → last ≤ more → AreInOrder done more marks
+order_more done last more [] h le = omega arith
+order_more done last more (m ∷ marks) h le = (h.0, order_more m.steps last more marks h.1 le)
+
+pub order_push : (done last : ℕ) (marks : List Mark) (m : Mark) → AreInOrder done last marks → m.steps ≡ last → AreInOrder done last (marks ++ m ∷ [])
+order_push done last [] m h is = (omega arith, omega arith)
+order_push done last (x ∷ marks) m h is = (h.0, order_push x.steps last marks m h.1 is)
+
+-- a step comes behind all marks
+pub woven-push_step : (done : ℕ) (marks : List Mark) (steps : List LogStep) (s : LogStep) → AreInOrder done (done + length steps) marks
+    → woven done marks (steps ++ s ∷ []) ≡ woven done marks steps ++ s ∷ []
+woven-push_step done [] steps s h = refl
+woven-push_step done (m ∷ marks) steps s h =
+    let k = m.steps - done in
+    let low = h.0 in
+    let high = order_ends m.steps (done + length steps) marks h.1 in
+    let short : k ≤ length steps = omega arith in
+    let left = length-drop k steps in
+    let same : done + length steps ≡ m.steps + length (drop k steps) = omega arith in
+    ap₂ (λ (first rest : List LogStep). first ++ Forgot m.id ∷ woven m.steps marks rest) (take-append-le k steps (s ∷ []) short) (drop-append-le k steps (s ∷ []) short)
+    ∙ ap (λ (rest : List LogStep). take k steps ++ Forgot m.id ∷ rest)
+    (woven-push_step m.steps marks (drop k steps) s (subst (λ n. AreInOrder m.steps n marks) same h.1))
+    ∙ sym (append_assoc (take k steps) (Forgot m.id ∷ woven m.steps marks (drop k steps)) (s ∷ []))
+
+-- and a mark behind all steps
+pub woven-push_mark : (done : ℕ) (marks : List Mark) (steps : List LogStep) (m : Mark) → AreInOrder done (done + length steps) marks → m.steps ≡ done + length steps
+    → woven done (marks ++ m ∷ []) steps ≡ woven done marks steps ++ Forgot m.id ∷ []
+woven-push_mark done [] steps m h is =
+    let past : length steps ≤ m.steps - done = omega arith in
+    ap₂ (λ (first rest : List LogStep). first ++ Forgot m.id ∷ rest) (take_all (m.steps - done) steps past) (drop_all (m.steps - done) steps past)
+woven-push_mark done (x ∷ marks) steps m h is =
+    let k = x.steps - done in
+    let low = h.0 in
+    let high = order_ends x.steps (done + length steps) marks h.1 in
+    let left = length-drop k steps in
+    let same : done + length steps ≡ x.steps + length (drop k steps) = omega arith in
+    ap (λ (rest : List LogStep). take k steps ++ Forgot x.id ∷ rest)
+    (woven-push_mark x.steps marks (drop k steps) m (subst (λ n. AreInOrder x.steps n marks) same h.1) (is ∙ same))
+    ∙ sym (append_assoc (take k steps) (Forgot x.id ∷ woven x.steps marks (drop k steps)) (Forgot m.id ∷ []))
+
+-- without the marks, the steps are as they lie
+steps_woven : (done : ℕ) (marks : List Mark) (steps : List LogStep) → steps_of (woven done marks steps) ≡ steps_of steps
+steps_woven done [] steps = refl
+steps_woven done (m ∷ marks) steps =
+    let k = m.steps - done in
+    steps-append (take k steps) (Forgot m.id ∷ woven m.steps marks (drop k steps))
+    ∙ ap (λ (rest : List LogStep). steps_of (take k steps) ++ rest) (steps_woven m.steps marks (drop k steps))
+    ∙ sym (steps-append (take k steps) (drop k steps))
+    ∙ ap steps_of (take-append-drop k steps)
+
+step_alone : (kind : StepKind) (lits : List ℤ) (hints : List ℕ) (rest : List LogStep) → steps_of (step_with kind lits hints ∷ rest) ≡ step_with kind lits hints ∷ steps_of rest
+step_alone step_kind.Input lits hints rest = refl
+step_alone step_kind.Learned lits hints rest = refl
+step_alone step_kind.Core lits hints rest = refl
+
+no_marks : (lits : List ℤ) (hints : List ℕ) (records : List StepRecord) → steps_of (map (step_of_record lits hints) records) ≡ map (step_of_record lits hints) records
+no_marks lits hints [] = refl
+no_marks lits hints (r ∷ records) =
+    step_alone r.kind _ _ (map (step_of_record lits hints) records)
+    ∙ ap (λ (rest : List LogStep). step_of_record lits hints r ∷ rest) (no_marks lits hints records)
+
+pub steps_laid : (log : Inside) → steps_of (log_of log) ≡ all_steps log
+steps_laid log = steps_woven 0 log.marks.items (all_steps log) ∙ no_marks log.lits.items log.hints.items log.steps.items
+
+-- marks are neither inputs nor learnt clauses
+pub inputs_of-steps : (log : List LogStep) → inputs_of (steps_of log) ≡ inputs_of log
+inputs_of-steps [] = refl
+inputs_of-steps (Input c ∷ log) = ap (λ (cs : List (List ℤ)). c ∷ cs) (inputs_of-steps log)
+inputs_of-steps (Learned c h ∷ log) = inputs_of-steps log
+inputs_of-steps (Core c h ∷ log) = inputs_of-steps log
+inputs_of-steps (Forgot id ∷ log) = inputs_of-steps log
+
+pub learned_count-steps : (log : List LogStep) → learned_count (steps_of log) ≡ learned_count log
+learned_count-steps [] = refl
+learned_count-steps (Input c ∷ log) = learned_count-steps log
+learned_count-steps (Learned c h ∷ log) = ap (λ n. n + 1) (learned_count-steps log)
+learned_count-steps (Core c h ∷ log) = learned_count-steps log
+learned_count-steps (Forgot id ∷ log) = learned_count-steps log
+
+-- what a log that is seen as `seen` has
+pub record IsRead (log : Inside) (seen : List LogStep) : Type 0 where
+  pub steps : steps_of seen ≡ all_steps log
+  pub count : length (steps_of seen) ≡ length log.steps.items
+  pub inputs : inputs_of seen ≡ inputs_of (all_steps log)
+  pub learned : learned_count seen ≡ learned_count (all_steps log)
+
+pub read : (log : Inside) (seen : List LogStep) → log_of log ≡ seen → IsRead log seen
+read log seen is =
+    let steps : steps_of seen ≡ all_steps log = ap steps_of (sym is) ∙ steps_laid log in
+    record {
+      steps = steps;
+      count = ap length steps ∙ length-map log.steps.items (step_of_record log.lits.items log.hints.items);
+      inputs = sym (inputs_of-steps seen) ∙ ap inputs_of steps;
+      learned = sym (learned_count-steps seen) ∙ ap learned_count steps;
+    }
+
+-- the record of an id
+
+kind-with : (kind : StepKind) (lits : List ℤ) (hints : List ℕ) → kind_of (step_with kind lits hints) ≡ kind
+kind-with step_kind.Input lits hints = refl
+kind-with step_kind.Learned lits hints = refl
+kind-with step_kind.Core lits hints = refl
+
+lits-with : (kind : StepKind) (lits : List ℤ) (hints : List ℕ) → lits_of (step_with kind lits hints) ≡ lits
+lits-with step_kind.Input lits hints = refl
+lits-with step_kind.Learned lits hints = refl
+lits-with step_kind.Core lits hints = refl
+
+hints-with : (kind : StepKind) (lits : List ℤ) (hints : List ℕ) → (kind ≡ step_kind.Input → hints ≡ []) → hints_of (step_with kind lits hints) ≡ hints
+hints-with step_kind.Input lits hints none = sym (none refl)
+hints-with step_kind.Learned lits hints none = refl
+hints-with step_kind.Core lits hints none = refl
+
+-- the record `r` is that of the step of an id
+pub record IsRecordAt (log : Inside) (seen : List LogStep) (id : ℕ) (r : StepRecord) : Type 0 where
+  pub place : id - 1 < length log.steps.items
+  pub record_is : IsRecord (length log.lits.items) (length log.hints.items) r
+  pub kind : r.kind ≡ kind_of (step_at seen id)
+  pub lits : slice_range log.lits.items r.lits_from r.lits_to ≡ lits_of (step_at seen id)
+  pub hints : slice_range log.hints.items r.hints_from r.hints_to ≡ hints_of (step_at seen id)
+  pub inputs : r.inputs ≡ inputs_up_to (steps_of seen) id
+
+pub place_at_id : (log : Inside) (seen : List LogStep) (id : ℕ) → log_of log ≡ seen → 0 < id → id ≤ length (steps_of seen) → id - 1 < length log.steps.items
+place_at_id log seen id is low high = let count = (read log seen is).count in omega arith
+
+pub record_at : (log : Inside) (seen : List LogStep) (id : ℕ) (r : StepRecord) → IsLaidOut log → log_of log ≡ seen → 0 < id → id ≤ length (steps_of seen) → r ≡ get_or log.steps.items (id - 1) r
+    → IsRecordAt log seen id r
+record_at log seen id r laid is low high got =
+    let lt : id - 1 < length log.steps.items = place_at_id log seen id is low high in
+    let steps = (read log seen is).steps in
+    let found : IsRecord (length log.lits.items) (length log.hints.items) r = subst (IsRecord (length log.lits.items) (length log.hints.items)) (sym got) (laid.records (id - 1) r lt) in
+    let s = step_of_record log.lits.items log.hints.items r in
+    let step : step_at seen id ≡ s =
+    ap (λ (all : List LogStep). step_in all id) steps
+    ∙ get_or-map (step_of_record log.lits.items log.hints.items) log.steps.items (id - 1) r (Input []) lt
+    ∙ ap (step_of_record log.lits.items log.hints.items) (sym got) in
+    let next : id - 1 + 1 ≡ id = omega arith in
+    let counted : r.inputs ≡ length (inputs_of (take (id - 1 + 1) (all_steps log))) = ap (λ (k : StepRecord). k.inputs) got ∙ laid.counted (id - 1) r lt in
+    record {
+      place = lt;
+      record_is = found;
+      kind = sym (kind-with r.kind _ _) ∙ ap kind_of (sym step);
+      lits = sym (lits-with r.kind (slice_range log.lits.items r.lits_from r.lits_to) (slice_range log.hints.items r.hints_from r.hints_to)) ∙ ap lits_of (sym step);
+      hints = sym (hints-with r.kind (slice_range log.lits.items r.lits_from r.lits_to) (slice_range log.hints.items r.hints_from r.hints_to) (λ input. no_range log.hints.items r.hints_from r.hints_to (found.no_hints input)))
+          ∙ ap hints_of (sym step);
+      inputs = counted ∙ ap₂ (λ n (all : List LogStep). length (inputs_of (take n all))) next (sym steps);
+    }
+  where
+    no_range : (xs : List ℕ) (from to : ℕ) → from ≡ to → slice_range xs from to ≡ []
+    no_range xs from to same = let none : to - from ≡ 0 = omega arith in ap (λ n. take n (drop from xs)) none
