@@ -2,7 +2,8 @@
 //!
 //! The literals of all clauses stand one clause after the other in one list, and a small record of each clause says where
 //! its own begin and end. So a visit to a clause touches one record and one stretch of literals, and an id is a place:
-//! it is found without a search. A clause that is not live is kept because hints name it; propagation passes it by.
+//! it is found without a search. A clause that is not live is kept because hints name it; propagation passes it by. So is
+//! one that is forgotten: only that it is live changes.
 //!
 //! A clause may watch two literals. The clauses that watch a literal form a list, which is threaded through the records:
 //! each record has a link for each of its two watched literals, and a table by literal has the first and the last clause
@@ -13,6 +14,7 @@
 ghost use Rattle.std.specs.Prelude.{◌≡◌, ℕ, ℤ, ◌+◌, ◌<◌, ◌≤◌, ◌^◌, ◌++◌, ◌∷◌, [], None, length, IfOk, OnOk, OnErr, IsOk};
 ghost use Rattle.sat_base.specs.Literals.{AreLiterals};
 ghost use Rattle.sat_base.specs.Database.{AreOver};
+ghost use Rattle.sat_base.specs.Forgotten.{forgotten};
 ghost use Rattle.clause_store.specs.Clauses.{clause_at, IsId, HasRoomFor};
 ghost use Rattle.clause_store.specs.Links.{watched_at, next_of, head_of, tail_of, KeepsLinks};
 
@@ -175,6 +177,17 @@ impl Store {
     {
         let record = &self.records[(id - 1) as usize];
         &self.lits[record.start as usize..record.end as usize]
+    }
+
+    /// Has a clause be live no more. Its literals stay, since hints may name it, and so do what it watches and its places
+    /// in lists.
+    pub fn forget(&mut self, id: u64)
+        requires { IsId self.old.clauses id }
+        ensures clauses { self.new.clauses ≡ forgotten self.old.clauses id }
+        ensures rest { self.new ≡ record self.old { clauses = self.new.clauses } }
+    {
+        let record = &mut self.records[(id - 1) as usize];
+        record.live = false;
     }
 
     /// Whether a clause is live.

@@ -26,6 +26,22 @@ fn ids_are_places_from_one(rt: HostRuntime) -> Result<(), AllocError> {
 }
 
 #[test]
+fn forgotten_clause_keeps_its_literals_and_watches(rt: HostRuntime) -> Result<(), AllocError> {
+    let alloc = rt.alloc();
+    let mut store = Store::new(alloc, 3)?;
+    let first = store.add(&[Lit::new(1), Lit::new(-3)], true)?;
+    let second = store.add(&[Lit::new(2), Lit::new(3)], true)?;
+    store.set_watched(first, Some((Lit::new(1), Lit::new(-3))));
+    store.forget(first);
+    assert!(rt; !store.is_live(first));
+    assert!(rt; store.is_live(second));
+    assert!(rt; store.lits(first).len() == 2);
+    assert!(rt; store.lits(first)[1] == Lit::new(-3));
+    assert!(rt; store.watched(first) == Some((Lit::new(1), Lit::new(-3))));
+    Ok(())
+}
+
+#[test]
 fn room_is_for_so_many_adds(rt: HostRuntime) -> Result<(), AllocError> {
     let alloc = rt.alloc();
     let mut store = Store::new(alloc, 2)?;

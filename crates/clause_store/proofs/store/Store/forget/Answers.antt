@@ -1,0 +1,39 @@
+use Rattle.std.proofs.Common.{◌≡◌, ◌≤◌, ◌<◌, ◌-◌, List, [], map, length, get_or, set, false, arith, subst, sym, ◌∙◌, ap, refl}
+use Rattle.std.proofs.lemmas.List.{length-map, get_or-map, map-set}
+use Rattle.sat_base.specs.Database.{StoredClause}
+use Rattle.sat_base.specs.Forgotten.{not_live, forgotten}
+use Rattle.clause_store.specs.Clauses.{Clauses}
+use Rattle.clause_store.specs.declared.store.ClauseRecord.{ClauseRecord}
+use Rattle.clause_store.specs.Inner.{store_of, cut_by, watched_by}
+use Rattle.clause_store.proofs.NodeLemmas.{map-kept}
+use Rattle.clause_store.proofs.store.Store.forget.Goals as goal
+
+-- the record cuts the same literals
+pub returns-clause-clauses : goal.returns-clause-clauses
+returns-clause-clauses c =
+    let a = c.self.inside in
+    let r = c.index_mut-record.result.now in
+    let records = a.records.items in
+    let low = c.requires.from_one in
+    let le : c.args.id ≤ length (store_of a).clauses = subst (λ (s : Clauses). c.args.id ≤ length s.clauses) (sym c.self.view_is) c.requires.within in
+    let within : c.args.id - 1 < length records = omega (arith, le, length-map records (cut_by a.lits.items)) in
+    let y : ClauseRecord = record { start = r.start; end = r.end; watched = r.watched; next = r.next; third = r.third; live = false; is_watched = r.is_watched } in
+    let none : StoredClause = record { lits = []; live = false } in
+    let old : get_or (map (cut_by a.lits.items) records) (c.args.id - 1) none ≡ cut_by a.lits.items r =
+    get_or-map (cut_by a.lits.items) records (c.args.id - 1) r none within ∙ ap (cut_by a.lits.items) (sym c.index_mut-record.ensures.value) in
+    rw (← c.self.view_is)
+    (map-set (cut_by a.lits.items) records (c.args.id - 1) y
+    ∙ ap (λ (k : StoredClause). set (map (cut_by a.lits.items) records) (c.args.id - 1) (not_live k)) (sym old))
+
+-- and keeps what it watches, and its links
+pub returns-clause-rest : goal.returns-clause-rest
+returns-clause-rest c =
+    let a = c.self.inside in
+    let r = c.index_mut-record.result.now in
+    let records = a.records.items in
+    let y : ClauseRecord = record { start = r.start; end = r.end; watched = r.watched; next = r.next; third = r.third; live = false; is_watched = r.is_watched } in
+    rw (
+      ← c.self.view_is,
+      map-kept watched_by records y r (c.args.id - 1) c.index_mut-record.ensures.value refl,
+      map-kept (λ x. x.next) records y r (c.args.id - 1) c.index_mut-record.ensures.value refl,
+    ) refl
