@@ -1,6 +1,6 @@
 -- A clause that comes to the lists of two of its literals.
-use Rattle.std.proofs.Common.{◌≡◌, ◌≢◌, ◌⊎◌, ℕ, zero, suc, ◌+◌, ◌-◌, ◌*◌, ◌/◌, ◌%◌, ◌<◌, ◌≤◌, List, [], ◌∷◌, ◌++◌, length, Option, Some, None, refl, sym, ◌∙◌, ap, subst, inl, inr, arith, true}
-use Rattle.std.specs.Prelude.{ℤ, neg_ℤ, pos}
+use Rattle.std.proofs.Common.{◌≡◌, ◌≢◌, ◌⊎◌, ℕ, ◌+◌, ◌-◌, ◌*◌, ◌/◌, ◌<◌, List, [], ◌∷◌, ◌++◌, Option, Some, None, refl, sym, ◌∙◌, ap, subst, inl, inr, arith, true}
+use Rattle.std.specs.Prelude.{ℤ}
 use Rattle.std.proofs.lemmas.Bool.{cases_eq}
 use Rattle.sat_base.specs.Members.{In}
 use Rattle.sat_base.specs.Literals.{IsLiteral}
@@ -8,16 +8,16 @@ use Rattle.sat_base.specs.Database.{StoredClause, AreOver}
 use Rattle.sat_base.proofs.Members.{In-append_left, In-append_right, In-append_cases}
 use Rattle.sat_base.proofs.DatabaseLemmas.{get_in}
 use Rattle.clause_store.specs.Clauses.{Clauses, clause_at, no_clause, IsId}
-use Rattle.clause_store.specs.Links.{watched_at, watch_of, next_of, head_of, tail_of, literal_by}
+use Rattle.clause_store.specs.Links.{watched_at, watch_of, tail_of}
 use Rattle.trail_book.specs.Trail.{Trail}
-use Rattle.propagate.specs.Lists.{IsPair, IsApart, IsChain, last_of}
-use Rattle.propagate.specs.Watches.{IsLinked, AreWatchesOf, IsListed, IsGuarded, IsWatch, AreWatches, IsSettled, IsKeptBut, IsKept, KeepsClauses}
+use Rattle.propagate.specs.Lists.{last_of}
+use Rattle.propagate.specs.Watches.{IsLinked, IsListed, IsGuarded, IsWatch, AreWatches, IsSettled, IsKeptBut, IsKept, KeepsClauses}
 use Rattle.propagate.specs.Walk.{IsNode, Appends}
 use Rattle.propagate.proofs.ListLemmas.{AreNodes, last_in, appended, appended_other}
 use Rattle.propagate.proofs.GrowsLemmas.{literal_in}
-use Rattle.propagate.proofs.WalkLemmas.{not_zero, is_watch, node_of_last, are_nodes}
+use Rattle.propagate.proofs.WalkLemmas.{is_watch, node_of_last, are_nodes}
 use Rattle.propagate.proofs.MoveLemmas.{cases_literal}
-use Rattle.propagate.proofs.StepLemmas.{tail_ok, tail_node, watch_rest, watched_rest, watch_first, watch_second, watch_other}
+use Rattle.propagate.proofs.StepLemmas.{tail_node, watch_rest, watched_rest, watch_first, watch_second, watch_other}
 
 -- a literal of a clause is over the variables
 pub literal_of_clause : (vars : ℕ) (db : List StoredClause) (id : ℕ) (lit : ℤ) → AreOver vars db → IsId db id → In lit (clause_at db id).lits → IsLiteral vars lit

@@ -1,18 +1,17 @@
 -- Where all values have been propagated, no live clause is falsified or unit.
-use Rattle.std.proofs.Common.{◌≡◌, ◌≢◌, ◌⊎◌, ℕ, zero, suc, ◌+◌, ◌-◌, ◌*◌, ◌/◌, ◌%◌, ◌<◌, ◌≤◌, List, [], ◌∷◌, length, Option, Some, None, refl, sym, ◌∙◌, ap, subst, inl, inr, arith, true}
-use Rattle.std.specs.Prelude.{ℤ, neg_ℤ, pos}
+use Rattle.std.proofs.Common.{◌≡◌, ◌⊎◌, ℕ, zero, suc, ◌+◌, ◌-◌, ◌*◌, ◌/◌, ◌<◌, List, [], ◌∷◌, length, Option, Some, None, refl, sym, ◌∙◌, ap, subst, inl, inr, arith, true}
+use Rattle.std.specs.Prelude.{ℤ, neg_ℤ}
 use Rattle.sat_base.specs.Members.{In}
-use Rattle.sat_base.specs.Literals.{IsLiteral}
-use Rattle.sat_base.specs.Database.{StoredClause, IsLive}
+use Rattle.sat_base.specs.Database.{StoredClause}
 use Rattle.sat_base.specs.Units.{IsLoose, IsFixpoint, IsFalsified}
 use Rattle.clause_store.specs.Clauses.{Clauses, clause_at, IsId}
-use Rattle.clause_store.specs.Links.{watched_at, watch_of, literal_by}
+use Rattle.clause_store.specs.Links.{watched_at, watch_of}
 use Rattle.trail_book.specs.declared.entry.Entry.{Entry}
-use Rattle.trail_book.specs.Trail.{Trail, trues, top, keep, oldest}
+use Rattle.trail_book.specs.Trail.{Trail, trues, top}
 use Rattle.trail_book.proofs.TrailLemmas.{keep-whole, lit-keep_in}
 use Rattle.trail_book.proofs.PlaceLemmas.{oldest_whole}
 use Rattle.propagate.specs.Lists.{IsPair}
-use Rattle.propagate.specs.Watches.{IsWatch, IsKeptBut, IsKept}
+use Rattle.propagate.specs.Watches.{IsWatch, IsKept}
 use Rattle.propagate.proofs.WalkLemmas.{other_watch}
 use Rattle.propagate.proofs.MoveLemmas.{cases_literal}
 use Rattle.propagate.proofs.StepLemmas.{falsified_at}

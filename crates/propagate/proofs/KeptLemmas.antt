@@ -1,19 +1,19 @@
 -- What is kept of the watches where the trail grows or goes back, and where a clause comes.
-use Rattle.std.proofs.Common.{◌≡◌, ◌≢◌, ◌⊎◌, ℕ, zero, suc, ◌+◌, ◌-◌, ◌/◌, ◌%◌, ◌<◌, ◌≤◌, List, [], ◌∷◌, ◌++◌, length, map, min, Option, Some, None, refl, sym, ◌∙◌, ap, subst, inl, inr, arith, get_or}
-use Rattle.std.specs.Prelude.{ℤ, neg_ℤ, pos, true, false}
-use Rattle.std.proofs.lemmas.Bool.{cases_lt, cases_eq, false≢true}
-use Rattle.std.proofs.lemmas.List.{get_or_append_left, get_or_push, length_push, length-map}
+use Rattle.std.proofs.Common.{◌≡◌, ◌≢◌, ℕ, ◌-◌, ◌/◌, ◌%◌, ◌<◌, ◌≤◌, List, [], ◌∷◌, ◌++◌, length, map, min, Option, Some, None, refl, sym, ◌∙◌, ap, subst, inl, inr, arith, get_or}
+use Rattle.std.specs.Prelude.{ℤ, neg_ℤ, true}
+use Rattle.std.proofs.lemmas.Bool.{cases_lt, cases_eq}
+use Rattle.std.proofs.lemmas.List.{get_or_append_left, get_or_push, length_push}
 use Rattle.sat_base.specs.Members.{In}
 use Rattle.sat_base.specs.Literals.{IsLiteral}
 use Rattle.sat_base.specs.Database.{StoredClause}
 use Rattle.clause_store.specs.Clauses.{Clauses, clause_at, no_clause, IsId}
-use Rattle.clause_store.specs.Links.{watched_at, watch_of, next_of, head_of, tail_of, row_of, literal_by, KeepsLinks}
+use Rattle.clause_store.specs.Links.{watch_of, next_of, head_of, tail_of, row_of, literal_by, KeepsLinks}
 use Rattle.trail_book.specs.declared.entry.Entry.{Entry}
 use Rattle.trail_book.specs.Trail.{Trail, trues, top, keep, oldest, with_unit}
 use Rattle.trail_book.proofs.TrailLemmas.{keep-whole, keep-skip, top-keep, trues-with_unit, top-with_unit, length-with_unit, keep-with_unit, oldest-with_unit}
 use Rattle.trail_book.proofs.PlaceLemmas.{oldest_skip}
-use Rattle.propagate.specs.Lists.{IsPair, IsChain}
-use Rattle.propagate.specs.Watches.{IsLinked, AreWatchesOf, IsListed, IsGuarded, IsWatch, AreWatches, IsSettled, IsFalseAtRoot, IsKeptBut, IsKept}
+use Rattle.propagate.specs.Lists.{IsChain}
+use Rattle.propagate.specs.Watches.{IsListed, IsGuarded, IsWatch, IsSettled, IsFalseAtRoot, IsKeptBut, IsKept}
 use Rattle.propagate.proofs.ListLemmas.{chain_same}
 use Rattle.propagate.proofs.LevelLemmas.{oldest_more, oldest_in, keep_shorter, oldest_keep, keep_lower, keep_higher, keep_push, keep_pop}
 

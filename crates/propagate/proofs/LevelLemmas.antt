@@ -1,13 +1,13 @@
 -- The oldest entries of a trail, and those up to a level.
-use Rattle.std.proofs.Common.{◌≡◌, ◌⊎◌, ℕ, zero, suc, ◌+◌, ◌-◌, ◌<◌, ◌≤◌, List, [], ◌∷◌, length, drop, min, Option, Some, None, refl, sym, ◌∙◌, ap, subst, inl, inr, arith}
+use Rattle.std.proofs.Common.{◌≡◌, ℕ, zero, suc, ◌+◌, ◌-◌, ◌<◌, ◌≤◌, List, [], ◌∷◌, length, drop, refl, sym, ◌∙◌, ap, subst, inl, inr, arith}
 use Rattle.std.specs.Prelude.{ℤ, pos, negsuc, neg_ℤ}
 use Rattle.sat_base.specs.Literals.{IsLiteral, var_of}
 use Rattle.std.proofs.lemmas.Bool.{cases_lt}
 use Rattle.std.proofs.lemmas.Bool.Decides.{leb_tells}
 use Rattle.sat_base.specs.Members.{In}
 use Rattle.trail_book.specs.declared.entry.Entry.{Entry}
-use Rattle.trail_book.specs.Trail.{trues, top, keep, oldest, level_after, IsTrail}
-use Rattle.trail_book.proofs.TrailLemmas.{keep-whole, keep-skip, top-keep, lit-keep_in, lit-keep_more, level_after-at_least}
+use Rattle.trail_book.specs.Trail.{trues, top, keep, oldest, IsTrail}
+use Rattle.trail_book.proofs.TrailLemmas.{keep-whole, keep-skip, top-keep, lit-keep_in, level_after-at_least}
 use Rattle.trail_book.proofs.PlaceLemmas.{oldest_skip, oldest_whole}
 
 -- ---- the oldest entries

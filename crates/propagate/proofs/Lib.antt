@@ -11,3 +11,4 @@ pub mod FixpointLemmas
 pub mod EntranceLemmas
 pub mod OpenLemmas
 pub mod NewLemmas
+pub mod RebuildLemmas

@@ -1,6 +1,6 @@
 -- A watch that moves from the list of a false literal to that of another.
-use Rattle.std.proofs.Common.{◌≡◌, ◌≢◌, ◌⊎◌, ℕ, zero, suc, ◌+◌, ◌-◌, ◌*◌, ◌/◌, ◌%◌, ◌<◌, ◌≤◌, List, [], ◌∷◌, ◌++◌, length, Option, Some, None, refl, sym, ◌∙◌, ap, subst, inl, inr, arith, true}
-use Rattle.std.specs.Prelude.{ℤ, neg_ℤ, pos, Decides, Bool, false}
+use Rattle.std.proofs.Common.{◌≡◌, ◌≢◌, ◌⊎◌, ℕ, ◌/◌, List, [], ◌∷◌, ◌++◌, refl, sym, ◌∙◌, ap, subst, inl, inr, arith, true}
+use Rattle.std.specs.Prelude.{ℤ, neg_ℤ, Decides, Bool, false}
 use Rattle.std.specs.Ordering.{int_eq}
 use Rattle.std.proofs.lemmas.Bool.{cases_eq, false≢true}
 use Rattle.std.proofs.lemmas.Bool.Decides.{Decides-int_eq}
@@ -8,16 +8,15 @@ use Rattle.sat_base.specs.Members.{In}
 use Rattle.sat_base.specs.Literals.{IsLiteral}
 use Rattle.sat_base.proofs.Members.{In-append_left, In-append_right, In-append_cases}
 use Rattle.clause_store.specs.Clauses.{Clauses, clause_at, IsId}
-use Rattle.clause_store.specs.Links.{watched_at, watch_of, next_of, head_of, tail_of, literal_by}
+use Rattle.clause_store.specs.Links.{watch_of, next_of, head_of}
 use Rattle.trail_book.specs.declared.entry.Entry.{Entry}
-use Rattle.trail_book.specs.Trail.{Trail, trues, top, keep, oldest, IsTrail}
+use Rattle.trail_book.specs.Trail.{trues, keep, oldest, IsTrail}
 use Rattle.trail_book.proofs.TrailLemmas.{trail_consistent, lit-keep_in}
-use Rattle.propagate.specs.Lists.{IsPair, IsApart, IsChain, last_of}
-use Rattle.propagate.specs.Watches.{IsLinked, AreWatchesOf, IsListed, IsGuarded, IsWatch, AreWatches, IsKeptBut, IsKept}
-use Rattle.propagate.specs.Walk.{IsNode, Unlinks, Appends, IsWalk, CanWatch}
+use Rattle.propagate.specs.Lists.{IsPair, IsChain, last_of}
+use Rattle.propagate.specs.Watches.{IsLinked, AreWatchesOf, IsListed, IsWatch, AreWatches}
+use Rattle.propagate.specs.Walk.{Unlinks, Appends}
 use Rattle.propagate.proofs.ListLemmas.{AreNodes, last_in, in_with, in_without, apart_here, chain_same, chain_behind, last_before, unlinked, unlinked_other, appended, appended_other}
-use Rattle.propagate.proofs.LevelLemmas.{oldest_in}
-use Rattle.propagate.proofs.WalkLemmas.{not_zero, is_watch, node_of, node_of_last, are_nodes}
+use Rattle.propagate.proofs.WalkLemmas.{is_watch, are_nodes}
 
 from_test : {P : Type 0} → (b : Bool) → Decides b P → P ⊎ (P → ⊥)
 from_test true d = inl (d.0 refl)

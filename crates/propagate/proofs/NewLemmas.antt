@@ -1,10 +1,10 @@
 -- A clause that has just come, and the store and the trail at first.
-use Rattle.std.proofs.Common.{◌≡◌, ◌≢◌, ℕ, ◌+◌, ◌*◌, ◌/◌, ◌%◌, ◌<◌, ◌≤◌, List, [], ◌∷◌, ◌++◌, Option, Some, None, true, false, length, refl, sym, ◌∙◌, ap, arith}
+use Rattle.std.proofs.Common.{◌≡◌, ℕ, ◌*◌, ◌/◌, ◌%◌, ◌<◌, List, [], ◌∷◌, ◌++◌, Option, Some, None, true, false, length, refl, sym, ◌∙◌, ap, arith}
 use Rattle.std.specs.Prelude.{ℤ}
 use Rattle.std.proofs.lemmas.Bool.{false≢true}
 use Rattle.std.proofs.lemmas.List.{length_push}
 use Rattle.sat_base.specs.Database.{StoredClause}
-use Rattle.clause_store.specs.Clauses.{Clauses, clause_at, IsId}
+use Rattle.clause_store.specs.Clauses.{Clauses, clause_at}
 use Rattle.clause_store.specs.Links.{KeepsLinks, watched_at, head_of, tail_of, literal_by}
 use Rattle.trail_book.specs.Trail.{Trail, top}
 use Rattle.propagate.specs.Watches.{IsKeptBut, IsKept}

@@ -1,23 +1,22 @@
 -- One step of the walk, as the code takes it.
-use Rattle.std.proofs.Common.{◌≡◌, ◌≢◌, ◌⊎◌, ℕ, zero, suc, ◌+◌, ◌-◌, ◌*◌, ◌/◌, ◌%◌, ◌<◌, ◌≤◌, List, [], ◌∷◌, ◌++◌, length, Option, Some, None, refl, sym, ◌∙◌, ap, subst, inl, inr, arith, true}
-use Rattle.std.specs.Prelude.{ℤ, neg_ℤ, pos, IfSome}
+use Rattle.std.proofs.Common.{◌≡◌, ◌≢◌, ℕ, suc, ◌+◌, ◌-◌, ◌*◌, ◌/◌, ◌%◌, ◌<◌, List, [], ◌∷◌, ◌++◌, length, Option, Some, None, refl, sym, ◌∙◌, ap, subst, inl, inr, arith, true}
+use Rattle.std.specs.Prelude.{ℤ, neg_ℤ, IfSome}
 use Rattle.std.proofs.lemmas.Bool.{cases_eq}
 use Rattle.sat_base.specs.Members.{In}
 use Rattle.sat_base.proofs.Members.{In-append_left, In-append_right}
 use Rattle.sat_base.specs.Literals.{IsLiteral}
-use Rattle.sat_base.specs.Units.{AllFalse, AllFalseBut, IsUnset, IsReason, IsConsequence, IsFalsified}
+use Rattle.sat_base.specs.Units.{AllFalse, AllFalseBut, IsReason, IsConsequence, IsFalsified}
 use Rattle.sat_base.specs.Database.{StoredClause}
 use Rattle.sat_base.proofs.DatabaseLemmas.{named_at, live_at}
 use Rattle.clause_store.specs.Clauses.{Clauses, clause_at, no_clause, IsId}
-use Rattle.clause_store.specs.Links.{watched_at, watch_of, next_of, head_of, tail_of, link_of, literal_by}
-use Rattle.trail_book.specs.declared.entry.Entry.{Entry}
-use Rattle.trail_book.specs.Trail.{Trail, trues, oldest, IsTrail}
+use Rattle.clause_store.specs.Links.{watched_at, watch_of, next_of, tail_of, link_of, literal_by}
+use Rattle.trail_book.specs.Trail.{Trail, trues, IsTrail}
 use Rattle.trail_book.proofs.TrailLemmas.{trail_consistent}
 use Rattle.propagate.specs.Lists.{IsPair, IsChain, last_of}
-use Rattle.propagate.specs.Watches.{IsLinked, AreWatchesOf, IsListed, IsWatch, AreWatches, IsSettled, IsKeptBut, IsKept, KeepsClauses}
-use Rattle.propagate.specs.Walk.{IsNode, IsFalseWatch, Unlinks, Appends, CanWatch, IsWalk}
-use Rattle.propagate.proofs.ListLemmas.{last_in, chain_same, chain_behind, AreNodes}
-use Rattle.propagate.proofs.WalkLemmas.{not_zero, is_watch, watched_some, node_is, node_of_last, are_nodes, stands_at, node, half, here, watches, is_node, at_id, at_live, at_watched, now_false, pair_of, watch_pair, advance}
+use Rattle.propagate.specs.Watches.{IsLinked, AreWatchesOf, IsListed, IsWatch, IsSettled, IsKeptBut, IsKept, KeepsClauses}
+use Rattle.propagate.specs.Walk.{IsNode, Unlinks, Appends, CanWatch, IsWalk}
+use Rattle.propagate.proofs.ListLemmas.{last_in}
+use Rattle.propagate.proofs.WalkLemmas.{is_watch, watched_some, node_is, node_of_last, stands_at, node, is_node, at_watched, now_false, advance}
 use Rattle.propagate.proofs.MoveLemmas.{list_left, watches_left, all_listed, chain_left, moved_watches}
 
 -- a live clause that forces a literal is its reason

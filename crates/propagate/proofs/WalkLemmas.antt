@@ -1,21 +1,21 @@
 -- The walk along the list of a literal that has become false.
-use Rattle.std.proofs.Common.{◌≡◌, ◌≢◌, ◌⊎◌, ℕ, zero, suc, ◌+◌, ◌-◌, ◌*◌, ◌/◌, ◌%◌, ◌<◌, ◌≤◌, List, [], ◌∷◌, ◌++◌, length, Option, Some, None, refl, sym, ◌∙◌, ap, subst, inl, inr, arith, true}
+use Rattle.std.proofs.Common.{◌≡◌, ◌≢◌, ◌⊎◌, ℕ, suc, ◌+◌, ◌-◌, ◌*◌, ◌/◌, ◌%◌, ◌<◌, ◌≤◌, List, [], ◌∷◌, ◌++◌, length, Option, Some, None, refl, sym, ◌∙◌, ap, subst, inl, inr, arith, true}
 use Rattle.std.specs.Prelude.{ℤ, neg_ℤ, pos}
-use Rattle.std.proofs.lemmas.Bool.{cases_lt, cases_eq}
+use Rattle.std.proofs.lemmas.Bool.{cases_eq}
 use Rattle.std.proofs.Math.IntN.{neg_ℤ-neg_ℤ}
 use Rattle.sat_base.specs.Members.{In}
 use Rattle.sat_base.specs.Literals.{IsLiteral, var_of}
-use Rattle.sat_base.proofs.Members.{In-append_left, In-append_right, In-append_cases}
+use Rattle.sat_base.proofs.Members.{In-append_right, In-append_cases}
 use Rattle.clause_store.specs.Clauses.{Clauses, clause_at, IsId}
 use Rattle.clause_store.specs.Links.{watched_at, watch_of, next_of, head_of, literal_by}
 use Rattle.trail_book.specs.declared.entry.Entry.{Entry}
-use Rattle.trail_book.specs.Trail.{Trail, trues, top, keep, oldest, IsTrail}
+use Rattle.trail_book.specs.Trail.{Trail, trues, keep, oldest, IsTrail}
 use Rattle.trail_book.proofs.PlaceLemmas.{oldest_skip}
 use Rattle.propagate.specs.Lists.{IsPair, IsApart, IsChain, last_of}
-use Rattle.propagate.specs.Watches.{IsLinked, AreWatchesOf, IsListed, IsWatch, AreWatches, IsKeptBut, IsKept}
+use Rattle.propagate.specs.Watches.{IsLinked, AreWatchesOf, IsWatch, AreWatches, IsKept}
 use Rattle.propagate.specs.Walk.{IsNode, IsFalseWatch, IsWalk}
 use Rattle.propagate.proofs.ListLemmas.{last_in, last_append, append_cons, AreNodes}
-use Rattle.propagate.proofs.LevelLemmas.{oldest_in, oldest_more, waits_at_top}
+use Rattle.propagate.proofs.LevelLemmas.{oldest_in, waits_at_top}
 use Rattle.propagate.proofs.KeptLemmas.{kept_assign}
 
 pub not_zero : (vars : ℕ) (lit : ℤ) → IsLiteral vars lit → lit ≢ pos 0

@@ -3,3 +3,4 @@ pub mod Watches
 pub mod Walk
 pub mod Propagation
 pub mod Entrance
+pub mod Rebuild

@@ -1,5 +1,5 @@
 -- The steps of a walk along the list of a literal that is false.
-use Rattle.std.specs.Prelude.{◌≡◌, ◌≢◌, ℕ, ◌+◌, ◌*◌, ◌/◌, ◌<◌, ◌≤◌, List, ◌∷◌, ◌++◌, length, ℤ, neg_ℤ, Option}
+use Rattle.std.specs.Prelude.{◌≡◌, ◌≢◌, ℕ, ◌+◌, ◌/◌, ◌<◌, ◌≤◌, List, ◌∷◌, ◌++◌, length, ℤ, neg_ℤ}
 use Rattle.sat_base.specs.Literals.{IsLiteral}
 use Rattle.sat_base.specs.Members.{In}
 use Rattle.sat_base.specs.Units.{AllFalse, AllFalseBut, IsUnset}

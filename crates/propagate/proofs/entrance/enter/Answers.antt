@@ -1,4 +1,4 @@
-use Rattle.std.proofs.Common.{List, subst, sym, refl}
+use Rattle.std.proofs.Common.{List, subst, sym}
 use Rattle.std.specs.Prelude.{ℤ, neg_ℤ}
 use Rattle.sat_base.specs.Members.{In}
 use Rattle.trail_book.specs.declared.entry.Entry.{Entry}

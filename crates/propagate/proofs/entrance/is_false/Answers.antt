@@ -1,4 +1,4 @@
-use Rattle.std.proofs.Common.{◌≡◌, subst, ap, ◌∙◌, Option, Some, true}
+use Rattle.std.proofs.Common.{◌≡◌, subst, ap, ◌∙◌, Some, true}
 use Rattle.std.specs.Prelude.{Bool}
 use Rattle.sat_base.specs.Units.{IsValue}
 use Rattle.trail_book.specs.Trail.{trues}

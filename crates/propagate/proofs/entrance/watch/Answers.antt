@@ -1,9 +1,9 @@
-use Rattle.std.proofs.Common.{◌≡◌, ◌≢◌, ◌∙◌, ℕ, ap, sym, subst, refl}
+use Rattle.std.proofs.Common.{◌∙◌, ℕ, ap, sym, subst}
 use Rattle.sat_base.specs.Literals.{IsLiteral}
 use Rattle.clause_store.specs.Clauses.{Clauses}
 use Rattle.clause_store.specs.Links.{watched_at, tail_of}
 use Rattle.propagate.proofs.StepLemmas.{tail_ok}
-use Rattle.propagate.proofs.EntranceLemmas.{literal_of_clause, last_node, entered, entered_keeps}
+use Rattle.propagate.proofs.EntranceLemmas.{literal_of_clause, last_node, entered}
 use Rattle.propagate.proofs.entrance.watch.Goals as goal
 
 pub append-requires-clause-lit : goal.append-requires-clause-lit

@@ -1,13 +1,12 @@
-use Rattle.std.proofs.Common.{◌≡◌, ◌≢◌, suc, refl, sym, subst, ◌∙◌, inl, inr, List}
-use Rattle.std.specs.Prelude.{ℤ}
+use Rattle.std.proofs.Common.{suc, refl, sym, subst, inl, inr, List}
 use Rattle.sat_base.specs.Members.{In}
-use Rattle.clause_store.specs.Links.{link_of, tail_of, watched_at}
+use Rattle.clause_store.specs.Links.{link_of}
 use Rattle.trail_book.specs.Trail.{trues}
 use Rattle.trail_book.specs.declared.entry.Entry.{Entry}
 use Rattle.propagate.specs.Propagation.{Grows}
 use Rattle.propagate.proofs.GrowsLemmas.{grows-refl}
 use Rattle.propagate.proofs.WalkLemmas.{at_id, at_live, at_watched, watch_pair, walk_assign}
-use Rattle.propagate.proofs.StepLemmas.{reason_at, falsified_at, keeps_same, before_ok, node_at, stays, moved, moves_away, tail_after}
+use Rattle.propagate.proofs.StepLemmas.{reason_at, falsified_at, before_ok, node_at, stays, moved, moves_away, tail_after}
 use Rattle.propagate.proofs.propagation.step.Goals as goal
 
 pub place_of-place-requires-clause-id : goal.place_of-place-requires-clause-id

@@ -1,8 +1,7 @@
-use Rattle.std.proofs.Common.{◌≡◌, ◌∙◌, ◌+◌, ◌*◌, ◌<◌, ◌≤◌, ◌-◌, List, Option, ℕ, refl, sym, ap, subst, length, arith}
+use Rattle.std.proofs.Common.{◌∙◌, ◌+◌, ◌*◌, List, Option, ℕ, refl, sym, subst, arith}
 use Rattle.sat_base.specs.Database.{StoredClause}
 use Rattle.clause_store.specs.Links.{link_of}
 use Rattle.propagate.specs.Propagation.{Grows}
-use Rattle.propagate.specs.Watches.{IsKept, KeepsClauses}
 use Rattle.propagate.specs.Walk.{IsWalk}
 use Rattle.propagate.proofs.GrowsLemmas.{grows-refl, grows-trans}
 use Rattle.propagate.proofs.WalkLemmas.{begin_walk, propagated}

@@ -1,7 +1,6 @@
 use Rattle.std.proofs.Common.{arith, sym, subst}
 use Rattle.std.specs.Prelude.{ℤ}
 use Rattle.sat_base.specs.Members.{In}
-use Rattle.sat_base.specs.Literals.{IsLiteral}
 use Rattle.sat_base.proofs.DatabaseLemmas.{get_in}
 use Rattle.trail_book.specs.Trail.{trues}
 use Rattle.propagate.proofs.GrowsLemmas.{literal_in}

@@ -1,4 +1,4 @@
-use Rattle.std.proofs.Common.{◌≡◌, ◌∙◌, ap, sym}
+use Rattle.std.proofs.Common.{◌∙◌, ap, sym}
 use Rattle.trail_book.specs.Trail.{Trail}
 use Rattle.propagate.proofs.NewLemmas.{kept_first}
 use Rattle.propagate.proofs.tests.Bench.new.Goals as goal
