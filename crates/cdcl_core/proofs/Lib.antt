@@ -7,3 +7,4 @@ pub mod RoundLemmas
 pub mod TestLemmas
 pub mod EntranceLemmas
 mod GreatestLemmas
+pub mod ForgetLemmas

@@ -4,3 +4,4 @@ pub mod State
 pub mod Search
 pub mod Entrance
 pub mod Inside
+pub mod Forgetting

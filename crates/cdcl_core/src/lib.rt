@@ -25,6 +25,7 @@
 mod conflicts;
 mod decisions;
 mod entrance;
+mod forgetting;
 mod search;
 mod solved;
 mod solver;

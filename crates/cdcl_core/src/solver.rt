@@ -8,6 +8,7 @@ ghost use Rattle.lrat_steps.specs.Log.{Input};
 ghost use Rattle.lrat_steps.specs.Honest.{IsHonest};
 ghost use Rattle.cdcl_core.specs.Answers.{IsConsistent, IsHonestlyPaid, Tells, IsGreatest};
 
+use crate::forgetting::forget;
 use crate::search::Search;
 use crate::solved::Solved;
 use crate::steps::add_step;
@@ -128,6 +129,7 @@ impl Solver {
             return Err(AllocError);
         }
         self.broken = true;
+        forget(&mut self.search)?;
         let answer = self.search.run(alloc, assumed, turn, purse)?;
         self.broken = false;
         Ok(answer)

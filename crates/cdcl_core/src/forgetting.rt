@@ -1,0 +1,137 @@
+//! Which learnt clauses are forgotten.
+//!
+//! A learnt clause that no longer helps still costs a visit wherever one of its watched literals becomes false. So
+//! between searches, at level 0, where many more are live than have to stay, those go that are longer than the live ones
+//! are in the mean, the oldest first, until no more may go. The walk over all clauses is worth it only where some hundreds
+//! can go at once.
+//!
+//! A clause of which no literal is true forces none, so no value of level 0 rests on it: it is neither a reason nor the
+//! clause of a unit step. Clauses that are satisfied at level 0 are passed over; they are never visited in any case.
+ghost use Rattle.std.specs.Prelude.{◌≡◌, ℕ, ℤ, true, false, length, OnOk};
+ghost use Rattle.sat_base.specs.Literals.{AreLiterals, IsLiteral};
+ghost use Rattle.sat_base.specs.Members.{In};
+ghost use Rattle.clause_store.specs.Clauses.{IsId};
+ghost use Rattle.trail_book.specs.Trail.{trues};
+ghost use Rattle.cdcl_core.specs.Answers.{IsHonestlyPaid};
+ghost use Rattle.cdcl_core.specs.Search.{IsAtRoot};
+ghost use Rattle.cdcl_core.specs.Forgetting.{IsStaleAtRoot, IsIdle};
+
+use crate::search::Search;
+use lrat_steps::{StepKind, may_forget};
+use propagate::rebuild;
+use sat_base::Lit;
+use std::alloc::AllocError;
+use trail_book::Trail;
+
+// So many have to be live beyond those that stay, before the clauses are looked at.
+const EXCESS: u64 = 500;
+
+/// Forgets learnt clauses, where many more are live than have to stay.
+pub fn forget(search: &mut Search) -> Result<(), AllocError>
+    requires at_root { IsAtRoot search.old }
+    ensures at_root { OnOk result (IsAtRoot search.new) }
+    ensures paid { (left : ℕ) → IsHonestlyPaid search.old.log search.new.log left left }
+    ensures vars { search.new.trail.vars ≡ search.old.trail.vars }
+{
+    let live = search.log.live_learned();
+    if live < EXCESS || !may_forget(live - EXCESS, search.log.learned()) {
+        return Ok(());
+    }
+    let longest = mean_length(search);
+    forget_long(search, longest)?;
+    rebuild(&mut search.store, &search.trail);
+    Ok(())
+}
+
+// How many literals the live learnt clauses have in the mean.
+fn mean_length(search: &Search) -> u64 {
+    let mut count: u64 = 1;
+    let mut literals: u64 = 0;
+    let mut id = 0;
+    while id < search.store.len() {
+        id += 1;
+        if search.store.is_live(id) {
+            literals = literals.saturating_add(search.store.lits(id).len() as u64);
+            count = count.saturating_add(1);
+        }
+    }
+    literals / count.max(1)
+}
+
+// Forgets clauses that are longer, the oldest first, as long as some may go.
+fn forget_long(search: &mut Search, longest: u64) -> Result<(), AllocError>
+    requires stale { IsStaleAtRoot search.old }
+    ensures stale { OnOk result (IsStaleAtRoot search.new) }
+    ensures paid { (left : ℕ) → IsHonestlyPaid search.old.log search.new.log left left }
+    ensures vars { search.new.trail.vars ≡ search.old.trail.vars }
+{
+    let mut id = 0;
+    while id < search.store.len() {
+        id += 1;
+        if search.store.lits(id).len() as u64 > longest && may_go(search, id) {
+            forget_one(search, id)?;
+        }
+    }
+    Ok(())
+}
+
+// Forgets one clause, in the log and in the store.
+fn forget_one(search: &mut Search, id: u64) -> Result<(), AllocError>
+    requires stale { IsStaleAtRoot search.old }
+    requires idle { IsIdle search.old id }
+    ensures stale { OnOk result (IsStaleAtRoot search.new) }
+    ensures paid { (left : ℕ) → IsHonestlyPaid search.old.log search.new.log left left }
+    ensures vars { search.new.trail.vars ≡ search.old.trail.vars }
+    ensures len { length search.new.store.clauses ≡ length search.old.store.clauses }
+{
+    search.log.forget(id)?;
+    search.store.forget(id);
+    Ok(())
+}
+
+// Whether the clause is learnt and live, may be forgotten, and has no literal that is true.
+fn may_go(search: &Search, id: u64) -> bool
+    requires stale { IsStaleAtRoot search.now }
+    requires id { IsId search.now.store.clauses id }
+    ensures { result ≡ true → IsIdle search.now id }
+{
+    // Where a clause is false at level 0 no search goes on.
+    let None = search.store.false_id() else {
+        return false;
+    };
+    let StepKind::Learned = search.log.kind(id) else {
+        return false;
+    };
+    if !search.store.is_live(id) {
+        return false;
+    }
+    if !may_forget(search.log.live_learned(), search.log.learned()) {
+        return false;
+    }
+    is_untrue(&search.trail, search.store.lits(id))
+}
+
+// Whether no literal of the clause is true.
+fn is_untrue(trail: &Trail, clause: &[Lit]) -> bool
+    requires { AreLiterals trail.now.vars clause.now }
+    ensures { result ≡ true → (lit : ℤ) → In lit clause.now → ¬ In lit (trues trail.now.entries) }
+{
+    for lit in clause {
+        if is_true(trail, *lit) {
+            return false;
+        }
+    }
+    true
+}
+
+fn is_true(trail: &Trail, lit: Lit) -> bool
+    requires { IsLiteral trail.now.vars lit }
+    ensures no { result ≡ false → ¬ In lit (trues trail.now.entries) }
+{
+    let _vars = trail.vars(); // No literal is both true and false.
+    match trail.value(lit) {
+        None => false,
+        Some(true) => true,
+        Some(false) => false,
+    }
+}
