@@ -53,7 +53,7 @@ fn next_decision(trail: &mut Trail, assumed: &[Lit], reached: &mut usize) -> Nex
             }
         }
     }
-    match trail.pick() {
+    match trail.pick_true() {
         Some(lit) => Next::Choose(lit),
         None => Next::Full,
     }

@@ -18,10 +18,10 @@ use Rattle.propagate.proofs.ListLemmas.{chain_same}
 use Rattle.propagate.proofs.LevelLemmas.{oldest_more, oldest_in, keep_shorter, oldest_keep, keep_lower, keep_higher, keep_push, keep_pop}
 
 -- the same clauses and lists, over another trail
-over : (s : Clauses) (t : Trail) (but vars done : ℕ) (es : List Entry) → vars ≡ t.vars → done ≤ length es → ((level : ℕ) → level < top es → length (keep level es) ≤ done)
+over : (s : Clauses) (t t' : Trail) (but vars done : ℕ) (es : List Entry) → vars ≡ t.vars → done ≤ length es → ((level : ℕ) → level < top es → length (keep level es) ≤ done)
     → ((a b : ℤ) → IsGuarded t.entries t.done a b → IsGuarded es done a b) → ((lit : ℤ) → In lit (trues (keep 0 t.entries)) → In lit (trues (keep 0 es)))
-    → IsKeptBut s t but → IsKeptBut s (record { vars = vars; entries = es; done = done }) but
-over s t but vars done es same fits fresh guard root k = record {
+    → IsKeptBut s t but → IsKeptBut s (record t' { vars = vars; entries = es; done = done }) but
+over s t t' but vars done es same fits fresh guard root k = record {
   vars = k.vars ∙ sym same;
   done = fits;
   fresh = fresh;
@@ -37,8 +37,15 @@ over s t but vars done es same fits fresh guard root k = record {
   false_clause = λ some. let f = k.false_clause some in record { is_id = f.is_id; live = f.live; is_false = λ lit i. root (neg_ℤ lit) (f.is_false lit i) };
 }
 
-trail_is : (v v' : ℕ) (es es' : List Entry) (d d' : ℕ) → v ≡ v' → es ≡ es' → d ≡ d' → ◌≡◌ {A = Trail} (record { vars = v; entries = es; done = d }) (record { vars = v'; entries = es'; done = d' })
-trail_is v v' es es' d d' e f g = rw (e, f, g) refl
+trail_is : (t : Trail) (vars : ℕ) (es : List Entry) (done : ℕ) → t.vars ≡ vars → t.entries ≡ es → t.done ≡ done → t ≡ record t { vars = vars; entries = es; done = done }
+trail_is t vars es done e f g = rw (sym e, sym f, sym g) refl
+
+-- ---- the order of decisions changes
+
+pub kept_same : (s : Clauses) (t t' : Trail) (but : ℕ) → t'.entries ≡ t.entries → t'.vars ≡ t.vars → t'.done ≡ t.done → IsKeptBut s t but → IsKeptBut s t' but
+kept_same s t t' but entries vars done k =
+    subst (λ (x : Trail). IsKeptBut s x but) (sym (trail_is t' t.vars t.entries t.done vars entries done))
+    (over s t t' but t.vars t.done t.entries refl k.done k.fresh (λ a b g. g) (λ lit i. i) k)
 
 -- ---- one value more
 
@@ -47,25 +54,25 @@ guard_push e es done a b fits g was level i =
     let early = subst (λ (xs : List Entry). In (neg_ℤ a) (trues xs)) (oldest_skip e es done fits) was in
     keep_push level e es b (g early level (keep_pop level e es (neg_ℤ a) (oldest_in (neg_ℤ a) done es early) i))
 
-pushed : (s : Clauses) (t : Trail) (but : ℕ) (e : Entry) → ((level : ℕ) → level < top (e ∷ t.entries) → length (keep level (e ∷ t.entries)) ≤ t.done) → IsKeptBut s t but
-    → IsKeptBut s (record { vars = t.vars; entries = e ∷ t.entries; done = t.done }) but
-pushed s t but e fresh k =
+pushed : (s : Clauses) (t t' : Trail) (but : ℕ) (e : Entry) → ((level : ℕ) → level < top (e ∷ t.entries) → length (keep level (e ∷ t.entries)) ≤ t.done) → IsKeptBut s t but
+    → IsKeptBut s (record t' { vars = t.vars; entries = e ∷ t.entries; done = t.done }) but
+pushed s t t' but e fresh k =
     let fits = k.done in
-    over s t but t.vars t.done (e ∷ t.entries) refl (omega (arith, fits)) fresh (λ a b g. guard_push e t.entries t.done a b k.done g) (λ lit i. keep_push 0 e t.entries lit i) k
+    over s t t' but t.vars t.done (e ∷ t.entries) refl (omega (arith, fits)) fresh (λ a b g. guard_push e t.entries t.done a b k.done g) (λ lit i. keep_push 0 e t.entries lit i) k
 
 pub kept_assign : (s : Clauses) (t t' : Trail) (but : ℕ) (lit : ℤ) (id : ℕ) → t'.entries ≡ record { lit = lit; reason = Some id; unit = None } ∷ t.entries → t'.vars ≡ t.vars → t'.done ≡ t.done
     → IsKeptBut s t but → IsKeptBut s t' but
 kept_assign s t t' but lit id entries vars done k =
     let e : Entry = record { lit = lit; reason = Some id; unit = None } in
-    subst (λ (x : Trail). IsKeptBut s x but) (sym (trail_is t'.vars t.vars t'.entries (e ∷ t.entries) t'.done t.done vars entries done))
-    (pushed s t but e (λ level below. let same = ap length (keep-skip level e t.entries below) in let old = k.fresh level below in omega (arith, same, old)) k)
+    subst (λ (x : Trail). IsKeptBut s x but) (sym (trail_is t' t.vars (e ∷ t.entries) t.done vars entries done))
+    (pushed s t t' but e (λ level below. let same = ap length (keep-skip level e t.entries below) in let old = k.fresh level below in omega (arith, same, old)) k)
 
 pub kept_decide : (s : Clauses) (t t' : Trail) (but : ℕ) (lit : ℤ) → t'.entries ≡ record { lit = lit; reason = None; unit = None } ∷ t.entries → t'.vars ≡ t.vars → t'.done ≡ t.done → t.done ≡ length t.entries
     → IsKeptBut s t but → IsKeptBut s t' but
 kept_decide s t t' but lit entries vars done all k =
     let e : Entry = record { lit = lit; reason = None; unit = None } in
-    subst (λ (x : Trail). IsKeptBut s x but) (sym (trail_is t'.vars t.vars t'.entries (e ∷ t.entries) t'.done t.done vars entries done))
-    (pushed s t but e (λ level below. let same = ap length (keep-skip level e t.entries below) in let shorter = keep_shorter level t.entries in omega (arith, same, shorter, all)) k)
+    subst (λ (x : Trail). IsKeptBut s x but) (sym (trail_is t' t.vars (e ∷ t.entries) t.done vars entries done))
+    (pushed s t t' but e (λ level below. let same = ap length (keep-skip level e t.entries below) in let shorter = keep_shorter level t.entries in omega (arith, same, shorter, all)) k)
 
 -- ---- a return to a level
 
@@ -101,8 +108,8 @@ pub kept_back : (s : Clauses) (t t' : Trail) (but level : ℕ) → t'.entries �
 kept_back s t t' but level entries vars done k =
     let es = keep level t.entries in
     let left : t'.done ≡ min t.done (length es) = done ∙ ap (λ (xs : List Entry). min t.done (length xs)) entries in
-    subst (λ (x : Trail). IsKeptBut s x but) (sym (trail_is t'.vars t.vars t'.entries es t'.done (min t.done (length es)) vars entries left))
-    (over s t but t.vars (min t.done (length es)) es refl (omega arith) (fresh_back level t.entries t.done k.fresh) (λ a b g. guard_back level t.entries t.done a b g)
+    subst (λ (x : Trail). IsKeptBut s x but) (sym (trail_is t' t.vars es (min t.done (length es)) vars entries left))
+    (over s t t' but t.vars (min t.done (length es)) es refl (omega arith) (fresh_back level t.entries t.done k.fresh) (λ a b g. guard_back level t.entries t.done a b g)
     (λ lit i. subst (λ (xs : List Entry). In lit (trues xs)) (sym (keep_lower 0 level t.entries (omega arith))) i) k)
 
 -- ---- a unit step
@@ -114,8 +121,8 @@ kept_unit s t t' but v id entries vars done k =
     let oldest_same : (n : ℕ) → trues (oldest n es) ≡ trues (oldest n t.entries) = λ n. ap trues (oldest-with_unit v id n t.entries) ∙ trues-with_unit v id (oldest n t.entries) in
     let long = length-with_unit v id t.entries in
     let fits = k.done in
-    subst (λ (x : Trail). IsKeptBut s x but) (sym (trail_is t'.vars t.vars t'.entries es t'.done t.done vars entries done))
-    (over s t but t.vars t.done es refl (omega (arith, long, fits))
+    subst (λ (x : Trail). IsKeptBut s x but) (sym (trail_is t' t.vars es t.done vars entries done))
+    (over s t t' but t.vars t.done es refl (omega (arith, long, fits))
     (λ level below.
     let tops = top-with_unit v id t.entries in
     let old = k.fresh level (omega (arith, below, tops)) in

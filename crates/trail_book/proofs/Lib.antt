@@ -3,3 +3,5 @@ pub mod PlaceLemmas
 pub mod SlotLemmas
 pub mod ValueLemmas
 pub mod OrderLemmas
+pub mod HeapLemmas
+pub mod WaitLemmas

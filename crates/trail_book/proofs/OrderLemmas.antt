@@ -1,80 +1,156 @@
--- Positions in the order of decisions, as variables get and lose their values.
-use Rattle.std.proofs.Common.{◌≡◌, ◌≢◌, ℕ, ◌+◌, ◌-◌, ◌<◌, ◌≤◌, List, length, set, refl, sym, ◌∙◌, ap, subst, inl, inr, arith, length-set, get_or-set_same, get_or-set_other}
-use Rattle.std.specs.Prelude.{ℤ, pos, negsuc, slice_index_or}
-use Rattle.std.proofs.lemmas.Bool.{cases_eq}
+-- The order of decisions as one number, and what is known of variables without value.
+use Rattle.std.proofs.Common.{◌≡◌, ◌≢◌, ℕ, ◌+◌, ◌-◌, ◌*◌, ◌<◌, ◌≤◌, List, length, set, suc, refl, sym, ◌∙◌, ap, subst, inl, inr, arith, length-set, get_or-set_same, get_or-set_other}
+use Rattle.std.specs.Prelude.{ℤ, pos, negsuc, slice_index, slice_index_or}
+use Rattle.std.proofs.lemmas.Bool.{cases_lt}
+use Rattle.std.proofs.lemmas.List.{length-replicate, get_or-replicate}
+use Rattle.std.proofs.Math.Nat.{mul-le-mul_left}
 use Rattle.sat_base.specs.Literals.{var_of, IsLiteral}
 use Rattle.sat_base.specs.Units.{HasValue, IsValue, IsUnset}
 use Rattle.trail_book.specs.declared.value.Value.{Value}
 use Rattle.trail_book.specs.declared.value.Value.TheVariants.{Unset, True, False}
-use Rattle.trail_book.specs.Values.{value_by, truth_of, AreValues}
-use Rattle.trail_book.specs.Order.{index_at, position_of, HaveValues}
-
--- each variable has one position
-pub position_of_index : (start position vars : ℕ) → start ≤ vars → position < vars → position_of start (index_at start position vars) vars ≡ position
-position_of_index start position vars low h = grind (arith, low, h)
-
-pub index_of_position : (start index vars : ℕ) → start ≤ vars → index < vars → index_at start (position_of start index vars) vars ≡ index
-index_of_position start index vars low h = grind (arith, low, h)
+use Rattle.trail_book.specs.Values.{truth_of, AreValues}
+use Rattle.trail_book.specs.Order.{Ranking, activity_of, position_of, ComesFirst, rank, unranked, grown}
+use Rattle.trail_book.specs.Heap.{Heap, IsHeap}
 
 pub position_in_range : (start index vars : ℕ) → start ≤ vars → index < vars → position_of start index vars < vars
 position_in_range start index vars low h = grind (arith, low, h)
 
-by_is_set : (lit : ℤ) → value_by lit ≢ Unset
-by_is_set (pos n) = λ same. cc
-by_is_set (negsuc n) = λ same. cc
+-- a greater first digit decides
+digits : (a b x y n : ℕ) → b < a → x < n → y < n → b * n + y < a * n + x
+digits a b x y n more hx hy =
+    let times = mul-le-mul_left n more in
+    grind (arith, times, hx, hy)
 
--- more values
-pub have_push : (values : List Value) (start count : ℕ) (lit : ℤ) (index : ℕ) → index < length values → HaveValues values start count
-    → HaveValues (set values index (value_by lit)) start count
-have_push values start count lit index within have = λ position h gone.
-    let len : length (set values index (value_by lit)) ≡ length values = length-set values index (value_by lit) in
-    let here : slice_index_or (set values index (value_by lit)) (index_at start position (length values)) Unset ≡ Unset =
-    subst (λ (n : ℕ). slice_index_or (set values index (value_by lit)) (index_at start position n) Unset ≡ Unset) len gone in
-    elim (cases_eq (index_at start position (length values)) index) [
-      | inl same ↦
-          by_is_set lit
-          (sym (get_or-set_same values index (value_by lit) Unset within)
-          ∙ ap (λ (k : ℕ). slice_index_or (set values index (value_by lit)) k Unset) (sym same) ∙ here)
-      | inr other ↦ have position h (sym (get_or-set_other values index (index_at start position (length values)) (value_by lit) Unset other) ∙ here)
+pub rank_by_activity : (r : Ranking) (one other : ℕ) → r.start ≤ length r.activities → one < length r.activities → other < length r.activities
+    → activity_of r other < activity_of r one → rank r other < rank r one
+unfolding rank
+rank_by_activity r one other low a b more =
+    let n = length r.activities in
+    digits (activity_of r one) (activity_of r other) (n - 1 - position_of r.start one n) (n - 1 - position_of r.start other n) n more (omega (arith, a)) (omega (arith, b))
+
+pub rank_by_position : (r : Ranking) (one other : ℕ) → activity_of r one ≡ activity_of r other
+    → position_of r.start one (length r.activities) ≤ position_of r.start other (length r.activities) → rank r other ≤ rank r one
+unfolding rank
+rank_by_position r one other same le =
+    let n = length r.activities in
+    let times : activity_of r one * n ≡ activity_of r other * n = ap (λ (a : ℕ). a * n) same in
+    omega (arith, times, le)
+
+pub rank_by_position_strict : (r : Ranking) (one other : ℕ) → r.start ≤ length r.activities → one < length r.activities → other < length r.activities
+    → activity_of r one ≡ activity_of r other
+    → position_of r.start one (length r.activities) < position_of r.start other (length r.activities) → rank r other < rank r one
+unfolding rank
+rank_by_position_strict r one other low a b same lt =
+    let n = length r.activities in
+    let times : activity_of r one * n ≡ activity_of r other * n = ap (λ (a : ℕ). a * n) same in
+    let within : position_of r.start other n < n = position_in_range r.start other n low b in
+    omega (arith, times, lt, within)
+
+-- and back: of the greater number, the variable comes first
+pub comes_first : (r : Ranking) (one other : ℕ) → r.start ≤ length r.activities → one < length r.activities → other < length r.activities
+    → rank r other ≤ rank r one → ComesFirst r one other
+comes_first r one other low a b le =
+    let n = length r.activities in
+    elim (cases_lt (activity_of r other) (activity_of r one)) [
+      | inl more ↦ inl more
+      | inr less ↦ elim (cases_lt (activity_of r one) (activity_of r other)) [
+        | inl lt ↦ absurd (omega (arith, rank_by_activity r other one low b a lt, le))
+        | inr ge ↦
+            let same : activity_of r one ≡ activity_of r other = omega (arith, less, ge) in
+            elim (cases_lt (position_of r.start other n) (position_of r.start one n)) [
+              | inl before ↦ absurd (omega (arith, rank_by_position_strict r other one low b a (sym same) before, le))
+              | inr after ↦ inr (same, after)
+            ]
+      ]
     ]
 
--- one value less, at a position that is not counted any more
-pub have_undo : (values : List Value) (start count less index : ℕ) → start ≤ length values → index < length values → less ≤ count → count ≤ length values
-    → less ≤ position_of start index (length values) → HaveValues values start count → HaveValues (set values index Unset) start less
-have_undo values start count less index low within fewer high before have = λ position h gone.
-    let len : length (set values index Unset) ≡ length values = length-set values index Unset in
-    let here : slice_index_or (set values index Unset) (index_at start position (length values)) Unset ≡ Unset =
-    subst (λ (n : ℕ). slice_index_or (set values index Unset) (index_at start position n) Unset ≡ Unset) len gone in
-    let other : ¬ (index_at start position (length values) ≡ index) =
-    λ same.
-    let back : position_of start index (length values) ≡ position =
-    ap (λ (k : ℕ). position_of start k (length values)) (sym same) ∙ position_of_index start position (length values) low (omega (arith, h, fewer, high)) in
-    absurd (omega (arith, back, before, h)) in
-    have position (omega (arith, h, fewer)) (sym (get_or-set_other values index (index_at start position (length values)) Unset Unset other) ∙ here)
+pub bump_raises : (r : Ranking) (index other : ℕ) → index < length r.activities → other ≢ index
+    → rank (record r { activities = set r.activities index (activity_of r index + r.increment) }) other ≡ rank r other
+unfolding rank
+bump_raises r index other h apart =
+    let len : length (set r.activities index (activity_of r index + r.increment)) ≡ length r.activities = length-set r.activities index (activity_of r index + r.increment) in
+    let act : activity_of (record r { activities = set r.activities index (activity_of r index + r.increment) }) other ≡ activity_of r other =
+    get_or-set_other r.activities index other (activity_of r index + r.increment) 0 apart in
+    cc
 
-has_value : (trues : List ℤ) (l : ℤ) (v : Value) → v ≢ Unset → IsValue trues l (truth_of v) → HasValue trues l
-has_value trues l Unset set h = absurd (set refl)
-has_value trues l True set h = inl h
-has_value trues l False set h = inr h
+pub bump_lifts : (r : Ranking) (index : ℕ) → index < length r.activities
+    → rank r index ≤ rank (record r { activities = set r.activities index (activity_of r index + r.increment) }) index
+unfolding rank
+bump_lifts r index h =
+    let new : Ranking = record r { activities = set r.activities index (activity_of r index + r.increment) } in
+    let n = length r.activities in
+    let len : length new.activities ≡ n = length-set r.activities index (activity_of r index + r.increment) in
+    let act : activity_of new index ≡ activity_of r index + r.increment = get_or-set_same r.activities index (activity_of r index + r.increment) 0 h in
+    let times : activity_of r index * n ≤ (activity_of r index + r.increment) * n = grind arith in
+    let is : activity_of new index * length new.activities ≡ (activity_of r index + r.increment) * n = cc in
+    let rest : length new.activities - 1 - position_of r.start index (length new.activities) ≡ n - 1 - position_of r.start index n =
+    ap (λ (m : ℕ). m - 1 - position_of r.start index m) len in
+    omega (arith, times, is, rest)
 
--- where all positions have values, each literal has one
-pub all_have_values : (vars : ℕ) (values : List Value) (trues : List ℤ) (start count : ℕ) → length values ≡ vars → start ≤ vars → AreValues vars values trues
-    → vars ≤ count → HaveValues values start count → (l : ℤ) → IsLiteral vars l → HasValue trues l
-all_have_values vars values trues start count len low are all have l is_lit =
-    let index = var_of l - 1 in
-    let within : index < length values = omega (arith, is_lit.not_zero, is_lit.in_range, len) in
-    let from : start ≤ length values = omega (arith, low, len) in
-    let position = position_of start index (length values) in
-    let reached : position < count = omega (arith, position_in_range start index (length values) from within, len, all) in
-    let is_set : slice_index_or values index Unset ≢ Unset =
-    subst (λ (k : ℕ). slice_index_or values k Unset ≢ Unset) (index_of_position start index (length values) from within) (have position reached) in
-    by l (index + 1) (omega (arith, is_lit.not_zero)) (has_value trues (pos (index + 1)) (slice_index_or values index Unset) is_set (are index (omega (arith, within, len))))
-  where
-    by : (l : ℤ) (n : ℕ) → n ≡ var_of l → HasValue trues (pos n) → HasValue trues l
-    by (pos m) n same h = subst (λ (k : ℕ). HasValue trues (pos k)) same h
-    by (negsuc m) n same h = elim (subst (λ (k : ℕ). HasValue trues (pos k)) same h) [ inl yes_true ↦ inr yes_true | inr is_false ↦ inl is_false ]
+is_set : (trues : List ℤ) (l : ℤ) (v : Value) → v ≢ Unset → IsValue trues l (truth_of v) → HasValue trues l
+is_set trues l Unset has h = absurd (has refl)
+is_set trues l True has h = inl h
+is_set trues l False has h = inr h
 
 -- a variable whose value is unset has none
 pub unset_at : (vars : ℕ) (values : List Value) (trues : List ℤ) (index : ℕ) → AreValues vars values trues → index < vars → slice_index_or values index Unset ≡ Unset
     → IsUnset trues (pos (index + 1))
 unset_at vars values trues index are h gone = subst (λ (v : Value). IsValue trues (pos (index + 1)) (truth_of v)) gone (are index h)
+
+-- and the other way round
+pub unset_value : (vars : ℕ) (values : List Value) (trues : List ℤ) (index : ℕ) → AreValues vars values trues → index < vars → IsUnset trues (pos (index + 1))
+    → slice_index_or values index Unset ≡ Unset
+unset_value vars values trues index are h u = by (slice_index_or values index Unset) (are index h)
+  where
+    by : (v : Value) → IsValue trues (pos (index + 1)) (truth_of v) → v ≡ Unset
+    by Unset k = refl
+    by True k = absurd (u.not_true k)
+    by False k = absurd (u.not_false k)
+
+-- a literal has a value where its variable has one, and none where it has none
+pub value_of_var : (trues : List ℤ) (l : ℤ) (index : ℕ) → var_of l ≡ index + 1 → HasValue trues (pos (index + 1)) → HasValue trues l
+value_of_var trues (pos m) index same h = subst (λ (k : ℕ). HasValue trues (pos k)) (sym same) h
+value_of_var trues (negsuc m) index same h = elim (subst (λ (k : ℕ). HasValue trues (pos k)) (sym same) h) [ inl yes_true ↦ inr yes_true | inr is_false ↦ inl is_false ]
+
+pub unset_var : (trues : List ℤ) (l : ℤ) (index : ℕ) → var_of l ≡ index + 1 → IsUnset trues l → IsUnset trues (pos (index + 1))
+unset_var trues (pos m) index same u = subst (λ (k : ℕ). IsUnset trues (pos k)) same u
+unset_var trues (negsuc m) index same u =
+    subst (λ (k : ℕ). IsUnset trues (pos k)) same (record { not_true = λ i. u.not_false i; not_false = λ i. u.not_true i })
+
+pub unset_literal : (trues : List ℤ) (l : ℤ) (index : ℕ) → var_of l ≡ index + 1 → IsUnset trues (pos (index + 1)) → IsUnset trues l
+unset_literal trues (pos m) index same u = subst (λ (k : ℕ). IsUnset trues (pos k)) (sym same) u
+unset_literal trues (negsuc m) index same u =
+    let v : IsUnset trues (pos (suc m)) = subst (λ (k : ℕ). IsUnset trues (pos k)) (sym same) u in
+    record { not_true = λ i. v.not_false i; not_false = λ i. v.not_true i }
+
+-- where no variable waits, each has a value
+pub all_have_values : (vars : ℕ) (values : List Value) (trues : List ℤ) → AreValues vars values trues
+    → ((index : ℕ) → index < vars → slice_index_or values index Unset ≢ Unset) → (l : ℤ) → IsLiteral vars l → HasValue trues l
+all_have_values vars values trues are none l is_lit =
+    let index = var_of l - 1 in
+    let within : index < vars = omega (arith, is_lit.not_zero, is_lit.in_range) in
+    value_of_var trues l index (omega (arith, is_lit.not_zero)) (is_set trues (pos (index + 1)) (slice_index_or values index Unset) (none index within) (are index within))
+
+-- the order does not depend on the increment
+pub heap_grown : (r : Ranking) (heap : Heap) → IsHeap (rank r) heap → IsHeap (rank (grown r)) heap
+unfolding rank
+heap_grown r heap m = m
+
+position_new : (index vars : ℕ) → position_of 0 index vars ≡ index
+position_new index vars = grind arith
+
+-- at first it is that of the variables
+rank_new : (vars index : ℕ) → index < vars → rank (unranked vars) index ≡ vars - 1 - index
+unfolding rank
+rank_new vars index h =
+    let none : activity_of (unranked vars) index ≡ 0 = get_or-replicate vars index 0 0 h in
+    let len : length (unranked vars).activities ≡ vars = length-replicate vars 0 in
+    let times : activity_of (unranked vars) index * length (unranked vars).activities ≡ 0 =
+    ap (λ (n : ℕ). n * length (unranked vars).activities) none ∙ omega arith in
+    omega (arith, times, len, position_new index (length (unranked vars).activities))
+
+pub heap_new : (vars : ℕ) (heap : Heap) → heap.count ≡ vars → ((place : ℕ) → place < vars → slice_index heap.items place ≡ place) → IsHeap (rank (unranked vars)) heap
+heap_new vars heap count items = λ high low b in_heap.
+    let l : low < vars = omega (arith, in_heap, count) in
+    let h : high < vars = omega (arith, b.0, l) in
+    omega (arith, ap (rank (unranked vars)) (items low l), ap (rank (unranked vars)) (items high h), rank_new vars low l, rank_new vars high h, b.0)

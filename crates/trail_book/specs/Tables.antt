@@ -1,24 +1,49 @@
 -- How the tables of a trail are seen, and what is always true of them.
-use Rattle.std.specs.Prelude.{◌≡◌, ◌≤◌, ◌<◌, ◌^◌, length, reverse, vec_capacity}
+use Rattle.std.specs.Prelude.{◌≡◌, ◌≤◌, ◌<◌, ◌+◌, ◌^◌, ℕ, ℤ, List, length, reverse, vec_capacity, pos, slice_index_or}
+use Rattle.sat_base.specs.Literals.{var_of}
 use Rattle.trail_book.specs.declared.trail.Trail.TheInside.{Inside}
+use Rattle.trail_book.specs.declared.order.Ranking.TheInside as ranking
+use Rattle.trail_book.specs.declared.value.Value.{Value}
+use Rattle.trail_book.specs.declared.value.Value.TheVariants.{Unset}
 use Rattle.trail_book.specs.Trail.{Trail, trues, IsTrail}
 use Rattle.trail_book.specs.Slots.{entries_of, AreKept}
 use Rattle.trail_book.specs.Values.{AreValues}
-use Rattle.trail_book.specs.Order.{HaveValues}
+use Rattle.trail_book.specs.Order.{Ranking, rank}
+use Rattle.trail_book.specs.Heap.{Heap, IsHeap, Holds}
+
+-- what callers see of a ranking
+abbrev pub ranking_of : ranking.Inside → Ranking
+ranking_of inside = record { activities = inside.activities.items; increment = inside.increment; start = inside.start }
+
+pub record IsRanking (inside : ranking.Inside) : Type 0 where
+  pub small : length inside.activities.items < 2 ^ 31
+  pub start : inside.start ≤ length inside.activities.items
+
+-- each variable that has no value waits in the heap
+abbrev pub AreWaiting : List Value → Heap → Type 0
+AreWaiting values heap = (index : ℕ) → index < length values → slice_index_or values index Unset ≡ Unset → Holds heap index
+
+-- the literal of each variable is one of it
+abbrev pub AreOfVars : ℕ → List ℤ → Type 0
+AreOfVars vars lits = (index : ℕ) → index < vars → var_of (slice_index_or lits index (pos 0)) ≡ index + 1
 
 -- what callers see of the tables
 abbrev pub trail_of : Inside → Trail
-trail_of inside = record { vars = inside.vars; entries = entries_of (reverse inside.slots.items); done = inside.done }
+trail_of inside =
+    record { vars = inside.vars; entries = entries_of (reverse inside.slots.items); done = inside.done; ranking = inside.ranking; held = inside.held.items }
 
--- the tables are those of a trail: slots, values and places agree, there is room, and picking may go on from where it stands
+-- the tables are those of a trail: slots, values and places agree, there is room, and decisions find the first in their order
 pub record AreTables (inside : Inside) : Type 0 where
   pub trail : IsTrail inside.vars (entries_of (reverse inside.slots.items))
   pub slots : AreKept inside.places.items (reverse inside.slots.items)
   pub values : AreValues inside.vars inside.values.items (trues (entries_of (reverse inside.slots.items)))
   pub one_value_each : length inside.values.items ≡ inside.vars
   pub one_place_each : length inside.places.items ≡ inside.vars
+  pub one_held_each : length inside.held.items ≡ inside.vars
   pub small : inside.vars < 2 ^ 31
   pub room : inside.vars ≤ vec_capacity inside.slots
-  pub start : inside.start ≤ inside.vars
-  pub next : inside.next ≤ inside.vars
-  pub before_next : HaveValues inside.values.items inside.start inside.next
+  pub of_vars : AreOfVars inside.vars inside.held.items
+  pub ranked : length inside.ranking.activities ≡ inside.vars
+  pub sized : length inside.heap.items ≡ inside.vars
+  pub heap : IsHeap (rank inside.ranking) inside.heap
+  pub waiting : AreWaiting inside.values.items inside.heap

@@ -13,15 +13,18 @@
 //! trail.back_to(0);
 //! ```
 //!
-//! Contracts see a [`Trail`] as the list of its [`Entry`]s, the newest first. Start reading at `specs/Trail.antt`,
-//! which says what levels and places are. How the entries are kept is in `specs/Slots.antt`, `specs/Values.antt` and
-//! `specs/Order.antt`, and no contract above names it. `proofs/TrailLemmas.antt` has what callers' proofs need.
+//! Contracts see a [`Trail`] as the list of its [`Entry`]s, the newest first, with what decisions go by: the activities
+//! of the variables, and the literals as they were last held. Start reading at `specs/Trail.antt`, which says what levels
+//! and places are, and at `specs/Order.antt`, which says which variable comes first. How all that is kept is in
+//! `specs/Slots.antt`, `specs/Values.antt` and `specs/Heap.antt`, and no contract above names it. `proofs/TrailLemmas.antt`
+//! has what callers' proofs need.
 //!
-//! Nothing here says why a literal is true, or that the clause of a reason forces it: that is for the crates above. No
-//! clause says which variable is picked.
+//! Nothing here says why a literal is true, or that the clause of a reason forces it, nor which variables are bumped:
+//! that is for the crates above.
 #![tactic(auto)]
 
 mod entry;
+mod heap;
 mod order;
 mod slot;
 #[cfg(test)]

@@ -223,3 +223,83 @@ fn variables_that_are_undone_are_picked_again(rt: HostRuntime) -> Result<(), Fai
     );
     Ok(())
 }
+
+// Bumps the variables in this order, and after each lets later bumps count more.
+fn bump_all(trail: &mut Trail, vars: &[u32]) {
+    for var in vars {
+        if *var > 0 && *var <= trail.vars() {
+            trail.bump(*var);
+            trail.grow();
+        }
+    }
+}
+
+fn activity(trail: &Trail, var: u32) -> u64 {
+    if var == 0 || var > trail.vars() {
+        return 0;
+    }
+    trail.activity(var)
+}
+
+#[test]
+fn greatest_activity_is_picked_first(rt: HostRuntime) -> Result<(), Fail> {
+    let alloc = rt.alloc();
+    let rows: [(&[u32], u64, &[i32]); 5] = [
+        (&[3, 3, 2], 0, &[3, 2, 1, 4]),
+        (&[3, 3, 2], 3, &[3, 2, 4, 1]),
+        (&[2, 3], 0, &[3, 2, 1, 4]),
+        (&[4, 1, 4], 2, &[4, 1, 3, 2]),
+        (&[], 2, &[3, 4, 1, 2]),
+    ];
+    for (bumped, turn, wanted) in rows {
+        let mut trail = Trail::new(alloc, 4)?;
+        bump_all(&mut trail, bumped);
+        trail.start_at(turn);
+        assert_eq!(rt;
+            decide_all(alloc, &mut trail)?.as_slice(),
+            wanted,
+            "turn {turn}"
+        );
+        trail.back_to(0);
+        bump_all(&mut trail, &[1, 1, 1]);
+        assert!(rt;
+            trail.pick().is_some_and(|lit| lit.number() == 1),
+            "turn {turn}"
+        );
+    }
+    Ok(())
+}
+
+#[test]
+fn later_bumps_count_more_where_activities_are_halved(rt: HostRuntime) -> Result<(), Fail> {
+    let alloc = rt.alloc();
+    let mut trail = Trail::new(alloc, 4)?;
+    let mut halved = false;
+    for round in 0u32..2000 {
+        let before = activity(&trail, round % 4 + 1);
+        bump_all(&mut trail, &[4, 1, 3, 2]);
+        if activity(&trail, round % 4 + 1) < before {
+            halved = true;
+        }
+    }
+    assert!(rt; halved);
+    assert_eq!(rt;
+        decide_all(alloc, &mut trail)?.as_slice(),
+        [2, 3, 1, 4].as_slice()
+    );
+    Ok(())
+}
+
+#[test]
+fn literal_is_picked_as_it_was_last_held(rt: HostRuntime) -> Result<(), Fail> {
+    let alloc = rt.alloc();
+    let mut trail = two_levels(alloc)?;
+    trail.back_to(0);
+    assert_eq!(rt;
+        decide_all(alloc, &mut trail)?.as_slice(),
+        [-1, 2, -3, 4].as_slice()
+    );
+    trail.back_to(0);
+    assert!(rt; trail.pick_true().is_some_and(|lit| lit.number() == 1));
+    Ok(())
+}

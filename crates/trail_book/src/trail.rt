@@ -5,17 +5,21 @@
 //! since it counts only while there is a value. A slot has its level, so the level of the last slot is the current one,
 //! and backtracking takes slots from the end while theirs is too high. Room for one slot a variable is taken at the
 //! start, and no variable stands twice, so nothing that comes later can want memory.
-ghost use Rattle.std.specs.Prelude.{◌≡◌, ℕ, ◌+◌, ◌-◌, ◌<◌, ◌≤◌, ◌^◌, ◌∷◌, [], length, map, drop, ℤ, pos, IfOk, Some, None, IfSome, IfNone, neg_ℤ, min};
+//!
+//! Each variable without value waits in a heap, the first in the order of decisions at its top. A variable that gets a
+//! value stays there until it comes to the top, since most lose their value again before that.
+ghost use Rattle.std.specs.Prelude.{◌≡◌, ℕ, ◌+◌, ◌-◌, ◌<◌, ◌≤◌, ◌^◌, ◌∷◌, [], length, map, drop, ℤ, pos, IfOk, Some, None, IfSome, IfNone, neg_ℤ, min, slice_index_or, slice_set};
 ghost use Rattle.sat_base.specs.Literals.{var_of, IsLiteral};
 ghost use Rattle.sat_base.specs.Members.{In};
 ghost use Rattle.sat_base.specs.Units.{IsUnset, HasValue, IsValue};
 ghost use Rattle.trail_book.specs.declared.entry.Entry.{Entry};
 ghost use Rattle.trail_book.specs.Slots.{entry_of};
-ghost use Rattle.trail_book.specs.Order.{IsPositive};
-ghost use Rattle.trail_book.specs.Trail.{trues, top, keep, oldest, IsTrail, IsPlace, with_unit};
+ghost use Rattle.trail_book.specs.Order.{IsPositive, activity_of, bumped, halved, grown, turned};
+ghost use Rattle.trail_book.specs.Trail.{trues, top, keep, oldest, IsTrail, IsPlace, with_unit, positive_from, new_trail, IsFirst, IsReordered};
 
 use crate::entry::Entry;
-use crate::order::{first_unset, index_at, position_of};
+use crate::heap::Heap;
+use crate::order::Ranking;
 use crate::slot::{Slot, id};
 use crate::value::Value;
 use sat_base::Lit;
@@ -33,9 +37,11 @@ pub struct Trail {
     places: Vec<u32>,
     // How many of the values, the oldest ones, have been propagated.
     done: u32,
-    // Where the order of decisions begins, and a position in it before which all variables have a value.
-    start: u32,
-    next: u32,
+    // By variable: the literal that was last true.
+    held: Vec<Lit>,
+    ranking: Ranking,
+    // Each variable without value is in it, and maybe others.
+    heap: Heap,
 }
 
 impl Model for Trail {
@@ -54,16 +60,17 @@ impl Trail {
     /// No literal is true. All memory that the trail will ever need is taken here.
     pub fn new(alloc: Global, vars: u32) -> Result<Trail, AllocError>
         requires { vars < 2 ^ 31 }
-        ensures { IfOk result (λ trail. trail ≡ record { vars = vars; entries = []; done = 0 }) }
+        ensures { IfOk result (λ trail. trail ≡ new_trail vars) }
     {
         Ok(Trail {
             vars,
             slots: Vec::with_capacity(alloc, vars as usize)?,
             values: vec![in alloc; Value::Unset; vars as usize]?,
             places: vec![in alloc; 0u32; vars as usize]?,
+            held: positive(alloc, vars)?,
+            ranking: Ranking::new(alloc, vars)?,
+            heap: Heap::new(alloc, vars)?,
             done: 0,
-            start: 0,
-            next: 0,
         })
     }
 
@@ -185,6 +192,8 @@ impl Trail {
         ensures entries { self.new.entries ≡ record { lit = lit; reason = Some reason; unit = None } ∷ self.old.entries }
         ensures vars { self.new.vars ≡ self.old.vars }
         ensures done { self.new.done ≡ self.old.done }
+        ensures ranking { self.new.ranking ≡ self.old.ranking }
+        ensures held { self.new.held ≡ slice_set self.old.held (var_of lit - 1) lit }
         ensures trail { IsTrail self.new.vars self.new.entries }
     {
         let level = self.top();
@@ -203,6 +212,8 @@ impl Trail {
         ensures entries { self.new.entries ≡ record { lit = lit; reason = None; unit = None } ∷ self.old.entries }
         ensures vars { self.new.vars ≡ self.old.vars }
         ensures done { self.new.done ≡ self.old.done }
+        ensures ranking { self.new.ranking ≡ self.old.ranking }
+        ensures held { self.new.held ≡ slice_set self.old.held (var_of lit - 1) lit }
         ensures trail { IsTrail self.new.vars self.new.entries }
     {
         let _vars = self.vars(); // A trail has no more levels than variables.
@@ -222,6 +233,8 @@ impl Trail {
         ensures entries { self.new.entries ≡ map (with_unit var id) self.old.entries }
         ensures vars { self.new.vars ≡ self.old.vars }
         ensures done { self.new.done ≡ self.old.done }
+        ensures ranking { self.new.ranking ≡ self.old.ranking }
+        ensures held { self.new.held ≡ self.old.held }
     {
         let place = self.place(var) as usize;
         self.slots[place].unit = id;
@@ -232,6 +245,8 @@ impl Trail {
         ensures entries { self.new.entries ≡ keep level self.old.entries }
         ensures vars { self.new.vars ≡ self.old.vars }
         ensures done { self.new.done ≡ min self.old.done (length self.new.entries) }
+        ensures ranking { self.new.ranking ≡ self.old.ranking }
+        ensures held { self.new.held ≡ self.old.held }
         ensures trail { IsTrail self.new.vars self.new.entries }
     {
         let _vars = self.vars(); // This is a trail, also where nothing is above the level.
@@ -246,38 +261,96 @@ impl Trail {
         ensures entries { self.new.entries ≡ self.old.entries }
         ensures vars { self.new.vars ≡ self.old.vars }
         ensures done { self.new.done ≡ min self.old.done (length self.old.entries) }
+        ensures ranking { self.new.ranking ≡ self.old.ranking }
+        ensures held { self.new.held ≡ self.old.held }
     {
         self.done = self.done.min(self.len());
     }
 
-    /// Begins the order of decisions at variable `turn` modulo the number of variables, plus one. It changes nothing
-    /// that contracts speak of.
-    pub fn start_at(&mut self, turn: u64)
-        ensures { self.new ≡ self.old }
+    /// The activity of a variable, from 1 on.
+    pub fn activity(&self, var: u32) -> u64
+        requires { IsLiteral self.now.vars (pos var) }
+        ensures { result ≡ activity_of self.now.ranking (var - 1) }
     {
-        self.start = if self.vars == 0 {
-            0
-        } else {
-            (turn % self.vars as u64) as u32
-        };
-        self.next = 0;
+        self.ranking.activity(var - 1)
     }
 
-    /// A positive literal that has no value, for the next decision. Which one is left open: here it is that of the first
-    /// variable, in the order of decisions, that has none.
+    /// Adds the increment to the activity of a variable.
+    pub fn bump(&mut self, var: u32)
+        requires { IsLiteral self.old.vars (pos var) }
+        ensures room { activity_of self.old.ranking (var - 1) + self.old.ranking.increment < 2 ^ 64 → self.new ≡ record self.old { ranking = bumped (var - 1) self.old.ranking } }
+        ensures full { 2 ^ 64 ≤ activity_of self.old.ranking (var - 1) + self.old.ranking.increment → self.new ≡ record self.old { ranking = bumped (var - 1) (halved self.old.ranking) } }
+        ensures reordered { IsReordered self.old self.new }
+    {
+        let index = var - 1;
+        if self.ranking.bump(index) {
+            self.heap.fill(&self.ranking);
+        } else {
+            self.heap.raise(&self.ranking, index);
+        }
+    }
+
+    /// Lets later bumps count more than those so far.
+    pub fn grow(&mut self)
+        ensures room { (grown self.old.ranking).increment < 2 ^ 64 → self.new ≡ record self.old { ranking = grown self.old.ranking } }
+        ensures full { 2 ^ 64 ≤ (grown self.old.ranking).increment → self.new ≡ record self.old { ranking = grown (halved self.old.ranking) } }
+        ensures reordered { IsReordered self.old self.new }
+    {
+        if self.ranking.grow() {
+            self.heap.fill(&self.ranking);
+        }
+    }
+
+    /// Lets variables of equal activity go round from variable `turn` modulo the number of variables, plus one.
+    pub fn start_at(&mut self, turn: u64)
+        ensures { self.new ≡ record self.old { ranking = turned turn self.old.ranking } }
+    {
+        if self.ranking.start_at(turn) {
+            self.heap.fill(&self.ranking);
+        }
+    }
+
+    /// A literal that has no value, for the next decision. Its variable is the first in the order of decisions, and it is
+    /// as it was last held.
     pub fn pick(&mut self) -> Option<Lit>
         ensures some { IfSome result (λ lit. IsUnset (trues self.old.entries) lit × IsLiteral self.old.vars lit) }
+        ensures first { IfSome result (λ lit. IsFirst self.old lit) }
+        ensures held { IfSome result (λ lit. lit ≡ slice_index_or self.old.held (var_of lit - 1) (pos 0)) }
+        ensures none { IfNone result ((lit : ℤ) → IsLiteral self.old.vars lit → HasValue (trues self.old.entries) lit) }
+        ensures same { self.new ≡ self.old }
+    {
+        let index = self.first_unset()?;
+        Some(self.held[index as usize])
+    }
+
+    /// The same, but positive.
+    pub fn pick_true(&mut self) -> Option<Lit>
+        ensures some { IfSome result (λ lit. IsUnset (trues self.old.entries) lit × IsLiteral self.old.vars lit) }
+        ensures first { IfSome result (λ lit. IsFirst self.old lit) }
         ensures positive { IfSome result (λ lit. IsPositive lit) }
         ensures none { IfNone result ((lit : ℤ) → IsLiteral self.old.vars lit → HasValue (trues self.old.entries) lit) }
         ensures same { self.new ≡ self.old }
     {
-        self.next = first_unset(&self.values, self.start, self.next);
-        if self.next < self.vars {
-            let index = index_at(self.start, self.next, self.vars);
-            Some(Lit::new((index + 1) as i32))
-        } else {
-            None
+        let _vars = self.vars(); // So each variable's number is that of a literal.
+        let index = self.first_unset()?;
+        Some(Lit::new((index + 1) as i32))
+    }
+
+    // The index of the variable without value that comes first. Those that are taken off the heap have a value.
+    fn first_unset(&mut self) -> Option<u32>
+        ensures some { IfSome result (λ index. IsUnset (trues self.old.entries) (pos (index + 1)) × (index < self.old.vars)) }
+        ensures first { IfSome result (λ index. IsFirst self.old (pos (index + 1))) }
+        ensures none { IfNone result ((lit : ℤ) → IsLiteral self.old.vars lit → HasValue (trues self.old.entries) lit) }
+        ensures same { self.new ≡ self.old }
+    {
+        let _vars = self.ranking.vars(); // The circle begins within the variables.
+        while let Some(index) = self.heap.first() {
+            if self.values[index as usize] == Value::Unset {
+                return Some(index);
+            }
+            self.heap.drop_first(&self.ranking);
         }
+        None
     }
 
     // Puts a slot on the trail.
@@ -288,11 +361,14 @@ impl Trail {
         ensures entries { self.new.entries ≡ entry_of slot ∷ self.old.entries }
         ensures vars { self.new.vars ≡ self.old.vars }
         ensures done { self.new.done ≡ self.old.done }
+        ensures ranking { self.new.ranking ≡ self.old.ranking }
+        ensures held { self.new.held ≡ slice_set self.old.held (var_of slot.lit - 1) slot.lit }
         ensures trail { IsTrail self.new.vars self.new.entries }
     {
         let index = (slot.lit.var() - 1) as usize;
         self.values[index] = Value::by(slot.lit);
         self.places[index] = self.slots.len() as u32;
+        self.held[index] = slot.lit;
         self.slots.push_reserved(slot);
     }
 
@@ -302,11 +378,25 @@ impl Trail {
         ensures entries { self.new.entries ≡ drop 1 self.old.entries }
         ensures vars { self.new.vars ≡ self.old.vars }
         ensures done { self.new.done ≡ self.old.done }
+        ensures ranking { self.new.ranking ≡ self.old.ranking }
+        ensures held { self.new.held ≡ self.old.held }
         ensures trail { IsTrail self.new.vars self.new.entries }
     {
         let slot = self.slots.take_last();
         let index = slot.lit.var() - 1;
         self.values[index as usize] = Value::Unset;
-        self.next = self.next.min(position_of(self.start, index, self.vars));
+        self.heap.insert(&self.ranking, index);
     }
+}
+
+// The positive literals of so many variables.
+fn positive(alloc: Global, vars: u32) -> Result<Vec<Lit>, AllocError>
+    requires { vars < 2 ^ 31 }
+    ensures { IfOk result (λ lits. lits.items ≡ positive_from 1 vars) }
+{
+    let mut lits = Vec::with_capacity(alloc, vars as usize)?;
+    for var in 0..vars {
+        lits.push(Lit::new((var + 1) as i32))?;
+    }
+    Ok(lits)
 }

@@ -1,7 +1,6 @@
 use Rattle.std.proofs.Common.{◌∙◌, ap, refl, sym, subst}
 use Rattle.trail_book.specs.Trail.{Trail, keep}
-use Rattle.propagate.specs.Watches.{IsKept}
-use Rattle.propagate.proofs.KeptLemmas.{kept_back}
+use Rattle.propagate.proofs.KeptLemmas.{kept_back, kept_same}
 use Rattle.cdcl_core.specs.State.{IsState}
 use Rattle.cdcl_core.proofs.RootLemmas.{root_start, root_end, root_is}
 use Rattle.cdcl_core.proofs.search.Search.run.Goals as goal
@@ -13,7 +12,8 @@ search-requires-clause-search c =
     let at = c.requires.at_root in
     record {
       vars = at.vars ∙ ap (λ (t : Trail). t.vars) (sym c.start_at.ensures);
-      kept = subst (λ (t : Trail). IsKept s.store t) (sym c.start_at.ensures) at.kept;
+      kept = kept_same s.store s.trail c.start_at.new.self 0 (ap (λ (t : Trail). t.entries) c.start_at.ensures) (ap (λ (t : Trail). t.vars) c.start_at.ensures)
+          (ap (λ (t : Trail). t.done) c.start_at.ensures) at.kept;
       state = subst (λ (t : Trail). IsState t.vars s.store.clauses s.log t.entries assumed 0) (sym c.start_at.ensures) (root_start s.trail.vars s.store.clauses s.log s.trail.entries assumed at.root);
       reached = λ l i. absurd i;
     }

@@ -32,9 +32,12 @@ invariant_of-self c =
       one_place_each = c.self.invariant.one_place_each;
       small = c.self.invariant.small;
       room = c.self.invariant.room;
-      start = c.self.invariant.start;
-      next = c.self.invariant.next;
-      before_next = c.self.invariant.before_next;
+      one_held_each = c.self.invariant.one_held_each;
+      of_vars = c.self.invariant.of_vars;
+      ranked = c.self.invariant.ranked;
+      sized = c.self.invariant.sized;
+      heap = c.self.invariant.heap;
+      waiting = c.self.invariant.waiting;
     }
 
 -- no other entry is of this variable

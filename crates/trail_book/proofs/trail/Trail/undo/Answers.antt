@@ -1,4 +1,4 @@
-use Rattle.std.proofs.Common.{◌≡◌, ◌<◌, ◌≤◌, ◌-◌, ◌∷◌, ◌∙◌, ℕ, List, length, set, arith, ap, subst, sym, length-set}
+use Rattle.std.proofs.Common.{◌≡◌, ◌<◌, ◌-◌, ◌∷◌, ◌∙◌, ℕ, List, length, set, arith, ap, subst, sym, length-set}
 use Rattle.std.specs.Prelude.{reverse}
 use Rattle.sat_base.specs.Literals.{var_of}
 use Rattle.trail_book.specs.declared.slot.Slot.{Slot}
@@ -6,13 +6,12 @@ use Rattle.trail_book.specs.declared.value.Value.TheVariants.{Unset}
 use Rattle.trail_book.specs.Trail.{trues, IsTrail}
 use Rattle.trail_book.specs.Slots.{entries_of, AreKept}
 use Rattle.trail_book.specs.Values.{AreValues}
-use Rattle.trail_book.specs.Order.{position_of}
 use Rattle.trail_book.proofs.SlotLemmas.{push_seen}
 use Rattle.trail_book.proofs.ValueLemmas.{values_undo}
-use Rattle.trail_book.proofs.OrderLemmas.{have_undo}
+use Rattle.trail_book.proofs.WaitLemmas.{waiting_undo}
 use Rattle.trail_book.proofs.trail.Trail.undo.Goals as goal
 
--- the slots below the newest stay, its variable has no value any more, and positions from its own on are not counted
+-- the slots below the newest stay, its variable has no value any more and waits
 pub invariant_of-self : goal.invariant_of-self
 invariant_of-self c =
     let a = c.self.inside in
@@ -24,11 +23,6 @@ invariant_of-self c =
     let index : c.var-index.result - 1 ≡ var_of slot.lit - 1 = omega (arith, c.var-index.ensures.same) in
     let within : c.var-index.result - 1 < length a.values.items =
     omega (arith, inv.one_value_each, trail.1.not_zero, trail.1.in_range, c.var-index.ensures.same) in
-    let to : length a.values.items ≡ a.vars = inv.one_value_each in
-    let at : c.position_of.result ≡ position_of a.start (c.var-index.result - 1) (length a.values.items) =
-    c.position_of.ensures ∙ ap (position_of a.start (c.var-index.result - 1)) (sym to) in
-    let less : c.min-self-inside.result ≤ a.next = grind (arith, c.min-self-inside.ensures) in
-    let before : c.min-self-inside.result ≤ c.position_of.result = grind (arith, c.min-self-inside.ensures) in
     record {
       trail = trail.2;
       slots = (subst (AreKept a.places.items) seen inv.slots).1;
@@ -39,8 +33,10 @@ invariant_of-self c =
       one_place_each = inv.one_place_each;
       small = inv.small;
       room = omega (arith, inv.room, c.take_last-slot.ensures.capacity);
-      start = inv.start;
-      next = omega (arith, less, inv.next);
-      before_next = have_undo a.values.items a.start a.next c.min-self-inside.result (c.var-index.result - 1) (omega (arith, inv.start, to)) within less
-          (omega (arith, inv.next, to)) (omega (arith, before, at)) inv.before_next;
+      one_held_each = inv.one_held_each;
+      of_vars = inv.of_vars;
+      ranked = inv.ranked;
+      sized = c.insert.ensures.size ∙ inv.sized;
+      heap = c.insert.ensures.heap;
+      waiting = waiting_undo a.values.items a.heap c.insert.new.self (c.var-index.result - 1) within c.insert.ensures.item c.insert.ensures.holds inv.waiting;
     }

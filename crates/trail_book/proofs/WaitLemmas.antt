@@ -1,0 +1,93 @@
+-- Variables that wait for a decision, and the literals that were last true, as variables get and lose their values.
+use Rattle.std.proofs.Common.{◌≡◌, ◌≢◌, ℕ, ◌+◌, ◌-◌, ◌<◌, zero, suc, List, [], ◌∷◌, ◌++◌, append_assoc, replicate, length, set, refl, sym, ◌∙◌, ap, subst, inl, inr, arith, length-set, get_or-set_same, get_or-set_other}
+use Rattle.std.specs.Prelude.{ℤ, pos, negsuc, slice_index_or}
+use Rattle.std.proofs.lemmas.Bool.{cases_eq}
+use Rattle.std.proofs.lemmas.List.{get_or-replicate}
+use Rattle.sat_base.specs.Literals.{var_of}
+use Rattle.sat_base.specs.Units.{IsUnset, IsValue}
+use Rattle.trail_book.specs.declared.value.Value.{Value}
+use Rattle.trail_book.specs.declared.value.Value.TheVariants.{Unset}
+use Rattle.trail_book.specs.Values.{value_by, truth_of, AreValues}
+use Rattle.trail_book.specs.Heap.{Heap, Holds}
+use Rattle.trail_book.specs.Tables.{AreWaiting, AreOfVars}
+use Rattle.trail_book.specs.Trail.{positive_from}
+
+by_is_set : (lit : ℤ) → value_by lit ≢ Unset
+by_is_set (pos n) = λ same. cc
+by_is_set (negsuc n) = λ same. cc
+
+-- with one value more
+pub waiting_push : (values : List Value) (heap : Heap) (lit : ℤ) (index : ℕ) → index < length values → AreWaiting values heap
+    → AreWaiting (set values index (value_by lit)) heap
+waiting_push values heap lit index within waits = λ i h gone.
+    let len : length (set values index (value_by lit)) ≡ length values = length-set values index (value_by lit) in
+    elim (cases_eq i index) [
+      | inl same ↦
+          absurd (by_is_set lit
+          (sym (get_or-set_same values index (value_by lit) Unset within) ∙ ap (λ (k : ℕ). slice_index_or (set values index (value_by lit)) k Unset) (sym same) ∙ gone))
+      | inr other ↦ waits i (omega (arith, h, len)) (sym (get_or-set_other values index i (value_by lit) Unset other) ∙ gone)
+    ]
+
+-- with one value less, whose variable the heap takes in
+pub waiting_undo : (values : List Value) (old new : Heap) (index : ℕ) → index < length values → Holds new index
+    → ((item : ℕ) → Holds old item → Holds new item) → AreWaiting values old → AreWaiting (set values index Unset) new
+waiting_undo values old new index within taken more waits = λ i h gone.
+    let len : length (set values index Unset) ≡ length values = length-set values index Unset in
+    elim (cases_eq i index) [
+      | inl same ↦ subst (Holds new) (sym same) taken
+      | inr other ↦ more i (waits i (omega (arith, h, len)) (sym (get_or-set_other values index i Unset Unset other) ∙ gone))
+    ]
+
+-- the heap lets one go that has a value
+pub waiting_drop : (values : List Value) (old new : Heap) (index : ℕ) → slice_index_or values index Unset ≢ Unset
+    → ((item : ℕ) → Holds old item → item ≢ index → Holds new item) → AreWaiting values old → AreWaiting values new
+waiting_drop values old new index has less waits = λ i h gone.
+    less i (waits i h gone) (λ same. has (ap (λ (k : ℕ). slice_index_or values k Unset) (sym same) ∙ gone))
+
+-- another heap that holds the same and more
+pub waiting_more : (values : List Value) (old new : Heap) → ((item : ℕ) → Holds old item → Holds new item) → AreWaiting values old → AreWaiting values new
+waiting_more values old new more waits = λ i h gone. more i (waits i h gone)
+
+pub waiting_all : (values : List Value) (heap : Heap) (vars : ℕ) → length values ≡ vars → ((item : ℕ) → item < vars → Holds heap item) → AreWaiting values heap
+waiting_all values heap vars len all = λ i h gone. all i (omega (arith, h, len))
+
+-- the literal of a variable takes the place of the one before
+pub held_push : (vars : ℕ) (held : List ℤ) (lit : ℤ) (index : ℕ) → index ≡ var_of lit - 1 → 0 < var_of lit → index < length held → AreOfVars vars held
+    → AreOfVars vars (set held index lit)
+held_push vars held lit index is low within are = λ i h. elim (cases_eq i index) [
+  | inl same ↦
+      ap (λ (k : ℕ). var_of (slice_index_or (set held index lit) k (pos 0))) same
+      ∙ ap var_of (get_or-set_same held index lit (pos 0) within)
+      ∙ omega (arith, is, low, same)
+  | inr other ↦ ap var_of (get_or-set_other held index i lit (pos 0) other) ∙ are i h
+]
+
+-- at first each literal is its variable
+pub held_new : (first vars index : ℕ) → index < vars → slice_index_or (positive_from first vars) index (pos 0) ≡ pos (first + index)
+held_new first zero index h = absurd (omega (arith, h))
+held_new first (suc vars) zero h = ap pos (omega arith)
+held_new first (suc vars) (suc index) h = held_new (first + 1) vars index (omega (arith, h)) ∙ ap pos (omega arith)
+
+pub length-positive_from : (first vars : ℕ) → length (positive_from first vars) ≡ vars
+length-positive_from first zero = refl
+length-positive_from first (suc vars) = omega (arith, length-positive_from (first + 1) vars)
+
+-- they are pushed one by one
+pub positive_step : (lits all : List ℤ) (var vars : ℕ) → var < vars → lits ++ positive_from (var + 1) (vars - var) ≡ all
+    → (lits ++ pos (var + 1) ∷ []) ++ positive_from (var + 1 + 1) (vars - (var + 1)) ≡ all
+positive_step lits all var vars h is =
+    let count : suc (vars - (var + 1)) ≡ vars - var = omega (arith, h) in
+    append_assoc lits (pos (var + 1) ∷ []) (positive_from (var + 1 + 1) (vars - (var + 1)))
+    ∙ ap (λ (n : ℕ). lits ++ positive_from (var + 1) n) count
+    ∙ is
+
+pub held_of_vars : (vars : ℕ) (held : List ℤ) → held ≡ positive_from 1 vars → AreOfVars vars held
+held_of_vars vars held is = λ index h.
+    ap (λ (lits : List ℤ). var_of (slice_index_or lits index (pos 0))) is ∙ ap var_of (held_new 1 vars index h) ∙ omega arith
+
+-- at first no variable has a value
+pub values_new : (vars : ℕ) (values : List Value) (trues : List ℤ) → trues ≡ [] → values ≡ replicate vars Unset → AreValues vars values trues
+values_new vars values trues none is = λ index h.
+    let gone : slice_index_or values index Unset ≡ Unset = ap (λ (vs : List Value). slice_index_or vs index Unset) is ∙ get_or-replicate vars index Unset Unset h in
+    subst (λ (v : Value). IsValue trues (pos (index + 1)) (truth_of v)) (sym gone)
+    (subst (λ (ts : List ℤ). IsUnset ts (pos (index + 1))) (sym none) (record { not_true = λ i. i; not_false = λ i. i }))

@@ -1,0 +1,28 @@
+use Rattle.std.proofs.Common.{◌<◌, ◌∙◌, ℕ, sym, subst, arith}
+use Rattle.trail_book.specs.Order.{rank}
+use Rattle.trail_book.specs.Heap.{key, MaySink, IsBelow}
+use Rattle.trail_book.proofs.HeapLemmas.{keys_exchanged, sink_step, swap_keeps, keeps_more}
+use Rattle.trail_book.proofs.heap.Heap.sink.Goals as goal
+
+-- the item is one level lower, and it alone may still be out of order
+pub loop-low-preserved : goal.loop-low-preserved
+loop-low-preserved c =
+    let old = c.loop-low.self in
+    let new = c.swap.new.self in
+    let r = rank c.args.ranking.now in
+    let at = c.loop-low.at in
+    let low = c.in-Some.low in
+    let inv = c.loop-low.invariant in
+    let told = c.in-Some.ensures in
+    let below : IsBelow low at = told.some.0 in
+    let within : low < old.count = told.some.1 in
+    let step = sink_step (key r old) (key r new) old.count at low below within inv.heap (c.is_above.ensures.yes c.if-not-is_above.false) told.greater
+    (keys_exchanged r old.items new.items low at c.swap.ensures.swapped) in
+    let upper : at < old.count = omega (arith, below.0, within) in
+    record {
+      within = omega (arith, within, inv.room, c.swap.ensures.size);
+      heap = subst (λ (n : ℕ). MaySink (key r new) n low) (sym c.swap.ensures.count) step;
+      size = inv.size ∙ sym c.swap.ensures.size;
+      room = omega (arith, inv.room, c.swap.ensures.count, c.swap.ensures.size);
+      keeps = keeps_more c.args.self.now old new inv.keeps (swap_keeps old new low at within upper c.swap.ensures.count c.swap.ensures.size c.swap.ensures.swapped);
+    }
