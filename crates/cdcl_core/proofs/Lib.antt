@@ -8,3 +8,5 @@ pub mod TestLemmas
 pub mod EntranceLemmas
 mod GreatestLemmas
 pub mod ForgetLemmas
+pub mod ActivityLemmas
+pub mod RestartLemmas

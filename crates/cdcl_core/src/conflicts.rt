@@ -12,6 +12,7 @@ ghost use Rattle.learn_step.specs.Learnt.{start_of};
 ghost use Rattle.cdcl_core.specs.Answers.{IsHonestlyPaid, IsRefuted};
 ghost use Rattle.cdcl_core.specs.Search.{IsSearch, IsRound};
 
+use crate::activity::bump_conflict;
 use crate::entrance::enter_learnt;
 use crate::search::Search;
 use crate::solved::Solved;
@@ -51,6 +52,7 @@ impl Search {
             return Ok(Some(Solved::Dry));
         }
         self.learn_from(alloc, assumed, purse, id)?;
+        self.count_conflict();
         Ok(None)
     }
 
@@ -72,6 +74,9 @@ impl Search {
         ensures vars { self.new.trail.vars ≡ self.old.trail.vars }
     {
         let learnt = learn(alloc, &self.store, &self.trail, id)?;
+        let lits: &[Lit] = &learnt.lits;
+        let hints: &[u64] = &learnt.hints;
+        bump_conflict(&self.store, &mut self.trail, lits, hints);
         let step = LogStep::Learned(&learnt.lits, &learnt.hints);
         let reason = add_step(&mut self.log, &mut self.store, step)?;
         purse.left -= 1;

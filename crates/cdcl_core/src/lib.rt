@@ -22,10 +22,12 @@
 //! assumed literals are greatest, and that memory suffices.
 #![tactic(auto)]
 
+mod activity;
 mod conflicts;
 mod decisions;
 mod entrance;
 mod forgetting;
+mod restart;
 mod search;
 mod solved;
 mod solver;

@@ -50,6 +50,8 @@ pub struct Search {
     pub assumed_levels: u32,
     /// The assumed literals before this one are true.
     pub assumed_true: usize,
+    /// How many conflicts stood since the search began, or since the last restart.
+    pub conflicts: u32,
 }
 
 impl Search {
@@ -73,6 +75,7 @@ impl Search {
         self.trail.start_at(turn);
         self.assumed_levels = 0;
         self.assumed_true = 0;
+        self.conflicts = 0;
         let answer = self.search(alloc, assumed, purse)?;
         self.trail.back_to(0);
         Ok(answer)

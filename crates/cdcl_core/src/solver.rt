@@ -70,6 +70,7 @@ impl Solver {
             rooted: 0,
             assumed_levels: 0,
             assumed_true: 0,
+            conflicts: 0,
         };
         Ok(Solver {
             search,

@@ -1,15 +1,16 @@
-use Rattle.std.proofs.Common.{◌≡◌, ◌∷◌, [], ◌++◌, ◌-◌, arith, subst, sym, ap, ◌∙◌, List, length, ℕ, Some, None, inl, inr}
+use Rattle.std.proofs.Common.{◌≡◌, ◌∷◌, [], ◌++◌, ◌-◌, arith, subst, sym, ap, ◌∙◌, List, length, ℕ, min, Some, None, inl, inr}
 use Rattle.std.specs.Prelude.{ℤ, true}
 use Rattle.sat_base.specs.Members.{In}
 use Rattle.sat_base.specs.Literals.{IsLiteral, AreLiterals}
 use Rattle.trail_book.specs.declared.entry.Entry.{Entry}
-use Rattle.trail_book.specs.Trail.{trues, keep}
+use Rattle.trail_book.specs.Trail.{Trail, trues, keep}
 use Rattle.propagate.specs.Entrance.{IsUnwatched}
 use Rattle.propagate.proofs.KeptLemmas.{kept_back}
 use Rattle.lrat_steps.specs.Log.{LogStep, Learned}
 use Rattle.cdcl_core.specs.Answers.{IsHonestlyPaid}
 use Rattle.cdcl_core.specs.Entrance.{IsAsserting}
 use Rattle.propagate.proofs.NewLemmas.{new_kept, new_clause}
+use Rattle.cdcl_core.proofs.ActivityLemmas.{hint_is_id}
 use Rattle.cdcl_core.proofs.EntranceLemmas.{asserts}
 use Rattle.cdcl_core.proofs.SearchLemmas.{sound_reasoned}
 use Rattle.cdcl_core.proofs.StateLemmas.{conflict_of, learned_state, learned_recorded, learned_first, reached_below, paid_learned, state_is, first_is, literals_from, used_literal}
@@ -33,6 +34,21 @@ add_step-requires c =
     let over : (l : ℤ) → In l lits → IsLiteral s.trail.vars l = λ l i. used_literal s.trail.vars s.store.clauses l c.requires.search.state.recorded.over (used l i) in
     subst (λ (n : ℕ). AreLiterals n c.deref.result.now) (sym c.requires.search.vars) (subst (AreLiterals s.trail.vars) (sym c.deref.ensures.value) (literals_from s.trail.vars lits over))
 
+pub bump_conflict-requires-clause-literals : goal.bump_conflict-requires-clause-literals
+bump_conflict-requires-clause-literals c =
+    let s = c.args.self.now in
+    let used = c.in_ok-learnt.ensures.used in
+    subst (AreLiterals s.trail.vars) (sym c.deref-lits.ensures.value)
+    (literals_from s.trail.vars c.in_ok-learnt.learnt.lits.items (λ l i. used_literal s.trail.vars s.store.clauses l c.requires.search.state.recorded.over (used l i)))
+
+-- a clause follows by clauses of the store
+pub bump_conflict-requires-clause-hints : goal.bump_conflict-requires-clause-hints
+bump_conflict-requires-clause-hints c = λ id i.
+    let s = c.args.self.now in
+    let learnt = c.in_ok-learnt.learnt in
+    let hints_are : c.deref-hints.result.now ≡ learnt.hints.items = cc in
+    hint_is_id s.store.clauses learnt.lits.items learnt.hints.items id c.in_ok-learnt.ensures.follows (subst (λ (hs : List ℕ). In id hs) hints_are i)
+
 -- all is kept but of the new clause, also where the trail has gone back
 pub enter_learnt-requires-clause-kept : goal.enter_learnt-requires-clause-kept
 enter_learnt-requires-clause-kept c =
@@ -43,7 +59,12 @@ enter_learnt-requires-clause-kept c =
     let id = c.in_ok-reason.reason in
     let stored : c.add_step.new.store.clauses ≡ s.store.clauses ++ record { lits = lits; live = true } ∷ [] =
     c.in_ok-reason.ensures.stored ∙ ap (λ (ls : List ℤ). s.store.clauses ++ record { lits = ls; live = true } ∷ []) c.deref.ensures.value in
-    kept_back c.add_step.new.store s.trail c.back_to.new.self id back c.back_to.ensures.entries c.back_to.ensures.vars c.back_to.ensures.done
+    let re = c.bump_conflict.ensures in
+    let entries_back : c.back_to.new.self.entries ≡ keep back s.trail.entries = c.back_to.ensures.entries ∙ ap (λ (t : Trail). keep back t.entries) re in
+    let vars_back : c.back_to.new.self.vars ≡ s.trail.vars = c.back_to.ensures.vars ∙ ap (λ (t : Trail). t.vars) re in
+    let done_back : c.back_to.new.self.done ≡ min s.trail.done (length c.back_to.new.self.entries) =
+    c.back_to.ensures.done ∙ ap (λ (t : Trail). min t.done (length c.back_to.new.self.entries)) re in
+    kept_back c.add_step.new.store s.trail c.back_to.new.self id back entries_back vars_back done_back
     (new_kept s.store c.add_step.new.store s.trail id lits c.requires.search.kept c.add_step.ensures.links stored c.add_step.ensures.vars c.in_ok-reason.ensures.id)
 
 pub enter_learnt-requires-clause-unwatched : goal.enter_learnt-requires-clause-unwatched
@@ -66,7 +87,9 @@ enter_learnt-requires-clause-literal c =
     let first = first_is learnt.lits.items r.rest c.index-first.result.now r.first r.is c.index-first.ensures in
     let lit =
     learned_first s.trail.vars s.store.clauses s.log s.trail.entries c.args.assumed.now s.assumed_levels learnt.back_level learnt.lits.items learnt.hints.items c.requires.search.state r in
-    subst (λ (n : ℕ). IsLiteral n c.index-first.result.now) (sym c.back_to.ensures.vars) (subst (IsLiteral s.trail.vars) (sym first) lit.1)
+    let re = c.bump_conflict.ensures in
+    let vars_back : c.back_to.new.self.vars ≡ s.trail.vars = c.back_to.ensures.vars ∙ ap (λ (t : Trail). t.vars) re in
+    subst (λ (n : ℕ). IsLiteral n c.index-first.result.now) (sym vars_back) (subst (IsLiteral s.trail.vars) (sym first) lit.1)
 
 -- on the trail that is left the clause forces its first literal
 pub enter_learnt-requires-clause-asserting : goal.enter_learnt-requires-clause-asserting
@@ -78,7 +101,9 @@ enter_learnt-requires-clause-asserting c =
     let lit =
     learned_first s.trail.vars s.store.clauses s.log s.trail.entries c.args.assumed.now s.assumed_levels learnt.back_level learnt.lits.items learnt.hints.items c.requires.search.state r in
     let asserting = asserts s.store.clauses s.trail.entries learnt.lits.items learnt.hints.items learnt.back_level r lit.0 in
-    subst (λ (xs : List Entry). IsAsserting xs c.deref-3.result.now c.index-first.result.now) (sym c.back_to.ensures.entries)
+    let entries_back : c.back_to.new.self.entries ≡ keep learnt.back_level s.trail.entries =
+    c.back_to.ensures.entries ∙ ap (λ (t : Trail). keep learnt.back_level t.entries) c.bump_conflict.ensures in
+    subst (λ (xs : List Entry). IsAsserting xs c.deref-3.result.now c.index-first.result.now) (sym entries_back)
     (subst (λ (ls : List ℤ). IsAsserting (keep learnt.back_level s.trail.entries) ls c.index-first.result.now) (sym c.deref-3.ensures.value)
     (subst (λ (l : ℤ). IsAsserting (keep learnt.back_level s.trail.entries) learnt.lits.items l) (sym first) asserting))
 
@@ -102,10 +127,13 @@ returns-clause-search c =
     c.in_ok-reason.ensures.stored ∙ ap (λ (ls : List ℤ). db ++ record { lits = ls; live = true } ∷ []) c.deref.ensures.value in
     let first = first_is lits r.rest c.index-first.result.now r.first r.is c.index-first.ensures in
     let id_is : id ≡ length (db ++ record { lits = lits; live = true } ∷ []) = c.in_ok-reason.ensures.id ∙ ap length stored in
+    let re = c.bump_conflict.ensures in
+    let entries_back : c.back_to.new.self.entries ≡ keep back s.trail.entries = c.back_to.ensures.entries ∙ ap (λ (t : Trail). keep back t.entries) re in
+    let vars_back : c.back_to.new.self.vars ≡ s.trail.vars = c.back_to.ensures.vars ∙ ap (λ (t : Trail). t.vars) re in
     let entries : c.enter_learnt.new.trail.entries ≡ record { lit = r.first; reason = Some id; unit = None } ∷ keep back es =
     c.enter_learnt.ensures.entries ∙ ap (λ (l : ℤ). record { lit = l; reason = Some id; unit = None } ∷ c.back_to.new.self.entries) first
-    ∙ ap (λ (xs : List Entry). record { lit = r.first; reason = Some id; unit = None } ∷ xs) c.back_to.ensures.entries in
-    let vars : c.enter_learnt.new.trail.vars ≡ s.trail.vars = c.enter_learnt.ensures.vars ∙ c.back_to.ensures.vars in
+    ∙ ap (λ (xs : List Entry). record { lit = r.first; reason = Some id; unit = None } ∷ xs) entries_back in
+    let vars : c.enter_learnt.new.trail.vars ≡ s.trail.vars = c.enter_learnt.ensures.vars ∙ vars_back in
     let reached =
     reached_below db assumed count back c.reached_at-self.result es c.requires.search.state.sound r.back.below (elim c.reached_at-self.ensures [ inl none ↦ inl none | inr kept ↦ inr kept.0 ]) in
     record {

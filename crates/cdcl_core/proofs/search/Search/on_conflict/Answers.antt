@@ -1,4 +1,4 @@
-use Rattle.std.proofs.Common.{arith}
+use Rattle.std.proofs.Common.{inl, arith}
 use Rattle.cdcl_core.proofs.StateLemmas.{dry_of}
 use Rattle.cdcl_core.proofs.search.Search.on_conflict.Goals as goal
 
@@ -14,6 +14,12 @@ returns-then-purse-eq0-clause-round c =
       );
       greatest = λ none. tt;
     }
+
+-- the unit is paid, and a restart keeps what the search needs
+pub returns-clause-round : goal.returns-clause-round
+returns-clause-round c =
+    let unit = c.in_ok-learn_from.ensures.unit in
+    record { search = c.count_conflict.ensures.search c.args.assumed.now c.in_ok-learn_from.ensures.search; progress = inl (omega (arith, unit)) }
 
 -- a core costs nothing
 pub returns-in_err-core-clause-paid : goal.returns-in_err-core-clause-paid

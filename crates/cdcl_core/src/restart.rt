@@ -1,0 +1,29 @@
+//! Restarts.
+//!
+//! After so many conflicts the choices are taken back, and the search goes on from the assumed literals with what it has
+//! learnt and with the activities as they are (Gomes, Selman and Kautz 1998). The values that the choices had are found
+//! again, since a variable is picked as it was last held. A restart stands right after a conflict, which has paid a unit,
+//! so there are no more restarts than units.
+ghost use Rattle.std.specs.Prelude.{◌≡◌, List, ℤ};
+ghost use Rattle.cdcl_core.specs.Search.{IsSearch};
+
+use crate::search::Search;
+
+// How many conflicts stand between two restarts.
+const CONFLICTS: u32 = 100;
+
+impl Search {
+    /// Counts a conflict, and restarts where there were enough.
+    pub fn count_conflict(&mut self)
+        ensures search { (assumed : List ℤ) → IsSearch self.old assumed → IsSearch self.new assumed }
+        ensures log { self.new.log ≡ self.old.log }
+        ensures vars { self.new.trail.vars ≡ self.old.trail.vars }
+    {
+        if self.conflicts < CONFLICTS - 1 {
+            self.conflicts += 1;
+            return;
+        }
+        self.conflicts = 0;
+        self.trail.back_to(self.assumed_levels);
+    }
+}
