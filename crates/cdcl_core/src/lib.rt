@@ -16,7 +16,8 @@
 //! Start with [`Solver`], whose contracts are in the words of `specs/Answers.antt`. The loop is in `search.rt`, where
 //! the head says what holds in each round and why that suffices (`specs/State.antt`). `conflicts.rt` and `decisions.rt`
 //! are the two ways on from there, `entrance.rt` has learnt clauses be watched, `units.rt` logs what holds at level 0,
-//! and `steps.rt` keeps log and clauses in step.
+//! and `steps.rt` keeps log and clauses in step. `activity.rt` says which variables are bumped, and `restart.rt` when the
+//! search begins anew.
 //!
 //! Not said here: how many units a search needs, which core it finds, which model beyond that those of `new_true` under no
 //! assumed literals are greatest, and that memory suffices.

@@ -22,7 +22,7 @@
 //! Why a model under no assumed literals is greatest: a true literal of it was decided, and is positive, or is forced by
 //! earlier ones. So a model with all of its true variables agrees with it, literal by literal along the trail.
 //!
-//! It ends, since each round pays a unit or gives one more variable a value.
+//! It ends, since each round pays a unit or gives one more variable a value. A restart is part of a round that pays.
 ghost use Rattle.std.specs.Prelude.{◌≡◌, ℕ, ◌≤◌, [], length, IfOk, OnOk};
 ghost use Rattle.sat_base.specs.Literals.{AreLiterals};
 ghost use Rattle.trail_book.specs.Trail.{trues};
