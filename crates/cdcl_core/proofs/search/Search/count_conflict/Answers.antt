@@ -1,4 +1,4 @@
-use Rattle.std.proofs.Common.{◌≡◌, ◌∙◌, ℕ, List, take, subst, sym, ap, refl}
+use Rattle.std.proofs.Common.{◌∙◌, List, take, subst, sym, refl}
 use Rattle.sat_base.specs.Units.{AllTrue}
 use Rattle.trail_book.specs.declared.entry.Entry.{Entry}
 use Rattle.trail_book.specs.Trail.{trues, keep}
