@@ -1,5 +1,5 @@
 //! Sets of groups with what shows them.
-use gm_base::{Assign, Derivation, GroupSet};
+use gm_base::{Derivation, GroupSet};
 
 /// A set of groups, and what shows something of it.
 #[derive(Drop)]
@@ -10,6 +10,3 @@ pub struct Entry<E> {
 
 /// A set that is unsatisfiable with the background, and its refutation.
 pub type Refuted = Entry<Derivation>;
-
-/// The groups outside of a satisfiable set, and an assignment that satisfies the background and all other groups.
-pub type Satisfied = Entry<Assign>;

@@ -5,23 +5,26 @@
 //! is found moves there, since the next question is often alike. Beside each set stands its guard, the group by which it
 //! failed last: most sets that don't fit fail by it again, and cost one look.
 //!
+//! A look is one guard that is read: they stand side by side, in the order of the numbers.
+//!
 //! What is found is a number. Whoever looks up tests the set before anything is said of it, so nothing rests on the lists,
 //! the guards and the marks.
 ghost use Rattle.std.specs.Prelude.{◌≡◌, [], ◌∷◌, ◌++◌, IfOk, IfSome, Some, OnOk, OnErr, slice_get};
 
-use crate::entry::Entry;
+use crate::arena::{Lent, SetArena};
 use std::alloc::{AllocError, Global};
 use std::marker::Model;
 
-// A group of a set costs its number and its place in a list; a set its entry, its guard, and what the heap adds.
-const GROUP_BYTES: usize = 8;
+// A group of a set costs its number and its place in a list, and the room that lists are ahead by; a set its span with its
+// evidence, its guard, and its place among the hashes.
+const GROUP_BYTES: usize = 12;
 
-const SET_BYTES: usize = 96;
+const SET_BYTES: usize = 80;
 
 /// Sets with their evidence.
 #[derive(Drop)]
 pub struct SetIndex<E> {
-    entries: Vec<Entry<E>>,
+    sets: SetArena<E>,
     guards: Vec<u32>,
     lists: Vec<Vec<u32>>,
     bytes: usize,
@@ -34,7 +37,7 @@ impl<E> Model for SetIndex<E> {
 
     ghost Value = { List (Entry E) };
 
-    ghost view = { λ index. index.entries.items };
+    ghost view = { λ index. index.sets };
 }
 
 /// Which groups are marked, and the one group to which that does not matter.
@@ -73,7 +76,7 @@ impl<E> SetIndex<E> {
             lists.push(Vec::new(alloc))?;
         }
         Ok(SetIndex {
-            entries: Vec::new(alloc),
+            sets: SetArena::new(alloc),
             guards: Vec::new(alloc),
             lists,
             bytes: 0,
@@ -81,11 +84,16 @@ impl<E> SetIndex<E> {
         })
     }
 
-    /// The entry of this number.
-    pub fn get(&self, number: usize) -> Option<&Entry<E>>
-        ensures { IfSome result (λ entry. slice_get self.now number ≡ Some entry.now) }
+    /// How many sets there are.
+    pub fn len(&self) -> usize {
+        self.sets.len()
+    }
+
+    /// The set of this number.
+    pub fn get(&self, number: usize) -> Option<Lent<'_, E>>
+        ensures { IfSome result (λ lent. slice_get self.now number ≡ Some (record { set = lent.set.now; evidence = lent.evidence.now })) }
     {
-        self.entries.get(number)
+        self.sets.get(number)
     }
 
     /// The number of a set that fits, where one is found.
@@ -96,13 +104,13 @@ impl<E> SetIndex<E> {
         if at >= self.lists.len() {
             return None;
         }
-        walk(&self.entries, &mut self.guards, &mut self.lists[at], wanted)
+        walk(&self.sets, &mut self.guards, &mut self.lists[at], wanted)
     }
 }
 
 // Walks the list of a group from its end.
 fn walk<E>(
-    entries: &[Entry<E>],
+    sets: &SetArena<E>,
     guards: &mut [u32],
     list: &mut [u32],
     wanted: Wanted<'_>,
@@ -111,9 +119,8 @@ fn walk<E>(
     for passed in 0..len {
         let at = len - 1 - passed;
         let number = list[at] as usize;
-        if number < entries.len() && number < guards.len() && wanted.passes(guards[number]) {
-            let set = entries[number].set.as_slice();
-            let Some(failing) = wanted.first_failing(set) else {
+        if number < guards.len() && wanted.passes(guards[number]) {
+            let Some(failing) = failing_of(sets, number, wanted) else {
                 list.swap(at, len - 1);
                 return Some(number);
             };
@@ -123,25 +130,29 @@ fn walk<E>(
     None
 }
 
+// The first group of a set that does not pass.
+fn failing_of<E>(sets: &SetArena<E>, number: usize, wanted: Wanted<'_>) -> Option<u32> {
+    let lent = sets.get(number)?;
+    wanted.first_failing(lent.set)
+}
+
 impl<E: Drop> SetIndex<E> {
     /// Adds a set at the end, where there is memory for it and the bound allows it.
-    pub fn insert(&mut self, entry: Entry<E>) -> Result<(), AllocError>
-        ensures ok { OnOk result (self.new ≡ self.old ++ entry ∷ []) }
+    pub fn insert(&mut self, groups: &[u32], evidence: E) -> Result<(), AllocError>
+        ensures ok { OnOk result (self.new ≡ self.old ++ record { set = groups.now; evidence = evidence } ∷ []) }
         ensures err { OnErr result (self.new ≡ self.old) }
     {
-        let groups = entry.set.as_slice();
         let Some(bytes) = bytes_with(self.bytes, groups.len(), self.most) else {
             return Err(AllocError);
         };
-        let Ok(number) = u32::try_from(self.entries.len()) else {
+        let Ok(number) = u32::try_from(self.sets.len()) else {
             return Err(AllocError);
         };
-        self.entries.reserve(1)?;
         self.guards.reserve(1)?;
         list_under(&mut self.lists, groups, number)?;
+        self.sets.push(groups, evidence)?;
         self.guards
             .push_reserved(groups.first().copied().unwrap_or(0));
-        self.entries.push_reserved(entry);
         self.bytes = bytes;
         Ok(())
     }

@@ -20,11 +20,14 @@
 //! Not said here: that a set which is known is found, and that there is memory to remember one. Both only cost a question.
 #![tactic(auto)]
 
+mod arena;
 mod entry;
 mod index;
 mod memory;
 mod neighbours;
+mod numbers;
 mod oracle;
+mod satisfied;
 #[cfg(test)]
 mod tests;
 

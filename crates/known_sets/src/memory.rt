@@ -20,9 +20,11 @@ ghost use Rattle.gm_base.specs.Evidence.{refutes, is_witness};
 ghost use Rattle.evidence_rec.specs.Records.{IsAccepted};
 ghost use Rattle.known_sets.specs.Memory.{IsRefuted, IsSatisfied, IsRightFor};
 
-use crate::entry::{Entry, Refuted, Satisfied};
+use crate::arena::set_of;
+use crate::entry::{Entry, Refuted};
 use crate::index::{SetIndex, Wanted};
 use crate::neighbours::one_more;
+use crate::satisfied::SatisfiedSets;
 use evidence_rec::Record;
 use gm_base::{Assign, Derivation, GroupSet};
 use std::alloc::{AllocError, Global};
@@ -34,7 +36,7 @@ pub struct Memory {
     refuted: SetIndex<Derivation>,
     held: Option<Refuted>,
     // Each by its complement.
-    satisfied: SetIndex<Assign>,
+    satisfied: SatisfiedSets,
     // No group is marked between look-ups.
     marks: Vec<bool>,
     last_refuted: Option<GroupSet>,
@@ -50,40 +52,44 @@ impl Memory {
             groups,
             refuted: SetIndex::new(alloc, groups, most / 2)?,
             held: None,
-            satisfied: SetIndex::new(alloc, groups, most / 2)?,
+            satisfied: SatisfiedSets::new(alloc, groups, most / 2)?,
             marks: vec![in alloc; false; groups as usize + 1]?,
             last_refuted: None,
             last_satisfied: None,
         })
     }
 
-    /// A refuted set within this one, where it has one group more than the last satisfied one and such a set is found.
+    /// A refuted set within this one, where one is found: by the one group that it has more than the last satisfied set, or
+    /// the one that was refuted last.
     pub fn refuted_within(&mut self, alloc: Global, set: &GroupSet) -> Option<Refuted>
         ensures right { (p : Problem) → IsRightFor p self.old → IsRightFor p self.new }
         ensures within { IfSome result (λ entry. IsSubset entry.set set.now) }
         ensures refuted { (p : Problem) → IsRightFor p self.old → IfSome result (IsRefuted p) }
     {
-        let group = more_than(&self.last_satisfied, set)?;
-        let entry = refuted_by(
-            alloc,
-            &self.held,
-            &mut self.refuted,
-            &mut self.marks,
-            set,
-            group,
-        )?;
+        let entry = match more_than(&self.last_satisfied, set) {
+            Some(group) => refuted_by(
+                alloc,
+                &self.held,
+                &mut self.refuted,
+                &mut self.marks,
+                set,
+                group,
+            )?,
+            None => held_within(alloc, &self.held, set)?,
+        };
         self.last_refuted = entry.set.copy(alloc).ok();
         Some(entry)
     }
 
-    /// An assignment that satisfies the background and the set, where it has one group less than the last refuted one and
-    /// such an assignment is found.
+    /// An assignment that satisfies the background and the set, where one is found: by the one group that it has less than
+    /// the last refuted one, or else, as that of a seed, by all its groups.
     pub fn satisfying(&mut self, alloc: Global, set: &GroupSet) -> Option<Assign>
         ensures right { (p : Problem) → IsRightFor p self.old → IsRightFor p self.new }
         ensures witness { (p : Problem) → IsRightFor p self.old → IsSubset set.now (all_groups p.groups) → IfSome result (λ assign. is_witness p set.now assign ≡ true) }
     {
-        let group = less_than(&self.last_refuted, set)?;
-        let assign = satisfied_by(&mut self.satisfied, &mut self.marks, set, group)?;
+        let group = less_than(&self.last_refuted, set);
+        let number = number_of(&mut self.satisfied, &mut self.marks, set, group)?;
+        let assign = assignment(&self.satisfied, number, set)?;
         self.last_satisfied = set.copy(alloc).ok();
         Some(assign)
     }
@@ -97,9 +103,7 @@ impl Memory {
         if shrinking {
             return;
         }
-        if let Ok(entry) = satisfied_entry(alloc, self.groups, set, assign) {
-            self.satisfied.insert(entry).ok();
-        }
+        keep_complement(alloc, self.groups, &mut self.satisfied, set, assign).ok();
     }
 
     /// Remembers that a set is refuted, and gives it back with its refutation, where there is memory for that.
@@ -123,7 +127,8 @@ impl Memory {
         let before = self.held.replace(entry);
         if !smaller {
             if let Some(before) = before {
-                self.refuted.insert(before).ok();
+                let Entry { set, evidence } = before;
+                self.refuted.insert(set.as_slice(), evidence).ok();
             }
         }
         copy
@@ -135,13 +140,13 @@ impl Memory {
     {
         match found {
             Record::Conflict { set, proof, .. } => {
-                if let Ok(entry) = entry_of(alloc, set, proof.copy()) {
-                    self.refuted.insert(entry).ok();
+                if let Ok(proof) = proof.copy() {
+                    self.refuted.insert(set.as_slice(), proof).ok();
                 }
             }
             Record::Correction { set, witness, .. } => {
-                if let Ok(entry) = entry_of(alloc, set, witness.copy()) {
-                    self.satisfied.insert(entry).ok();
+                if let Ok(witness) = witness.copy() {
+                    self.satisfied.insert(set, witness).ok();
                 }
             }
         }
@@ -181,22 +186,6 @@ fn mark_all(marks: &mut [bool], groups: &[u32], mark: bool) {
     }
 }
 
-// The number of a set that fits to the question about a set, by its one group that is not asked for.
-fn find<E>(
-    index: &mut SetIndex<E>,
-    marks: &mut [bool],
-    set: &GroupSet,
-    mark: bool,
-    but: u32,
-) -> Option<usize>
-    ensures { index.new ≡ index.old }
-{
-    mark_all(marks, set.as_slice(), true);
-    let found = index.find(Wanted { marks, mark, but });
-    mark_all(marks, set.as_slice(), false);
-    found
-}
-
 // A set that is known to be refuted and lies within this one, by a group of it.
 fn refuted_by(
     alloc: Global,
@@ -210,36 +199,77 @@ fn refuted_by(
     ensures within { IfSome result (λ entry. IsSubset entry.set set.now) }
     ensures refuted { (p : Problem) → IfSome held.now (IsRefuted p) → All (IsRefuted p) index.old → IfSome result (IsRefuted p) }
 {
-    if let Some(held) = held {
-        if held.set.is_subset(set) {
-            return copy_of(alloc, held).ok();
-        }
+    if let Some(entry) = held_within(alloc, held, set) {
+        return Some(entry);
     }
-    let number = find(index, marks, set, true, group)?;
-    let entry = index.get(number)?;
-    if entry.set.is_subset(set) {
-        copy_of(alloc, entry).ok()
+    mark_all(marks, set.as_slice(), true);
+    let found = index.find(Wanted {
+        marks,
+        mark: true,
+        but: group,
+    });
+    mark_all(marks, set.as_slice(), false);
+    let lent = index.get(found?)?;
+    let known = set_of(alloc, lent.set)?;
+    if !known.is_subset(set) {
+        return None;
+    }
+    let Ok(proof) = lent.evidence.copy() else {
+        return None;
+    };
+    Some(Entry {
+        set: known,
+        evidence: proof,
+    })
+}
+
+// The set that was refuted last, where it lies within this one.
+fn held_within(alloc: Global, held: &Option<Refuted>, set: &GroupSet) -> Option<Refuted>
+    ensures within { IfSome result (λ entry. IsSubset entry.set set.now) }
+    ensures refuted { (p : Problem) → IfSome held.now (IsRefuted p) → IfSome result (IsRefuted p) }
+{
+    let Some(held) = held else {
+        return None;
+    };
+    if held.set.is_subset(set) {
+        copy_of(alloc, held).ok()
     } else {
         None
     }
 }
 
-// An assignment that satisfies the set, by the one group that it has to leave out.
-fn satisfied_by(
-    index: &mut SetIndex<Assign>,
+// The number of a complement that has no group of the set: by the one group that the set has to leave out, or else by all
+// groups outside of the set.
+fn number_of(
+    satisfied: &mut SatisfiedSets,
     marks: &mut [bool],
     set: &GroupSet,
-    group: u32,
-) -> Option<Assign>
-    ensures same { index.new ≡ index.old }
-    ensures witness { (p : Problem) → All (IsSatisfied p) index.old → IsSubset set.now (all_groups p.groups) → IfSome result (λ assign. is_witness p set.now assign ≡ true) }
+    group: Option<u32>,
+) -> Option<usize>
+    ensures { satisfied.new ≡ satisfied.old }
 {
-    let number = find(index, marks, set, false, group)?;
-    let entry = index.get(number)?;
-    if !misses(set, entry.set.as_slice()) {
+    let Some(group) = group else {
+        return satisfied.outside(set);
+    };
+    mark_all(marks, set.as_slice(), true);
+    let found = satisfied.find(Wanted {
+        marks,
+        mark: false,
+        but: group,
+    });
+    mark_all(marks, set.as_slice(), false);
+    found
+}
+
+// The assignment of this number, where it satisfies the set.
+fn assignment(satisfied: &SatisfiedSets, number: usize, set: &GroupSet) -> Option<Assign>
+    ensures { (p : Problem) → All (IsSatisfied p) satisfied.now → IsSubset set.now (all_groups p.groups) → IfSome result (λ assign. is_witness p set.now assign ≡ true) }
+{
+    let lent = satisfied.get(number)?;
+    if !misses(set, lent.set) {
         return None;
     }
-    let Ok(assign) = entry.evidence.copy() else {
+    let Ok(assign) = lent.evidence.copy() else {
         return None;
     };
     Some(assign)
@@ -266,31 +296,17 @@ fn copy_of(alloc: Global, entry: &Refuted) -> Result<Refuted, AllocError>
     })
 }
 
-fn entry_of<E: Drop>(
-    alloc: Global,
-    set: &GroupSet,
-    evidence: Result<E, AllocError>,
-) -> Result<Entry<E>, AllocError>
-    ensures set { IfOk result (λ entry. entry.set ≡ set.now) }
-    ensures evidence { IfOk result (λ entry. evidence ≡ Ok entry.evidence) }
-{
-    let evidence = evidence?;
-    Ok(Entry {
-        set: set.copy(alloc)?,
-        evidence,
-    })
-}
-
-fn satisfied_entry(
+// Remembers by its complement that an assignment satisfies the background and a set.
+fn keep_complement(
     alloc: Global,
     groups: u32,
+    satisfied: &mut SatisfiedSets,
     set: &GroupSet,
     assign: &Assign,
-) -> Result<Satisfied, AllocError>
-    ensures { IfOk result (λ entry. (p : Problem) → p.groups ≡ groups → is_witness p set.now assign.now ≡ true → IsSatisfied p entry) }
+) -> Result<(), AllocError>
+    ensures { (p : Problem) → p.groups ≡ groups → is_witness p set.now assign.now ≡ true → All (IsSatisfied p) satisfied.old → All (IsSatisfied p) satisfied.new }
 {
-    Ok(Entry {
-        set: set.complement(alloc, groups)?,
-        evidence: assign.copy()?,
-    })
+    let out = set.complement(alloc, groups)?;
+    let assign = assign.copy()?;
+    satisfied.insert(&out, assign)
 }

@@ -1,5 +1,4 @@
 //! Which sets are found by which group, and what does not fit into the bound.
-use crate::entry::Entry;
 use crate::index::{SetIndex, Wanted};
 use crate::neighbours::one_more;
 use gm_base::GroupSet;
@@ -40,7 +39,7 @@ fn index_of(alloc: Global, sets: &[&[u32]], most: usize) -> Result<SetIndex<usiz
     let mut index = SetIndex::new(alloc, 6, most)?;
     for (at, groups) in sets.iter().enumerate() {
         let set = set_of(alloc, groups)?;
-        index.insert(Entry { set, evidence: at }).ok();
+        index.insert(set.as_slice(), at).ok();
     }
     Ok(index)
 }
@@ -74,8 +73,8 @@ fn a_set_is_found_by_a_group_of_it(rt: HostRuntime) -> Result<(), Fail> {
 #[test]
 fn what_goes_past_the_bound_is_not_remembered(rt: HostRuntime) -> Result<(), Fail> {
     let alloc = rt.alloc();
-    // a set of two groups is counted as 112 bytes, one of three as 120
-    let rows: [(usize, usize); 5] = [(0, 0), (111, 0), (112, 1), (232, 2), (4_096, 4)];
+    // a set of two groups is counted as 104 bytes, one of three as 116
+    let rows: [(usize, usize); 5] = [(0, 0), (103, 0), (104, 1), (220, 2), (4_096, 4)];
     for (most, wanted) in rows {
         let index = index_of(alloc, &SETS, most)?;
         let kept = (0..4).filter(|number| index.get(*number).is_some()).count();

@@ -154,12 +154,20 @@ const SHRINKING: [Row; 7] = [
 ];
 
 const GROWING: [Row; 6] = [
-    (&[2, 3, 4], "sat", 1, 1, 1),
-    (&[1, 2, 3, 4], "unsat", 2, 1, 2),
-    (&[1, 4], "sat", 3, 1, 3),
-    (&[1, 2, 4], "unsat", 3, 1, 3),
-    (&[1, 3, 4], "unsat", 4, 1, 4),
-    (&[1, 2, 4], "unsat", 4, 1, 5),
+    (&[2, 3, 4], "sat", 1, 0, 1),
+    (&[1, 2, 3, 4], "unsat", 2, 0, 2),
+    (&[1, 4], "sat", 3, 0, 3),
+    (&[1, 2, 4], "unsat", 3, 0, 3),
+    (&[1, 3, 4], "unsat", 4, 0, 4),
+    (&[1, 2, 4], "unsat", 4, 0, 5),
+];
+
+// Each far from the one before.
+const SEEDS: [Row; 4] = [
+    (&[2, 3, 4], "sat", 1, 0, 1),
+    (&[1, 4], "sat", 2, 0, 2),
+    (&[1, 3], "sat", 3, 0, 3),
+    (&[2, 3, 4], "sat", 3, 0, 4),
 ];
 
 // The first row whose answer or number of questions is another one.
@@ -193,6 +201,8 @@ fn the_oracle_within_is_asked_what_is_not_known(rt: HostRuntime) -> Result<(), F
         assert_eq!(rt; shrinking, None, "shrinking, {told:?}");
         let growing = first_wrong(alloc, &problem, &GROWING, told)?;
         assert_eq!(rt; growing, None, "growing, {told:?}");
+        let seeds = first_wrong(alloc, &problem, &SEEDS, told)?;
+        assert_eq!(rt; seeds, None, "seeds, {told:?}");
     }
     Ok(())
 }
