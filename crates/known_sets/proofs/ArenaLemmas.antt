@@ -1,8 +1,7 @@
 -- Lemmas on how sets are laid out.
-use Rattle.std.proofs.Common.{◌≡◌, ℕ, suc, ◌≤◌, ◌<◌, List, [], ◌∷◌, ◌++◌, map, length, All, refl, ◌∙◌, ap₂, arith}
+use Rattle.std.proofs.Common.{◌≡◌, ℕ, suc, ◌≤◌, List, [], ◌∷◌, ◌++◌, map, length, All, refl, ◌∙◌, ap₂, arith}
 use Rattle.std.specs.Prelude.{slice_range}
 use Rattle.std.proofs.lemmas.List.{map_push}
-use Rattle.gm_base.specs.Sets.{AscendsAbove}
 use Rattle.sat_base.proofs.SpanLemmas.{range_before, range_at_end}
 use Rattle.known_sets.specs.declared.arena.Span.{Span}
 use Rattle.known_sets.specs.declared.entry.Entry.{Entry}
@@ -27,17 +26,3 @@ entries_after_push {E} groups more spans s within from to =
     ∙ ap₂ (λ (before : List (Entry E)) (last : Entry E). before ++ last ∷ []) (entries_before groups more spans within)
     (ap₂ (λ (set : List ℕ) (evidence : E). record { set = set; evidence = evidence })
     (rw from (range_at_end groups more s.to to)) refl)
-
--- strictly ascending above the one number, up to the other
-abbrev pub AscendsTo : ℕ → ℕ → List ℕ → Type 0
-AscendsTo low high [] = low ≤ high
-AscendsTo low high (g ∷ gs) = (low < g) × AscendsTo g high gs
-
--- with a greater one at its end
-pub AscendsTo-push : (low high g : ℕ) (gs : List ℕ) → high < g → AscendsTo low high gs → AscendsTo low g (gs ++ g ∷ [])
-AscendsTo-push low high g [] above h = (omega (arith, above, h), omega arith)
-AscendsTo-push low high g (x ∷ gs) above h = (h.0, AscendsTo-push x high g gs above h.1)
-
-pub AscendsTo-ascends : (low high : ℕ) (gs : List ℕ) → AscendsTo low high gs → AscendsAbove low gs
-AscendsTo-ascends low high [] h = tt
-AscendsTo-ascends low high (x ∷ gs) h = (h.0, AscendsTo-ascends x high gs h.1)

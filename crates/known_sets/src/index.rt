@@ -53,8 +53,8 @@ impl Wanted<'_> {
         group == self.but || self.marks.get(group as usize) == Some(&self.mark)
     }
 
-    // The first group that does not pass.
-    fn first_failing(&self, groups: &[u32]) -> Option<u32> {
+    /// The first group that does not pass.
+    pub fn first_failing(&self, groups: &[u32]) -> Option<u32> {
         for group in groups {
             if !self.passes(*group) {
                 return Some(*group);

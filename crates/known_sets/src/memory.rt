@@ -10,6 +10,10 @@
 //! group less than the last refuted one can miss only complements with that group, since each has a group of the refuted
 //! set; these are the questions of shrinking. Any other question is not looked up.
 //!
+//! A model of a shrinking question satisfies more groups than were asked about, and more still after some flips. The set of
+//! all groups that it satisfies then is remembered with it, and is often the next seed. How much flipping may look at is
+//! bounded by how many questions the oracle within was asked.
+//!
 //! Shrinking refutes ever smaller sets, of which only the last is worth keeping. So the set that was refuted last is held
 //! apart, and goes to the others when one comes that does not lie within it.
 ghost use Rattle.std.specs.Prelude.{◌≡◌, not, true, All, IfOk, IfSome};
@@ -26,8 +30,15 @@ use crate::index::{SetIndex, Wanted};
 use crate::neighbours::one_more;
 use crate::satisfied::SatisfiedSets;
 use evidence_rec::Record;
-use gm_base::{Assign, Derivation, GroupSet};
+use gm_base::{Assign, Derivation, GroupSet, Problem};
+use model_flips::Flips;
 use std::alloc::{AllocError, Global};
+
+// What a question costs the oracle within at least, in looks of the flips: so many, and so many for each literal of the
+// problem (measured, see docs/DECISIONS.md).
+const LOOKS_A_QUESTION: u64 = 10_000;
+
+const LOOKS_A_LITERAL: u64 = 2;
 
 /// Sets that were refuted, and sets that were satisfied.
 #[derive(Drop)]
@@ -37,6 +48,9 @@ pub struct Memory {
     held: Option<Refuted>,
     // Each by its complement.
     satisfied: SatisfiedSets,
+    flips: Flips,
+    // How many questions the oracle within has answered.
+    answers: u64,
     // No group is marked between look-ups.
     marks: Vec<bool>,
     last_refuted: Option<GroupSet>,
@@ -44,15 +58,18 @@ pub struct Memory {
 }
 
 impl Memory {
-    /// Nothing is remembered, of sets of groups up to this one, in so many bytes at most.
-    pub fn new(alloc: Global, groups: u32, most: usize) -> Result<Memory, AllocError>
-        ensures { IfOk result (λ memory. (p : Problem) → p.groups ≡ groups → IsRightFor p memory) }
+    /// Nothing is remembered of the problem, in so many bytes at most.
+    pub fn new(alloc: Global, problem: &Problem, most: usize) -> Result<Memory, AllocError>
+        ensures { IfOk result (IsRightFor problem.now) }
     {
+        let groups = problem.groups();
         Ok(Memory {
             groups,
             refuted: SetIndex::new(alloc, groups, most / 2)?,
             held: None,
             satisfied: SatisfiedSets::new(alloc, groups, most / 2)?,
+            flips: Flips::new(alloc, problem)?,
+            answers: 0,
             marks: vec![in alloc; false; groups as usize + 1]?,
             last_refuted: None,
             last_satisfied: None,
@@ -75,7 +92,7 @@ impl Memory {
                 set,
                 group,
             )?,
-            None => held_within(alloc, &self.held, set)?,
+            None => held_in_seed(alloc, &self.held, &self.last_refuted, set)?,
         };
         self.last_refuted = entry.set.copy(alloc).ok();
         Some(entry)
@@ -94,16 +111,39 @@ impl Memory {
         Some(assign)
     }
 
-    /// Remembers that an assignment satisfies the background and a set. A question of shrinking is not worth a place.
+    /// Remembers that an assignment satisfies the background and a set. Of a question of shrinking it remembers the set
+    /// that the assignment satisfies after some flips.
     pub fn keep_satisfied(&mut self, alloc: Global, set: &GroupSet, assign: &Assign)
         ensures { (p : Problem) → IsRightFor p self.old → is_witness p set.now assign.now ≡ true → IsRightFor p self.new }
     {
         let shrinking = less_than(&self.last_refuted, set).is_some();
         self.last_satisfied = set.copy(alloc).ok();
+        self.answers = self.answers.saturating_add(1);
         if shrinking {
-            return;
+            self.keep_grown(alloc, assign).ok();
+        } else {
+            keep_complement(alloc, self.groups, &mut self.satisfied, set, assign).ok();
         }
-        keep_complement(alloc, self.groups, &mut self.satisfied, set, assign).ok();
+    }
+
+    // Makes an assignment satisfy more groups, and remembers the set that it satisfies then. It isn't tried where flipping
+    // has cost more so far than the questions have.
+    fn keep_grown(&mut self, alloc: Global, assign: &Assign) -> Result<(), AllocError>
+        ensures { (p : Problem) → IsRightFor p self.old → IsRightFor p self.new }
+    {
+        if self.flips.work() > looks_of(self.answers, self.flips.size()) {
+            return Ok(());
+        }
+        self.flips.begin(assign);
+        grow(&mut self.flips, &mut self.refuted, &self.held, self.groups);
+        let out = self.flips.left_out(alloc)?;
+        if self.satisfied.has(&out) {
+            return Ok(());
+        }
+        let Some(grown) = self.flips.shown(alloc, &out)? else {
+            return Ok(());
+        };
+        self.satisfied.insert(&out, grown)
     }
 
     /// Remembers that a set is refuted, and gives it back with its refutation, where there is memory for that.
@@ -117,6 +157,7 @@ impl Memory {
         ensures same_set { IfSome result (λ entry. entry.set ≡ set.now) }
         ensures same_proof { IfSome result (λ entry. entry.evidence ≡ proof) }
     {
+        self.answers = self.answers.saturating_add(1);
         self.last_refuted = set.copy(alloc).ok();
         let entry = Entry {
             set: set.copy(alloc).ok()?,
@@ -151,6 +192,51 @@ impl Memory {
             }
         }
     }
+}
+
+// What so many questions about a problem of so many literals cost at least.
+fn looks_of(questions: u64, literals: usize) -> u64 {
+    let each = LOOKS_A_LITERAL
+        .saturating_mul(literals as u64)
+        .saturating_add(LOOKS_A_QUESTION);
+    questions.saturating_mul(each)
+}
+
+// Tries each group that the assignment makes false.
+fn grow(flips: &mut Flips, refuted: &mut SetIndex<Derivation>, held: &Option<Refuted>, groups: u32)
+    ensures flips { flips.new ≡ flips.old }
+    ensures refuted { refuted.new ≡ refuted.old }
+{
+    for at in 0..groups {
+        if may_be_true(flips.kept(), refuted, held, at + 1) {
+            flips.try_group(at + 1);
+        }
+    }
+}
+
+// Whether a group is not marked, and no known refuted set lies within the marked groups and this one.
+fn may_be_true(
+    marks: &[bool],
+    refuted: &mut SetIndex<Derivation>,
+    held: &Option<Refuted>,
+    group: u32,
+) -> bool
+    ensures { refuted.new ≡ refuted.old }
+{
+    if marks.get(group as usize) == Some(&true) {
+        return false;
+    }
+    let wanted = Wanted {
+        marks,
+        mark: true,
+        but: group,
+    };
+    if let Some(held) = held {
+        if wanted.first_failing(held.set.as_slice()).is_none() {
+            return false;
+        }
+    }
+    refuted.find(wanted).is_none()
 }
 
 // The one group that the set has more than the last satisfied one.
@@ -221,6 +307,22 @@ fn refuted_by(
         set: known,
         evidence: proof,
     })
+}
+
+// The set that was refuted last, where it lies within this one. A set that shrinking it asks about does not hold it.
+fn held_in_seed(
+    alloc: Global,
+    held: &Option<Refuted>,
+    last_refuted: &Option<GroupSet>,
+    set: &GroupSet,
+) -> Option<Refuted>
+    ensures within { IfSome result (λ entry. IsSubset entry.set set.now) }
+    ensures refuted { (p : Problem) → IfSome held.now (IsRefuted p) → IfSome result (IsRefuted p) }
+{
+    if less_than(last_refuted, set).is_some() {
+        return None;
+    }
+    held_within(alloc, held, set)
 }
 
 // The set that was refuted last, where it lies within this one.

@@ -85,8 +85,8 @@ impl<O: Oracle> KnownSets<O> {
 }
 
 impl<O: Oracle + Drop> KnownSets<O> {
-    /// An oracle that knows nothing yet, around one that is fresh or has an honest log. The problem is not needed from
-    /// then on. It remembers up to [`MOST_BYTES`].
+    /// An oracle that knows nothing yet, around one that is fresh or has an honest log. The problem is copied. It remembers
+    /// up to [`MOST_BYTES`].
     pub fn new(alloc: Global, problem: &Problem, oracle: O) -> Result<KnownSets<O>, AllocError>
         requires problem { (O.state oracle).problem ≡ problem.now }
         requires honest { IsHonestOver problem.now (O.state oracle).log }
@@ -106,7 +106,8 @@ impl<O: Oracle + Drop> KnownSets<O> {
         requires honest { IsHonestOver problem.now (O.state oracle).log }
         ensures { IfOk result (λ known. known ≡ record (O.state oracle) { refuted = None; asks = 0 }) }
     {
-        let memory = Memory::new(alloc, problem.groups(), most)?;
+        let _groups = problem.groups(); // The problem is well-formed.
+        let memory = Memory::new(alloc, problem, most)?;
         Ok(KnownSets {
             oracle,
             memory,

@@ -148,9 +148,9 @@ const SHRINKING: [Row; 7] = [
     (&[2], "sat", 2, 1, 2),
     (&[1], "sat", 3, 1, 3),
     (&[1, 3, 4], "unsat", 4, 2, 4),
-    (&[3, 4], "sat", 5, 2, 5),
-    (&[1, 4], "sat", 6, 2, 6),
-    (&[1, 3], "sat", 7, 2, 7),
+    (&[3, 4], "sat", 4, 2, 5),
+    (&[1, 4], "sat", 4, 2, 6),
+    (&[1, 3], "sat", 5, 2, 7),
 ];
 
 const GROWING: [Row; 6] = [
@@ -168,6 +168,16 @@ const SEEDS: [Row; 4] = [
     (&[1, 4], "sat", 2, 0, 2),
     (&[1, 3], "sat", 3, 0, 3),
     (&[2, 3, 4], "sat", 3, 0, 4),
+];
+
+// The assignments of {2} and {1} also satisfy the groups 3 and 4, and the group 4.
+const MODELS: [Row; 6] = [
+    (&[1, 2], "unsat", 1, 1, 1),
+    (&[2], "sat", 2, 1, 2),
+    (&[1], "sat", 3, 1, 3),
+    (&[2, 3, 4], "sat", 3, 1, 4),
+    (&[1, 4], "sat", 3, 1, 5),
+    (&[1, 3], "sat", 4, 1, 6),
 ];
 
 // The first row whose answer or number of questions is another one.
@@ -203,6 +213,8 @@ fn the_oracle_within_is_asked_what_is_not_known(rt: HostRuntime) -> Result<(), F
         assert_eq!(rt; growing, None, "growing, {told:?}");
         let seeds = first_wrong(alloc, &problem, &SEEDS, told)?;
         assert_eq!(rt; seeds, None, "seeds, {told:?}");
+        let models = first_wrong(alloc, &problem, &MODELS, told)?;
+        assert_eq!(rt; models, None, "models, {told:?}");
     }
     Ok(())
 }

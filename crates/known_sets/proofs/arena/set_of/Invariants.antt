@@ -1,5 +1,5 @@
 use Rattle.std.proofs.Common.{◌≡◌, take}
-use Rattle.known_sets.proofs.ArenaLemmas.{AscendsTo}
+use Rattle.model_flips.proofs.AscentLemmas.{AscendsTo}
 use Rattle.known_sets.proofs.arena.set_of.Given as goal
 
 -- the groups so far, which ascend to the last of them

@@ -12,6 +12,7 @@ returns-in-Ok-copy c = λ p right h.
     let out = c.in-Correction.set in
     let witness = c.in-Ok-copy.witness in
     record {
+      problem = right.problem;
       groups = right.groups;
       refuted = right.refuted;
       held = right.held;
