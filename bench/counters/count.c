@@ -2,7 +2,7 @@
 #include <stdint.h>
 #include <stdio.h>
 
-static const char *names[] = {"visits", "looks", "propagations", "conflicts", "restarts", "questions", "seeds"};
+static const char *names[] = {"visits", "looks", "propagations", "conflicts", "restarts", "questions", "seeds", "known questions", "known looks"};
 static uint64_t counts[sizeof names / sizeof *names];
 
 void add_to_count(uint32_t which) { counts[which]++; }
