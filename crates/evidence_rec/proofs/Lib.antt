@@ -6,3 +6,6 @@ pub mod RefutesLemmas
 pub mod EvidenceLemmas
 pub mod AskingLemmas
 pub mod BlockLemmas
+pub mod Explored
+pub mod SetListLemmas
+pub mod HeldLemmas

@@ -6,3 +6,4 @@ pub mod Refusals
 pub mod Basis
 pub mod Rows
 pub mod Blocks
+pub mod Held

@@ -22,6 +22,7 @@
 mod blocks;
 mod checking;
 mod engine;
+pub mod laws;
 mod lines;
 mod lists;
 mod oracle;

@@ -1,6 +1,4 @@
 pub mod MarcoLemmas
-pub mod SetListLemmas
-pub mod HeldLemmas
 pub mod OrderLemmas
 pub mod ReportLemmas
 pub mod ClosedLemmas

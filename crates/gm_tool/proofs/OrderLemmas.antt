@@ -23,8 +23,8 @@ use Rattle.map_core.specs.Core.{is_held}
 use Rattle.map_core.specs.Sound.{AreNew}
 use Rattle.map_core.specs.Closings.{HoldsAll}
 use Rattle.gm_tool.specs.Closed.{conflicts_in, corrections_in, full_report}
-use Rattle.gm_tool.proofs.SetListLemmas.{one_if, times, SameSets, same-is, same-refl}
-use Rattle.gm_tool.proofs.HeldLemmas.{SameSets-held, all_conflicts, all_corrections}
+use Rattle.evidence_rec.proofs.SetListLemmas.{one_if, times, SameSets, same-is, same-refl}
+use Rattle.evidence_rec.proofs.HeldLemmas.{SameSets-held, all_conflicts, all_corrections}
 
 -- a set comes before another
 abbrev pub below : List ℕ → List ℕ → Bool

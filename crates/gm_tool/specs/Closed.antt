@@ -10,6 +10,7 @@ use Rattle.lrat_steps.specs.Undecided.{Undecided}
 use Rattle.evidence_rec.specs.declared.record.Record.{Record}
 use Rattle.evidence_rec.specs.declared.record.Record.TheVariants as record_of
 use Rattle.evidence_rec.specs.Records.{IsMinimal}
+pub use Rattle.evidence_rec.specs.Held.{conflicts_in, corrections_in}
 use Rattle.evidence_rec.specs.Asking.{IsHonestOver, selectors}
 use Rattle.map_core.specs.declared.entry.Call.TheVariants.{Take, Refill}
 use Rattle.map_core.specs.declared.entry.Reply.TheVariants.{Dry}
@@ -52,17 +53,6 @@ pub record IsClosedFor (p : Problem) (b : Bounds) (logs : List (List LogStep)) (
 pub record IsLeft (p : Problem) (b : Bounds) (left : Enumerated) : Type 0 where
   pub closed : IsClosedFor p b left.logs left.closing
   pub spent : left.spent ≡ learned_in left.logs
-
--- the sets of the conflicts, and of the corrections, that the records are about
-abbrev pub conflicts_in : List Record → List (List ℕ)
-conflicts_in [] = []
-conflicts_in (record_of.Conflict set proof witnesses ∷ made) = set ∷ conflicts_in made
-conflicts_in (record_of.Correction set witness proofs ∷ made) = conflicts_in made
-
-abbrev pub corrections_in : List Record → List (List ℕ)
-corrections_in [] = []
-corrections_in (record_of.Conflict set proof witnesses ∷ made) = corrections_in made
-corrections_in (record_of.Correction set witness proofs ∷ made) = set ∷ corrections_in made
 
 -- the report of all minimal conflicts and all minimal corrections of a problem
 abbrev pub full_report : Problem → List ℕ

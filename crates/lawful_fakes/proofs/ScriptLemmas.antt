@@ -8,7 +8,6 @@ use Rattle.sat_base.specs.Members.{In}
 use Rattle.sat_base.specs.Literals.{clause_true}
 use Rattle.sat_base.specs.Derivation.{Derivation, numbered, derives_within}
 use Rattle.sat_base.proofs.Members.{In-append_cases, In-map, any_at}
-use Rattle.sat_base.proofs.Soundness.{AllGood, derives-sound}
 use Rattle.gm_base.specs.declared.kind.Side.{Side}
 use Rattle.gm_base.specs.declared.kind.Side.TheVariants.{Up, Down}
 use Rattle.gm_base.specs.Problem.{Problem}
@@ -16,11 +15,10 @@ use Rattle.gm_base.specs.Sets.{has, IsSubset, all_groups}
 use Rattle.gm_base.specs.Evidence.{with_selector, selector_form, refutes}
 use Rattle.gm_base.specs.Explored.{Found, explores, is_explored, block_of, block_clause, is_model, AllExplored}
 use Rattle.gm_base.proofs.SetLemmas.{all_groups-has}
-use Rattle.gm_base.proofs.ExploredLemmas.{AreWithin, models-unexplored, all_explored-no_model}
+use Rattle.gm_base.proofs.ExploredLemmas.{AreWithin, models-unexplored}
 use Rattle.lrat_steps.specs.Log.{LogStep, Input}
 use Rattle.lrat_steps.proofs.LogLemmas.{inputs-push_input, honest-input}
 use Rattle.evidence_rec.specs.Seeding.{HasModels, shows_all_explored}
-use Rattle.evidence_rec.proofs.BlockLemmas.{block_clause-literal}
 use Rattle.lawful_fakes.specs.declared.block.Block.{Block}
 use Rattle.lawful_fakes.specs.Script.{found_in, clause_in, KeepsScript}
 
@@ -70,27 +68,6 @@ kept_block groups blocks log b h within =
         honest = honest-input log (block_clause f) h.honest.honest;
       };
     }
-
--- in a model all block clauses are true, over the groups
-good_blocks : (groups : ℕ) (assign : List Bool) (found : List Found) (from : ℕ) → AreWithin groups found
-    → is_model found assign ≡ true → AllGood groups assign (numbered from (map block_clause found))
-good_blocks groups assign [] from within model = tt
-good_blocks groups assign (f ∷ fs) from within model =
-    let parts = and_parts (clause_true assign (block_clause f)) (is_model fs assign) model in (
-      (parts.0, λ l i. block_clause-literal groups f l (within f (inl refl)) i),
-      good_blocks groups assign fs (from + 1) (λ g i. within g (inr i)) parts.1,
-    )
-
--- the empty clause is in no assignment true
-pub all_explored : (groups : ℕ) (found : List Found) (d : Derivation) → AreWithin groups found
-    → shows_all_explored groups found d ≡ true → AllExplored groups found
-all_explored groups found d within shown =
-    all_explored-no_model groups found within
-    (λ assign len.
-    false_from_ne_true (is_model found assign)
-    (λ model.
-    let (l, allowed, rest, over) = derives-sound groups assign (map block_clause found) d (λ l. false) (good_blocks groups assign found 1 within model) shown in
-    false≢true allowed))
 
 -- the clauses of the map's problem are those of the blocks
 forms : (p : Problem) (blocks : List Block) → map (with_selector p) (map clause_in blocks) ≡ map block_clause (map found_in blocks)

@@ -30,7 +30,7 @@ use Rattle.map_core.specs.Asked.{GivesProof}
 use Rattle.map_core.specs.Closings.{HaveEnded}
 use Rattle.map_core.specs.Kept.{state_of, KeepsProof, IsDriven, IsKept, IsReady}
 use Rattle.map_core.proofs.Steps.{Adds, grown, is_longer, runs_sound, run-push, last-same}
-use Rattle.map_core.proofs.Explored.{held_at_end}
+use Rattle.evidence_rec.proofs.Explored.{held_at_end}
 
 -- what holds of every state that a run reaches holds of a core
 pub kept_sound : {s : State} {first capacity : ℕ} {held : Held} {engine : EngineState} {proof : Option Derivation}

@@ -9,6 +9,7 @@ use Rattle.lrat_steps.specs.Undecided.{Undecided}
 use Rattle.evidence_rec.specs.declared.record.Record.{Record}
 use Rattle.evidence_rec.specs.Records.{founds}
 use Rattle.evidence_rec.specs.Seeding.{IsHonestMap, shows_all_explored}
+pub use Rattle.evidence_rec.specs.Held.{HoldsAll}
 use Rattle.map_core.specs.declared.entry.Call.TheVariants.{Take}
 use Rattle.map_core.specs.declared.entry.Reply.TheVariants.{Dry}
 use Rattle.map_core.specs.declared.entry.Entry.{Entry}
@@ -38,11 +39,6 @@ pub record EndsDry (history : List Entry) (log : List LogStep) : Type 0 where
   pub ends : history ≡ before ++ last ∷ []
   pub dry : last.reply ≡ Dry
   pub undecided : last.call ≡ Take → Undecided (db_of log) []
-
--- each minimal conflict and each minimal correction of the problem is held
-pub record HoldsAll (p : Problem) (records : List Record) : Type 0 where
-  pub conflicts : (set : List ℕ) → IsGroupSet set → IsSubset set (all_groups p.groups) → IsConflict p set → is_held records Conflict set ≡ true
-  pub corrections : (set : List ℕ) → IsGroupSet set → IsSubset set (all_groups p.groups) → IsCorrection p set → is_held records Correction set ≡ true
 
 -- what is left of a state, and the map's log
 pub record IsClosing (s : State) (closing : Closing) (log : List LogStep) : Type 0 where

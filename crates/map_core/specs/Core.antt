@@ -12,6 +12,7 @@ use Rattle.gm_base.specs.declared.kind.Kind.{Kind}
 use Rattle.gm_base.specs.declared.kind.Kind.TheVariants.{Conflict, Correction}
 use Rattle.evidence_rec.specs.declared.record.Record.{Record}
 use Rattle.evidence_rec.specs.Records.{kind_of, set_of, founds, IsAccepted}
+pub use Rattle.evidence_rec.specs.Held.{same_kind, same_set, and_also, is_held}
 use Rattle.gm_base.specs.Explored.{AllExplored}
 use Rattle.evidence_rec.specs.Seeding.{IsSeed}
 use Rattle.map_core.specs.declared.entry.Call.{Call}
@@ -118,23 +119,6 @@ retire t =
 
 abbrev pub refill_size : Turn → ℕ
 refill_size t = min t.common.available (max (min (t.worker.last_grant * 2) (2 ^ 64 - 1)) 1000)
-
-abbrev pub same_kind : Kind → Kind → Bool
-same_kind Conflict Conflict = true
-same_kind Correction Correction = true
-same_kind Conflict Correction = false
-same_kind Correction Conflict = false
-
-abbrev pub same_set : List ℕ → List ℕ → Bool
-same_set a b = pointwise nat_eq a b
-
-abbrev pub and_also : Bool → Bool → Bool
-and_also true b = b
-and_also false b = false
-
--- a set of this kind and these groups is held
-abbrev pub is_held : List Record → Kind → List ℕ → Bool
-is_held records kind set = list_any (λ (r : Record). and_also (same_kind (kind_of r) kind) (same_set (set_of r) set)) records
 
 -- there are as many records as the limit, or more
 abbrev pub is_full : Opening → List Record → Bool

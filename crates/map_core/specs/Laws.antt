@@ -10,6 +10,7 @@ use Rattle.gm_base.specs.declared.kind.Kind.TheVariants.{Conflict, Correction}
 use Rattle.evidence_rec.specs.declared.record.Record.{Record}
 use Rattle.evidence_rec.specs.Records.{kind_of, found_of, founds}
 use Rattle.evidence_rec.specs.Seeding.{IsTop}
+pub use Rattle.evidence_rec.specs.Held.{Decides}
 use Rattle.map_core.specs.declared.entry.Reply.TheVariants.{Job, Grant, New}
 use Rattle.map_core.specs.declared.entry.Entry.{Entry}
 use Rattle.map_core.specs.declared.entry.Opening.{Opening}
@@ -24,11 +25,6 @@ StepsKeepSound = (s t : State) (e : Entry) → IsSound s → CoreStep s e t → 
 
 abbrev pub RunsAreSound : Type 0
 RunsAreSound = (o : Opening) (log : List Entry) (s : State) → IsOpening o → CoreRun (opened o) log s → IsSound s × (s.history ≡ log) × (s.opening ≡ o)
-
--- a conflict says that the sets above it cannot be made true, a correction that those that miss it can
-abbrev pub Decides : Problem → Kind → List ℕ → Type 0
-Decides p Conflict set = ¬ Sat p set
-Decides p Correction set = Sat p set
 
 abbrev pub SoundDecides : Type 0
 SoundDecides =

@@ -3,7 +3,8 @@ use Rattle.std.specs.Prelude.{◌≡◌, ℕ, ◌+◌, ◌<◌, ◌≤◌, max, 
 use Rattle.std.specs.List.{list_any, AllByRecursion}
 use Rattle.gm_base.specs.Problem.{IsProblem}
 use Rattle.evidence_rec.specs.declared.record.Record.{Record}
-use Rattle.evidence_rec.specs.Records.{kind_of, set_of, founds, IsAccepted}
+use Rattle.evidence_rec.specs.Records.{founds, IsAccepted}
+pub use Rattle.evidence_rec.specs.Held.{AreNew}
 use Rattle.gm_base.specs.Explored.{AllExplored}
 use Rattle.map_core.specs.declared.entry.Entry.{Entry}
 use Rattle.map_core.specs.declared.entry.Reply.TheVariants.{Dry}
@@ -11,11 +12,6 @@ use Rattle.map_core.specs.declared.entry.Opening.{Opening}
 use Rattle.map_core.specs.declared.turn.Worker.{Worker}
 use Rattle.map_core.specs.Core.{State, worker_at, is_held, is_full}
 use Rattle.map_core.specs.Own.{calls_of, worker_of, is_retirement, used_in, engine_used_in}
-
--- none of the later ones is held by those before it
-abbrev pub AreNew : List Record → List Record → Type 0
-AreNew earlier [] = Unit {0}
-AreNew earlier (r ∷ rs) = (is_held earlier (kind_of r) (set_of r) ≡ false) × AreNew (earlier ++ r ∷ []) rs
 
 -- what a core may be opened with
 pub record IsOpening (o : Opening) : Type 0 where

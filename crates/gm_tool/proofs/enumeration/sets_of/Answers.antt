@@ -1,5 +1,5 @@
 use Rattle.std.proofs.Common.{◌∙◌, sym, ap₂, List, ℕ, [], ◌∷◌, ◌++◌}
-use Rattle.gm_tool.proofs.HeldLemmas.{conflict-next, correction-next}
+use Rattle.evidence_rec.proofs.HeldLemmas.{conflict-next, correction-next}
 use Rattle.gm_tool.proofs.enumeration.sets_of.Goals as goal
 use Rattle.gm_tool.proofs.enumeration.sets_of.Goals.{in-Conflict+in_ok-push-in-Conflict, in-Correction+in_ok-push-in-Correction}
 

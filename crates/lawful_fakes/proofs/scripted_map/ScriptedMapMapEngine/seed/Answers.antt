@@ -2,7 +2,8 @@ use Rattle.std.proofs.Common.{◌≡◌, List, true, map, subst}
 use Rattle.evidence_rec.specs.Seeding.{HasModels, shows_all_explored}
 use Rattle.lawful_fakes.specs.declared.block.Block.{Block}
 use Rattle.lawful_fakes.specs.Script.{found_in}
-use Rattle.lawful_fakes.proofs.ScriptLemmas.{has_models, all_explored}
+use Rattle.evidence_rec.proofs.Explored.{all_explored-shown}
+use Rattle.lawful_fakes.proofs.ScriptLemmas.{has_models}
 use Rattle.lawful_fakes.proofs.scripted_map.ScriptedMapMapEngine.seed.Goals as goal
 
 pub returns-in_err-seed-clause-models : goal.returns-in_err-seed-clause-models
@@ -38,7 +39,7 @@ returns-then-not-branch-2-clause-models c =
 pub returns-clause-answer : goal.returns-clause-answer
 returns-clause-answer c =
     let i = c.self.inside in
-    all_explored i.groups (map found_in i.blocks.items) i.ending c.self.invariant.within
+    all_explored-shown i.groups (map found_in i.blocks.items) i.ending c.self.invariant.within
     (subst (λ (bs : List Block). shows_all_explored i.groups (map found_in bs) i.ending ≡ true) c.as_slice-2.ensures.value
     (c.in_ok-is_ended.ensures c.if-not-branch-2.false))
 

@@ -14,11 +14,8 @@ use Rattle.evidence_rec.specs.declared.record.Record.{Record}
 use Rattle.evidence_rec.specs.declared.record.Record.TheVariants.{Conflict, Correction}
 use Rattle.evidence_rec.specs.Records.{kind_of, set_of, IsAccepted, IsMinimal}
 use Rattle.evidence_rec.proofs.VerdictLemmas.{minimal-from_accepts}
-use Rattle.map_core.specs.Core.{State, is_held, same_set}
-use Rattle.map_core.specs.Sound.{AreNew, IsSound}
-use Rattle.map_core.specs.Closings.{HoldsAll}
-use Rattle.gm_tool.specs.Closed.{conflicts_in, corrections_in, AreDistinctMinimal}
-use Rattle.gm_tool.proofs.SetListLemmas.{same-refl, same-is, IsDistinct, SameSets, IsDistinct-push, distinct-filter, distinct-filter_subsets, In-filter, filter-In, In-subsets, subsets-In, SameSets-from_distinct, filter-all}
+use Rattle.evidence_rec.specs.Held.{is_held, same_set, AreNew, conflicts_in, corrections_in, HoldsAll, AreExactlyAll}
+use Rattle.evidence_rec.proofs.SetListLemmas.{same-refl, same-is, IsDistinct, SameSets, IsDistinct-push, distinct-filter, distinct-filter_subsets, In-filter, filter-In, In-subsets, subsets-In, SameSets-from_distinct, filter-all, IsPermutation-same}
 
 -- the sets of one kind that the records are about, and all minimal sets of one kind
 abbrev pub sets_in : Kind → List Record → List (List ℕ)
@@ -195,11 +192,21 @@ all_corrections p records all =
     let (ok, within) = subsets-In p.groups s there in
     all.corrections s ok within (IsCorrection-from_test p s ok t))
 
--- a sound state's records are of minimal sets, each of which stands there once
-pub AreDistinctMinimal-from : (s : State) → IsSound s → AreDistinctMinimal s.opening.problem s.records
-AreDistinctMinimal-from s ok = record { minimal = each s.records ok.accepted; distinct = ok.distinct }
-  where
-    each : (rs : List Record) → AllByRecursion (IsAccepted s.opening.problem) rs
-        → AllByRecursion (IsMinimal s.opening.problem) rs
-    each [] all = tt
-    each (r ∷ rs) all = (minimal-from_accepts s.opening.problem r ok.opening.problem all.0.accepts, each rs all.1)
+-- and then the sets of the records are exactly all minimal ones
+pub held-exactly_all : (p : Problem) (records : List Record) → IsProblem p → AllByRecursion (IsAccepted p) records
+    → AreNew [] records → HoldsAll p records → AreExactlyAll p records
+held-exactly_all p records ok accepted new all =
+    record {
+      conflicts =
+          IsPermutation-same (conflicts_in records) (conflicts p)
+          (subst (SameSets (conflicts_in records)) (all_conflicts p records all) (SameSets-held p kinds.Conflict records ok accepted new));
+      corrections =
+          IsPermutation-same (corrections_in records) (corrections p)
+          (subst (SameSets (corrections_in records)) (all_corrections p records all) (SameSets-held p kinds.Correction records ok accepted new));
+    }
+
+-- accepted records are of minimal sets
+pub all-minimal : (p : Problem) (records : List Record) → IsProblem p → AllByRecursion (IsAccepted p) records
+    → AllByRecursion (IsMinimal p) records
+all-minimal p [] ok all = tt
+all-minimal p (r ∷ rs) ok all = (minimal-from_accepts p r ok all.0.accepts, all-minimal p rs ok all.1)

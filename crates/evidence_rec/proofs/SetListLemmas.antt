@@ -3,6 +3,8 @@ use Rattle.std.proofs.Common.{◌≡◌, ◌≢◌, ℕ, zero, suc, ◌+◌, ◌
 use Rattle.std.specs.Prelude.{nat_eq}
 use Rattle.std.specs.List.{filter, range_with_len}
 use Rattle.std.specs.Cmp.Lexicographic.{pointwise}
+use Rattle.std.specs.List.Sorted.{IsPermutation}
+use Rattle.std.proofs.lemmas.List.Sorted.{IsPermutation-refl, IsPermutation-cons, IsPermutation-middle, IsPermutation-sym, IsPermutation-trans}
 use Rattle.std.proofs.lemmas.Bool.{or_cases, or_left, or_right, and_parts, and_from, false≢true, cases_Bool, eqb-true, eq-eqb, ne_eqb, eqb-false, cases_order, cond-true, cond-false}
 use Rattle.gm_base.specs.Sets.{AscendsAbove, IsGroupSet, has, IsSubset, all_groups, sublists, nonempty_sublists, subsets}
 use Rattle.sat_base.specs.Members.{In}
@@ -270,3 +272,32 @@ filter-all test [] passes = refl
 filter-all test (x ∷ xs) passes =
     cond-true (test x) (x ∷ filter test xs) (filter test xs) (passes x (inl refl))
     ∙ ap (λ ys. x ∷ ys) (filter-all test xs (λ s i. passes s (inr i)))
+
+-- where a set stands in a list: what is before it and what is behind
+split_at : (x : List ℕ) (ys : List (List ℕ)) → In x ys
+    → (before : List (List ℕ)) × (after : List (List ℕ)) × (ys ≡ before ++ x ∷ after)
+split_at x [] i = absurd i
+split_at x (y ∷ ys) (inl e) = ([], ys, ap (λ z. z ∷ ys) (sym e))
+split_at x (y ∷ ys) (inr i) = let (before, after, is) = split_at x ys i in (y ∷ before, after, ap (λ zs. y ∷ zs) is)
+
+-- the same sets, each as many times, are the same list in some order
+pub IsPermutation-same : (xs ys : List (List ℕ)) → SameSets xs ys → IsPermutation xs ys
+IsPermutation-same [] [] same = IsPermutation-refl []
+IsPermutation-same [] (y ∷ ys) same =
+    absurd (let here = times-In y (y ∷ ys) (inl refl) in let none : times y [] ≡ times y (y ∷ ys) = same y in omega arith)
+IsPermutation-same (x ∷ xs) ys same =
+    let here = times-In x (x ∷ xs) (inl refl) in
+    let there : times x (x ∷ xs) ≡ times x ys = same x in
+    let (before, after, is) = split_at x ys (In-times x ys (omega arith)) in
+    let front : IsPermutation (x ∷ (before ++ after)) (before ++ x ∷ after) =
+    IsPermutation-sym (before ++ x ∷ after) (x ∷ (before ++ after)) (IsPermutation-middle before x after) in
+    subst (IsPermutation (x ∷ xs)) (sym is)
+    (IsPermutation-trans (x ∷ xs) (x ∷ (before ++ after)) (before ++ x ∷ after)
+    (IsPermutation-cons x xs (before ++ after) (IsPermutation-same xs (before ++ after) (rest before after is))) front)
+  where
+    rest : (before after : List (List ℕ)) → ys ≡ before ++ x ∷ after → SameSets xs (before ++ after)
+    rest before after is s =
+        let all : times s (x ∷ xs) ≡ times s ys = same s in
+        let whole = ap (times s) is ∙ times-append s before (x ∷ after) in
+        let parts = times-append s before after in
+        omega arith
