@@ -1,0 +1,10 @@
+pub mod WordLemmas
+pub mod NumberLemmas
+pub mod ScanLemmas
+pub mod ItemLemmas
+pub mod LineLemmas
+pub mod ReadingLemmas
+pub mod SetLemmas
+pub mod ProofLemmas
+pub mod GroupLemmas
+pub mod TextLemmas

@@ -1,0 +1,14 @@
+use Rattle.std.proofs.Common.{◌≡◌, length, sym, ◌∙◌, ap, arith}
+use Rattle.std.specs.List.{fold}
+use Rattle.evidence_text.specs.Scan.{digit_onto, word_from}
+use Rattle.evidence_text.proofs.WordLemmas.{value-step, place-step, word_from-blank, word_from-end}
+use Rattle.evidence_text.proofs.scan.digits.Goals as goal
+
+pub loop-at-preserved : goal.loop-at-preserved
+loop-at-preserved c =
+    record {
+      place = place-step c.args.line.now c.args.from c.loop-at.at c.loop-at-test.true c.if-byte-eq32.false c.loop-at.invariant.place;
+      value =
+          value-step c.args.line.now c.args.from c.loop-at.at c.loop-at.value _ c.loop-at-test.true c.if-byte-eq32.false
+          c.with_digit-value.ensures c.loop-at.invariant.value;
+    }

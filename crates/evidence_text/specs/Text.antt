@@ -1,0 +1,113 @@
+-- The text of evidence, version 1: lines of words, with one blank between two words and LF behind each line. A number is
+-- written in its one form, its decimal digits without leading zeros, behind `-` where it is negative. So each list of
+-- records has one text, and no two of them have the same.
+use Rattle.std.specs.Prelude.{ℕ, ◌+◌, Bool, true, false, List, [], ◌∷◌, ◌++◌, map, length, codes, Option, Some, None}
+use Rattle.std.specs.List.{flat_map}
+use Rattle.std.specs.Fmt.{decimal, signed_decimal}
+use Rattle.sat_base.specs.Derivation.{Step, Derivation}
+use Rattle.gm_base.specs.Problem.{Problem}
+use Rattle.evidence_rec.specs.declared.record.Record.{Record}
+use Rattle.evidence_rec.specs.declared.record.Record.TheVariants as record_of
+
+-- the bytes of a word
+abbrev pub Word : Type 0
+Word = List ℕ
+
+-- the words of a line
+abbrev pub Line : Type 0
+Line = List (List ℕ)
+
+-- words, each behind a blank
+abbrev pub spaced : List Word → List ℕ
+spaced ws = flat_map (λ w. codes " " ++ w) ws
+
+-- a line
+abbrev pub line_text : Line → List ℕ
+line_text [] = codes "\n"
+line_text (w ∷ ws) = w ++ (spaced ws ++ codes "\n")
+
+-- lines, one after another
+abbrev pub text_of : List Line → List ℕ
+text_of ls = flat_map line_text ls
+
+-- ---- the lines, by their words
+
+-- `p gmev 1`, and how many variables, clauses and groups the problem has
+abbrev pub head_line : Problem → Line
+head_line p = codes "p" ∷ codes "gmev" ∷ codes "1" ∷ decimal p.vars ∷ decimal (length p.clauses) ∷ decimal p.groups ∷ []
+
+-- a letter, the groups of a set, and 0
+abbrev pub set_line : Word → List ℕ → Line
+set_line letter set = letter ∷ (map decimal set ++ codes "0" ∷ [])
+
+-- a step: its id, its literals and 0, its hints and 0
+abbrev pub step_line : Step → Line
+step_line s = codes "d" ∷ decimal s.id ∷ (map signed_decimal s.lits ++ codes "0" ∷ (map decimal s.hints ++ codes "0" ∷ []))
+
+-- the goal of the refutation for a group
+abbrev pub goal_line : ℕ → ℕ → Line
+goal_line g goal = codes "r" ∷ decimal g ∷ decimal goal ∷ []
+
+-- the variables that are true, where the first value is that of this variable
+abbrev pub trues_from : ℕ → List Bool → List ℕ
+trues_from v [] = []
+trues_from v (true ∷ values) = v ∷ trues_from (v + 1) values
+trues_from v (false ∷ values) = trues_from (v + 1) values
+
+-- the witness for a group: the variables that are true, and 0
+abbrev pub witness_line : ℕ → List Bool → Line
+witness_line g witness = codes "w" ∷ decimal g ∷ (map decimal (trues_from 1 witness) ++ codes "0" ∷ [])
+
+-- the clause of the closing part that is empty
+abbrev pub exhaustion_line : ℕ → Line
+exhaustion_line goal = codes "x" ∷ decimal goal ∷ []
+
+-- the last line
+abbrev pub end_line : Word → Line
+end_line how = codes "e" ∷ how ∷ []
+
+-- ---- records
+
+-- the refutation for a group: its steps, and its goal
+abbrev pub refutation_lines : ℕ → Derivation → List Line
+refutation_lines g d = map step_line d.steps ++ goal_line g d.goal ∷ []
+
+-- of each group its refutation
+abbrev pub refutations_lines : List ℕ → List Derivation → List Line
+refutations_lines [] ds = []
+refutations_lines (g ∷ gs) [] = []
+refutations_lines (g ∷ gs) (d ∷ ds) = refutation_lines g d ++ refutations_lines gs ds
+
+-- of each group its witness
+abbrev pub witnesses_lines : List ℕ → List (List Bool) → List Line
+witnesses_lines [] ws = []
+witnesses_lines (g ∷ gs) [] = []
+witnesses_lines (g ∷ gs) (w ∷ ws) = witness_line g w ∷ witnesses_lines gs ws
+
+-- a conflict: its set, its refutation under the number 0, and of each group its witness; a correction: its set, its
+-- witness under the number 0, and of each group its refutation
+abbrev pub record_lines : Record → List Line
+record_lines (record_of.Conflict set proof witnesses) =
+    set_line (codes "u") set ∷ (refutation_lines 0 proof ++ witnesses_lines set witnesses)
+record_lines (record_of.Correction set witness proofs) =
+    set_line (codes "m") set ∷ witness_line 0 witness ∷ refutations_lines set proofs
+
+-- the closing part and the end: the steps that refute the block clauses, or that nothing is closed
+abbrev pub end_lines : Option Derivation → List Line
+end_lines None = end_line (codes "partial") ∷ []
+end_lines (Some d) = map step_line d.steps ++ exhaustion_line d.goal ∷ end_line (codes "complete") ∷ []
+
+-- ---- texts
+
+abbrev pub head_text : Problem → List ℕ
+head_text p = line_text (head_line p)
+
+abbrev pub record_text : Record → List ℕ
+record_text r = text_of (record_lines r)
+
+abbrev pub end_text : Option Derivation → List ℕ
+end_text closing = text_of (end_lines closing)
+
+-- the text of these records about the problem, closed or not
+abbrev pub evidence_text : Problem → List Record → Option Derivation → List ℕ
+evidence_text p records closing = head_text p ++ flat_map record_text records ++ end_text closing

@@ -1,0 +1,154 @@
+//! What stands in a line behind its first word.
+ghost use Rattle.std.specs.Prelude.{◌≡◌, ◌<◌, ◌≤◌, ◌^◌, All, IfOk, OnOk, length};
+ghost use Rattle.sat_base.specs.Derivation.{max_id};
+ghost use Rattle.evidence_text.specs.Reading.{number_in, literal_in, items_at, ascending_at, counts_at, set_at, step_at, witness_at, goal_at, last_word_at};
+ghost use Rattle.evidence_text.specs.Cursors.{words_left, ReadsLine, ReadsLineUnlessMemory, ReadsUnlessMemory, ReadsList, ReadsTrues, with_read};
+
+use crate::goal::Goal;
+use crate::offence::Halt;
+use crate::words::Words;
+use gm_base::{Assign, AssignBuilder, GroupSet, Lit};
+use lrat_check::{Counts, Why};
+use std::alloc::Global;
+
+/// The greatest id.
+pub(crate) const MAX_ID: u64 = 9_223_372_036_854_775_807;
+
+/// The head's numbers.
+#[tactic(auto, unfolding(crate::specs::Reading::counts_at))]
+pub(crate) fn read_counts(mut words: Words<'_>) -> Result<Counts, Why>
+    ensures { ReadsLine (λ c. c) result (counts_at (words_left words.entry)) }
+{
+    words.word(b"gmev")?;
+    words.number(1, 1)?;
+    let vars = words.number(0, u64::MAX)?;
+    let clauses = words.number(0, u64::MAX)?;
+    let groups = words.number(0, u64::MAX)?;
+    words.end()?;
+    Ok(Counts {
+        vars,
+        groups,
+        clauses,
+    })
+}
+
+/// A set of groups up to this one.
+#[tactic(auto, unfolding(crate::specs::Reading::set_at))]
+pub(crate) fn read_set(alloc: Global, mut words: Words<'_>, groups: u32) -> Result<GroupSet, Halt>
+    ensures { ReadsLineUnlessMemory (λ set. set) result (set_at groups (words_left words.entry)) }
+{
+    let set = read_groups(alloc, &mut words, groups)?;
+    words.end()?;
+    Ok(set)
+}
+
+/// Ascending groups, and the 0 behind them.
+fn read_groups(alloc: Global, words: &mut Words<'_>, groups: u32) -> Result<GroupSet, Halt>
+    ensures { ReadsUnlessMemory (λ set. set) result (words_left words.new) (ascending_at 0 groups (words_left words.old)) }
+{
+    let mut set = GroupSet::new(alloc);
+    let mut last = 0;
+    while let Some(g) = words.above(last, u64::from(groups))? {
+        set.push(g as u32)?;
+        last = g;
+    }
+    Ok(set)
+}
+
+/// The id, the literals and the hints of a step, these into the two lists.
+#[tactic(auto, unfolding(crate::specs::Reading::step_at))]
+pub(crate) fn read_step(
+    mut words: Words<'_>,
+    vars: u32,
+    lits: &mut Vec<Lit>,
+    hints: &mut Vec<u64>,
+) -> Result<u64, Halt>
+    requires { vars < 2 ^ 31 }
+    ensures step { ReadsLineUnlessMemory (λ id. record { id = id; lits = lits.new.items; hints = hints.new.items }) result (step_at vars (words_left words.entry)) }
+    ensures id { IfOk result (λ id. id ≤ max_id) }
+    ensures hints { OnOk result (All (λ h. h ≤ max_id) hints.new.items) }
+{
+    let id = words.number(1, MAX_ID)?;
+    read_literals(&mut words, vars, lits)?;
+    read_hints(&mut words, hints)?;
+    words.end()?;
+    Ok(id)
+}
+
+/// Literals, and the 0 behind them.
+fn read_literals(words: &mut Words<'_>, vars: u32, lits: &mut Vec<Lit>) -> Result<(), Halt>
+    requires { vars < 2 ^ 31 }
+    ensures { ReadsList result lits.new.items (words_left words.new) (items_at (literal_in vars) (words_left words.old)) }
+{
+    lits.clear();
+    while let Some(lit) = words.literal(vars)? {
+        lits.push(lit)?;
+    }
+    Ok(())
+}
+
+/// Hints, and the 0 behind them.
+fn read_hints(words: &mut Words<'_>, hints: &mut Vec<u64>) -> Result<(), Halt>
+    ensures read { ReadsList result hints.new.items (words_left words.new) (items_at (number_in 1 max_id) (words_left words.old)) }
+    ensures in_range { OnOk result (All (λ h. h ≤ max_id) hints.new.items) }
+{
+    hints.clear();
+    while let Some(hint) = words.above(0, MAX_ID)? {
+        hints.push(hint)?;
+    }
+    Ok(())
+}
+
+/// The witness for a group.
+#[tactic(auto, unfolding(crate::specs::Reading::witness_at))]
+pub(crate) fn read_witness(
+    alloc: Global,
+    mut words: Words<'_>,
+    vars: u32,
+    group: u32,
+) -> Result<Assign, Halt>
+    ensures witness { ReadsLineUnlessMemory (λ w. w) result (witness_at vars group (words_left words.entry)) }
+{
+    words.number(u64::from(group), u64::from(group))?;
+    let mut values = AssignBuilder::all_false(alloc, vars)?;
+    read_trues(&mut words, vars, &mut values)?;
+    words.end()?;
+    let witness = values.finish(alloc)?;
+    Ok(witness)
+}
+
+/// Makes ascending variables true, up to the 0 behind them.
+fn read_trues(words: &mut Words<'_>, vars: u32, values: &mut AssignBuilder) -> Result<(), Why>
+    requires { length values.old ≡ vars }
+    ensures { ReadsTrues result values.new (words_left words.new) (with_read values.old (ascending_at 0 vars (words_left words.old))) }
+{
+    let mut last = 0;
+    while let Some(var) = words.above(last, u64::from(vars))? {
+        values.set(var as u32, true);
+        last = var;
+    }
+    Ok(())
+}
+
+/// The id that a goal's line names.
+#[tactic(auto, unfolding(crate::specs::Reading::goal_at))]
+pub(crate) fn read_goal(mut words: Words<'_>, goal: Goal) -> Result<u64, Why>
+    ensures goal { ReadsLine (λ id. id) result (goal_at goal (words_left words.entry)) }
+    ensures in_range { IfOk result (λ id. id ≤ max_id) }
+{
+    if let Goal::Refutes(group) = goal {
+        words.number(u64::from(group), u64::from(group))?;
+    }
+    let id = words.number(1, MAX_ID)?;
+    words.end()?;
+    Ok(id)
+}
+
+/// One word, and no other.
+#[tactic(auto, unfolding(crate::specs::Reading::last_word_at))]
+pub(crate) fn read_last_word(mut words: Words<'_>, due: &[u8]) -> Result<(), Why>
+    ensures { ReadsLine (λ x. x) result (last_word_at due.now (words_left words.entry)) }
+{
+    words.word(due)?;
+    words.end()
+}

@@ -1,0 +1,57 @@
+//! The text of evidence: how records and their closing part are written, and how they are read back.
+//!
+//! A text has a head, then the records in the order in which they were found, each with its evidence, and then the closing
+//! part or the word that there is none:
+//!
+//! ```text
+//! p gmev 1 0 1 1
+//! u 1 0
+//! r 0 1
+//! w 1 0
+//! m 1 0
+//! w 0 0
+//! r 1 1
+//! d 3 0 1 2 0
+//! x 3
+//! e complete
+//! ```
+//!
+//! [`write_head`], [`write_record`] and [`write_end`] append to a text. An [`EvidenceReader`] goes over a text once, and
+//! answers a record at a time:
+//!
+//! ```text
+//! let mut reader = EvidenceReader::new(&problem, text);
+//! reader.head()?;
+//! loop {
+//!     match reader.next(alloc)? {
+//!         Answer::Record(record) => ..,              // it begins at line reader.line()
+//!         Answer::End(closing) => break,
+//!         Answer::Offence(Offence { line, why }) => ..,
+//!     }
+//! }
+//! ```
+//!
+//! Start reading at `specs/Text.antt`, which says what is written, and at `specs/Reading.antt`, which says what is read and
+//! what a text's first offence is; `specs/Reader.antt` has what a reader's answers mean. That the evidence shows what a
+//! record says is not looked at here.
+#![tactic(auto)]
+
+mod answer;
+mod fields;
+mod goal;
+mod head;
+mod lines;
+mod offence;
+mod proof;
+mod reader;
+mod record;
+mod scan;
+#[cfg(test)]
+mod tests;
+mod words;
+mod writing;
+
+pub use answer::Answer;
+pub use offence::Offence;
+pub use reader::EvidenceReader;
+pub use writing::{write_end, write_head, write_record};

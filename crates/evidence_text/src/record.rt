@@ -1,0 +1,223 @@
+//! Records.
+ghost use Rattle.std.specs.Prelude.{◌≡◌, ◌<◌, ◌+◌, ◌^◌, OnOk};
+ghost use Rattle.evidence_text.specs.Reading.{at_line, set_at, last_word_at, witness_line_at, witnesses_at, refutations_at, conflict_at, correction_at, closing_at, complete_at, piece_at, is_nothing};
+ghost use Rattle.evidence_text.specs.Cursors.{left_of, rest_of, words_left, Gives, GivesBelow, GivesLine, ReadsNothing};
+
+use crate::answer::Answer;
+use crate::fields::{read_last_word, read_set, read_witness};
+use crate::goal::Goal;
+use crate::lines::Lines;
+use crate::offence::{Stop, on_line, refusal};
+use crate::proof::read_proof;
+use crate::words::{Words, first_word};
+use evidence_rec::{Proofs, Record, Witnesses};
+use gm_base::{Assign, Derivation, GroupSet, Problem};
+use lrat_check::Why;
+use std::alloc::Global;
+
+/// The line of a witness.
+#[tactic(auto, unfolding(crate::specs::Reading::witness_line_at))]
+fn read_witness_line(
+    alloc: Global,
+    lines: &mut Lines<'_>,
+    vars: u32,
+    group: u32,
+) -> Result<Assign, Stop>
+    ensures witness { Gives (λ w. w) result (left_of lines.new) (witness_line_at vars group (left_of lines.old).at (left_of lines.old).lines) }
+    ensures rest { OnOk result (rest_of lines.new ≡ rest_of lines.old) }
+{
+    let at = lines.at;
+    let Some(line) = lines.next() else {
+        return Err(refusal(at, Why::Truncated));
+    };
+    let (letter, words) = first_word(line);
+    if letter != b'w' {
+        return Err(refusal(at, Why::BadLine));
+    }
+    match read_witness(alloc, words, vars, group) {
+        Ok(witness) => Ok(witness),
+        Err(halt) => Err(on_line(at, halt)),
+    }
+}
+
+/// Of each group its witness.
+#[tactic(auto, unfolding(crate::specs::Reading::witnesses_at))]
+fn read_witnesses(
+    alloc: Global,
+    lines: &mut Lines<'_>,
+    vars: u32,
+    set: &GroupSet,
+) -> Result<Witnesses, Stop>
+    ensures witnesses { Gives (λ ws. ws) result (left_of lines.new) (witnesses_at vars set.now (left_of lines.old).at (left_of lines.old).lines) }
+    ensures rest { OnOk result (rest_of lines.new ≡ rest_of lines.old) }
+{
+    let mut witnesses = Witnesses::new(alloc);
+    for g in set.as_slice() {
+        let witness = read_witness_line(alloc, lines, vars, *g)?;
+        witnesses.push(witness)?;
+    }
+    Ok(witnesses)
+}
+
+/// Of each group its refutation.
+#[tactic(auto, unfolding(crate::specs::Reading::refutations_at))]
+fn read_refutations(
+    alloc: Global,
+    lines: &mut Lines<'_>,
+    vars: u32,
+    set: &GroupSet,
+) -> Result<Proofs, Stop>
+    requires { vars < 2 ^ 31 }
+    ensures proofs { Gives (λ ds. ds) result (left_of lines.new) (refutations_at vars set.now (left_of lines.old).at (left_of lines.old).lines) }
+    ensures rest { OnOk result (rest_of lines.new ≡ rest_of lines.old) }
+{
+    let mut proofs = Proofs::new(alloc);
+    for g in set.as_slice() {
+        let proof = read_proof(alloc, lines, vars, Goal::Refutes(*g))?;
+        proofs.push(proof)?;
+    }
+    Ok(proofs)
+}
+
+/// The set of a record's first line.
+fn read_set_line(alloc: Global, words: Words<'_>, groups: u32, at: u64) -> Result<GroupSet, Stop>
+    ensures { GivesLine (λ set. set) result (at_line at (set_at groups (words_left words.entry))) }
+{
+    match read_set(alloc, words, groups) {
+        Ok(set) => Ok(set),
+        Err(halt) => Err(on_line(at, halt)),
+    }
+}
+
+/// What stands behind the line of a conflict's set.
+#[tactic(auto, unfolding(crate::specs::Reading::conflict_at))]
+pub(crate) fn read_conflict(
+    alloc: Global,
+    lines: &mut Lines<'_>,
+    problem: &Problem,
+    set: GroupSet,
+) -> Result<Record, Stop>
+    ensures conflict { Gives (λ r. r) result (left_of lines.new) (conflict_at problem.now set (left_of lines.old).at (left_of lines.old).lines) }
+    ensures rest { OnOk result (rest_of lines.new ≡ rest_of lines.old) }
+{
+    let vars = problem.vars();
+    let proof = read_proof(alloc, lines, vars + problem.groups(), Goal::Refutes(0))?;
+    let witnesses = read_witnesses(alloc, lines, vars, &set)?;
+    Ok(Record::Conflict {
+        set,
+        proof,
+        witnesses,
+    })
+}
+
+/// What stands behind the line of a correction's set.
+#[tactic(auto, unfolding(crate::specs::Reading::correction_at))]
+pub(crate) fn read_correction(
+    alloc: Global,
+    lines: &mut Lines<'_>,
+    problem: &Problem,
+    set: GroupSet,
+) -> Result<Record, Stop>
+    ensures correction { Gives (λ r. r) result (left_of lines.new) (correction_at problem.now set (left_of lines.old).at (left_of lines.old).lines) }
+    ensures rest { OnOk result (rest_of lines.new ≡ rest_of lines.old) }
+{
+    let vars = problem.vars();
+    let witness = read_witness_line(alloc, lines, vars, 0)?;
+    let proofs = read_refutations(alloc, lines, vars + problem.groups(), &set)?;
+    Ok(Record::Correction {
+        set,
+        witness,
+        proofs,
+    })
+}
+
+/// The closing part, and the last line.
+#[tactic(auto, unfolding(crate::specs::Reading::closing_at))]
+pub(crate) fn read_closing(
+    alloc: Global,
+    lines: &mut Lines<'_>,
+    problem: &Problem,
+) -> Result<Derivation, Stop>
+    ensures closing { Gives (λ d. d) result (left_of lines.new) (closing_at problem.now (left_of lines.old).at (left_of lines.old).lines) }
+    ensures rest { OnOk result (rest_of lines.new ≡ rest_of lines.old) }
+{
+    let closing = read_proof(alloc, lines, problem.groups(), Goal::Exhausts)?;
+    read_complete(lines)?;
+    Ok(closing)
+}
+
+/// The last line, behind the closing part.
+#[tactic(auto, unfolding(crate::specs::Reading::complete_at))]
+fn read_complete(lines: &mut Lines<'_>) -> Result<(), Stop>
+    ensures complete { GivesBelow result (left_of lines.new) (complete_at (left_of lines.old).at (left_of lines.old).lines) }
+    ensures rest { OnOk result (rest_of lines.new ≡ rest_of lines.old) }
+{
+    let at = lines.at;
+    let Some(line) = lines.next() else {
+        return Err(refusal(at, Why::Truncated));
+    };
+    let (letter, words) = first_word(line);
+    if letter != b'e' {
+        return Err(refusal(at, Why::BadLine));
+    }
+    match read_last_word(words, b"complete") {
+        Ok(()) => Ok(()),
+        Err(why) => Err(refusal(at, why)),
+    }
+}
+
+/// That nothing stands behind the end.
+fn read_nothing(lines: &Lines<'_>) -> Result<(), Stop>
+    ensures { ReadsNothing result lines.now.at (is_nothing (left_of lines.now).lines (rest_of lines.now)) }
+{
+    if lines.rest.is_empty() {
+        Ok(())
+    } else {
+        Err(refusal(lines.at, Why::TrailingText))
+    }
+}
+
+/// A record or the end.
+#[tactic(auto, unfolding(crate::specs::Reading::piece_at))]
+pub(crate) fn read_piece(
+    alloc: Global,
+    lines: &mut Lines<'_>,
+    problem: &Problem,
+) -> Result<Answer, Stop>
+    ensures piece { Gives (λ a. a) result (left_of lines.new) (piece_at problem.now (rest_of lines.old) (left_of lines.old).at (left_of lines.old).lines) }
+    ensures rest { OnOk result (rest_of lines.new ≡ rest_of lines.old) }
+{
+    let mut ahead = *lines;
+    let at = ahead.at;
+    let Some(line) = ahead.next() else {
+        return Err(refusal(at, Why::Truncated));
+    };
+    let (letter, words) = first_word(line);
+    match letter {
+        b'u' => {
+            let set = read_set_line(alloc, words, problem.groups(), at)?;
+            *lines = ahead;
+            let r = read_conflict(alloc, lines, problem, set)?;
+            Ok(Answer::Record(r))
+        },
+        b'm' => {
+            let set = read_set_line(alloc, words, problem.groups(), at)?;
+            *lines = ahead;
+            let r = read_correction(alloc, lines, problem, set)?;
+            Ok(Answer::Record(r))
+        },
+        b'e' => {
+            if let Err(why) = read_last_word(words, b"partial") {
+                return Err(refusal(at, why));
+            }
+            *lines = ahead;
+            read_nothing(lines)?;
+            Ok(Answer::End(None))
+        },
+        _ => {
+            let closing = read_closing(alloc, lines, problem)?;
+            read_nothing(lines)?;
+            Ok(Answer::End(Some(closing)))
+        },
+    }
+}

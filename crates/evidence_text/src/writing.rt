@@ -1,0 +1,226 @@
+//! What is written.
+ghost use Rattle.std.specs.Prelude.{◌≡◌, ◌+◌, ◌<◌, [], ◌∷◌, ◌++◌, false, codes, if◌then◌else◌, length, map, slice_index_or, OnOk};
+ghost use Rattle.std.specs.List.{flat_map};
+ghost use Rattle.std.specs.Fmt.{decimal, signed_decimal};
+ghost use Rattle.std.specs.Option.{option_map};
+ghost use Rattle.evidence_text.specs.Text.{line_text, head_text, record_text, end_text, set_line, step_line, goal_line, witness_line, text_of, refutation_lines, refutations_lines, witnesses_lines, trues_from};
+
+use evidence_rec::{Proofs, Record, Witnesses};
+use gm_base::{Assign, Derivation, GroupSet, Lit, Problem, Step};
+use std::alloc::AllocError;
+use token_text::put_number;
+
+fn push_text(out: &mut Vec<u8>, text: &str) -> Result<(), AllocError>
+    ensures { OnOk result (out.new.items ≡ out.old.items ++ text.now) }
+{
+    out.extend_from_slice(text.as_bytes())
+}
+
+/// A blank and a number.
+fn push_number(out: &mut Vec<u8>, n: u64) -> Result<(), AllocError>
+    ensures { OnOk result (out.new.items ≡ out.old.items ++ (codes " " ++ decimal n)) }
+{
+    push_text(out, " ")?;
+    put_number(out, i128::from(n))
+}
+
+/// Groups, each behind a blank.
+fn push_groups(out: &mut Vec<u8>, groups: &[u32]) -> Result<(), AllocError>
+    ensures { OnOk result (out.new.items ≡ out.old.items ++ flat_map (λ g. codes " " ++ decimal g) groups.now) }
+{
+    for g in groups {
+        push_number(out, u64::from(*g))?;
+    }
+    Ok(())
+}
+
+/// Ids, each behind a blank.
+fn push_ids(out: &mut Vec<u8>, ids: &[u64]) -> Result<(), AllocError>
+    ensures { OnOk result (out.new.items ≡ out.old.items ++ flat_map (λ id. codes " " ++ decimal id) ids.now) }
+{
+    for id in ids {
+        push_number(out, *id)?;
+    }
+    Ok(())
+}
+
+/// Literals, each behind a blank.
+fn push_lits(out: &mut Vec<u8>, lits: &[Lit]) -> Result<(), AllocError>
+    ensures { OnOk result (out.new.items ≡ out.old.items ++ flat_map (λ lit. codes " " ++ signed_decimal lit) lits.now) }
+{
+    for lit in lits {
+        push_text(out, " ")?;
+        put_number(out, i128::from(lit.number()))?;
+    }
+    Ok(())
+}
+
+/// The variables that are true, each behind a blank; want of memory where there are more than literals can name.
+fn push_trues(out: &mut Vec<u8>, witness: &Assign) -> Result<(), AllocError>
+    ensures { OnOk result (out.new.items ≡ out.old.items ++ flat_map (λ v. codes " " ++ decimal v) (trues_from 1 witness.now)) }
+{
+    for at in 0..witness.len() {
+        push_if_true(out, witness, at)?;
+    }
+    Ok(())
+}
+
+/// The variable at a place, where it is true.
+fn push_if_true(out: &mut Vec<u8>, witness: &Assign, at: usize) -> Result<(), AllocError>
+    requires { at < length witness.now }
+    ensures { OnOk result (out.new.items ≡ out.old.items ++ flat_map (λ v. codes " " ++ decimal v) (if slice_index_or witness.now at false then (at + 1) ∷ [] else [])) }
+{
+    if at >= 0x7fff_ffff {
+        return Err(AllocError);
+    }
+    if witness.makes_true(Lit::new(at as i32 + 1)) {
+        push_number(out, at as u64 + 1)
+    } else {
+        Ok(())
+    }
+}
+
+/// The line of a set.
+pub(crate) fn write_set(letter: &str, set: &GroupSet, out: &mut Vec<u8>) -> Result<(), AllocError>
+    ensures { OnOk result (out.new.items ≡ out.old.items ++ line_text (set_line letter.now set.now)) }
+{
+    push_text(out, letter)?;
+    push_groups(out, set.as_slice())?;
+    push_text(out, " 0\n")?;
+    Ok(())
+}
+
+/// The line of a step.
+pub(crate) fn write_step(step: Step<'_>, out: &mut Vec<u8>) -> Result<(), AllocError>
+    ensures { OnOk result (out.new.items ≡ out.old.items ++ line_text (step_line (record { id = step.entry.id; lits = step.entry.lits.now; hints = step.entry.hints.now }))) }
+{
+    push_text(out, "d")?;
+    push_number(out, step.id)?;
+    push_lits(out, step.lits)?;
+    push_text(out, " 0")?;
+    push_ids(out, step.hints)?;
+    push_text(out, " 0\n")?;
+    Ok(())
+}
+
+/// The line of a refutation's goal.
+pub(crate) fn write_goal(group: u32, goal: u64, out: &mut Vec<u8>) -> Result<(), AllocError>
+    ensures { OnOk result (out.new.items ≡ out.old.items ++ line_text (goal_line group goal)) }
+{
+    push_text(out, "r")?;
+    push_number(out, u64::from(group))?;
+    push_number(out, goal)?;
+    push_text(out, "\n")?;
+    Ok(())
+}
+
+/// The line of a witness.
+pub(crate) fn write_witness(
+    group: u32,
+    witness: &Assign,
+    out: &mut Vec<u8>,
+) -> Result<(), AllocError>
+    ensures { OnOk result (out.new.items ≡ out.old.items ++ line_text (witness_line group witness.now)) }
+{
+    push_text(out, "w")?;
+    push_number(out, u64::from(group))?;
+    push_trues(out, witness)?;
+    push_text(out, " 0\n")?;
+    Ok(())
+}
+
+/// The lines of steps.
+fn write_steps(proof: &Derivation, out: &mut Vec<u8>) -> Result<(), AllocError>
+    ensures { OnOk result (out.new.items ≡ out.old.items ++ text_of (map step_line proof.now.steps)) }
+{
+    for at in 0..proof.len() {
+        write_step(proof.step(at), out)?;
+    }
+    Ok(())
+}
+
+/// The lines of the refutation of a group.
+fn write_refutation(group: u32, proof: &Derivation, out: &mut Vec<u8>) -> Result<(), AllocError>
+    ensures { OnOk result (out.new.items ≡ out.old.items ++ text_of (refutation_lines group proof.now)) }
+{
+    write_steps(proof, out)?;
+    write_goal(group, proof.goal(), out)?;
+    Ok(())
+}
+
+/// Appends the head of a text about this problem.
+pub fn write_head(problem: &Problem, out: &mut Vec<u8>) -> Result<(), AllocError>
+    ensures { OnOk result (out.new.items ≡ out.old.items ++ head_text problem.now) }
+{
+    push_text(out, "p gmev 1")?;
+    push_number(out, u64::from(problem.vars()))?;
+    push_number(out, problem.len() as u64)?;
+    push_number(out, u64::from(problem.groups()))?;
+    push_text(out, "\n")
+}
+
+/// Appends a record. One item of evidence for each group of its set is written.
+pub fn write_record(r: &Record, out: &mut Vec<u8>) -> Result<(), AllocError>
+    ensures { OnOk result (out.new.items ≡ out.old.items ++ record_text r.now) }
+{
+    match r {
+        Record::Conflict {
+            set,
+            proof,
+            witnesses,
+        } => {
+            write_set("u", set, out)?;
+            write_refutation(0, proof, out)?;
+            write_witnesses(set.as_slice(), witnesses, out)?;
+            Ok(())
+        },
+        Record::Correction {
+            set,
+            witness,
+            proofs,
+        } => {
+            write_set("m", set, out)?;
+            write_witness(0, witness, out)?;
+            write_refutations(set.as_slice(), proofs, out)?;
+            Ok(())
+        },
+    }
+}
+
+/// Of each group its witness.
+fn write_witnesses(
+    groups: &[u32],
+    witnesses: &Witnesses,
+    out: &mut Vec<u8>,
+) -> Result<(), AllocError>
+    ensures { OnOk result (out.new.items ≡ out.old.items ++ text_of (witnesses_lines groups.now witnesses.now)) }
+{
+    for at in 0..groups.len().min(witnesses.len()) {
+        write_witness(groups[at], witnesses.at(at), out)?;
+    }
+    Ok(())
+}
+
+/// Of each group its refutation.
+fn write_refutations(groups: &[u32], proofs: &Proofs, out: &mut Vec<u8>) -> Result<(), AllocError>
+    ensures { OnOk result (out.new.items ≡ out.old.items ++ text_of (refutations_lines groups.now proofs.now)) }
+{
+    for at in 0..groups.len().min(proofs.len()) {
+        write_refutation(groups[at], proofs.at(at), out)?;
+    }
+    Ok(())
+}
+
+/// Appends the closing part and the end, or that nothing is closed.
+pub fn write_end(closing: Option<&Derivation>, out: &mut Vec<u8>) -> Result<(), AllocError>
+    ensures { OnOk result (out.new.items ≡ out.old.items ++ end_text (option_map (λ d. d.now) closing.entry)) }
+{
+    let Some(closing) = closing else {
+        return push_text(out, "e partial\n");
+    };
+    write_steps(closing, out)?;
+    push_text(out, "x")?;
+    push_number(out, closing.goal())?;
+    push_text(out, "\ne complete\n")?;
+    Ok(())
+}
