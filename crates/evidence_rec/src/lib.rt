@@ -39,3 +39,4 @@ pub use engine::{MapEngine, Seed};
 pub use lists::{Proofs, Records, Witnesses};
 pub use oracle::{Asked, Oracle};
 pub use record::Record;
+pub use refutation::steps_verdict;

@@ -41,8 +41,8 @@ pub fn refutation_verdict(
     Ok(Verdict::at(part, why))
 }
 
-// Gives the steps to the checker, up to the first that it refuses.
-fn steps_verdict(
+/// Gives the steps of a proof, whose first line is `line`, to the checker, up to the first that it refuses.
+pub fn steps_verdict(
     checker: &mut Checker,
     proof: &Derivation,
     line: u64,

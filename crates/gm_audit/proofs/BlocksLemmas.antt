@@ -1,0 +1,87 @@
+-- The block clauses of records, one after another, and what closes them.
+use Rattle.std.proofs.Common.{◌≡◌, ◌≢◌, ◌↔◌, ℕ, zero, suc, ◌+◌, ◌<◌, ◌≤◌, Bool, true, false, ◌&&◌, List, [], ◌∷◌, ◌++◌, map, length, take, Option, Some, None, refl, sym, ◌∙◌, ap, ap₂, subst, arith}
+use Rattle.std.specs.Prelude.{ℤ, slice_get, if◌then◌else◌}
+use Rattle.std.specs.List.{list_all, AllByRecursion}
+use Rattle.std.specs.Option.{option_map_or}
+use Rattle.std.proofs.lemmas.Bool.{and_from, false≢true}
+use Rattle.std.proofs.lemmas.List.{take_all, length-map, get_or-map}
+use Rattle.std.proofs.lemmas.Option.{slice_get_within, get_or_from_slice_get}
+use Rattle.sat_base.specs.Derivation.{Derivation, numbered, clause_of, all_known, is_nil, steps_follow, is_derivation}
+use Rattle.gm_base.specs.declared.kind.Side.{Side}
+use Rattle.gm_base.specs.Sets.{IsSubset, all_groups}
+use Rattle.gm_base.specs.Problem.{Problem}
+use Rattle.gm_base.specs.Explored.{Found, block_clause}
+use Rattle.lrat_check.specs.declared.why.Why.{Why}
+use Rattle.lrat_check.specs.declared.why.Why.TheVariants.{UnknownClause, NotRefuting}
+use Rattle.lrat_check.specs.Refusal.{last_id}
+use Rattle.lrat_check.proofs.KnownLemmas.{length-numbered, numbered_next, last_id-numbered}
+use Rattle.evidence_rec.specs.declared.record.Record.{Record}
+use Rattle.evidence_rec.specs.Records.{found_of, founds, set_of, IsAccepted}
+use Rattle.evidence_rec.specs.Refusals.{at_line, steps_refusal}
+use Rattle.evidence_rec.specs.Seeding.{shows_all_explored}
+use Rattle.evidence_rec.proofs.VerdictLemmas.{none-parts, steps-none}
+use Rattle.gm_audit.specs.Refusals.{empty_refusal, closing_refusal}
+
+abbrev pub blocks : List Record → List (List ℤ)
+blocks rs = map block_clause (founds rs)
+
+pub length-blocks : (rs : List Record) → length (blocks rs) ≡ length rs
+length-blocks rs = length-map (founds rs) block_clause ∙ length-map rs found_of
+
+-- one record more
+pub block-next : (rs : List Record) (at : ℕ) (r : Record) → slice_get rs at ≡ Some r
+    → numbered 1 (take (at + 1) (blocks rs)) ≡ numbered 1 (take at (blocks rs)) ++ (at + 1, block_clause (found_of r)) ∷ []
+block-next rs at r is =
+    let lt = slice_get_within rs at r is in
+    let few : at < length (founds rs) = omega (arith, length-map rs found_of) in
+    numbered_next at 1 (blocks rs) (block_clause (found_of r)) (omega (arith, length-blocks rs))
+    ∙ ap (λ (lits : List ℤ). numbered 1 (take at (blocks rs)) ++ (at + 1, lits) ∷ [])
+    (get_or-map block_clause (founds rs) at (found_of r) (block_clause (found_of r)) few
+    ∙ ap block_clause (get_or-map found_of rs at r (found_of r) lt ∙ ap found_of (get_or_from_slice_get rs at r r is)))
+
+pub count-blocks : (rs : List Record) (at : ℕ) (known : List (ℕ × List ℤ)) → at ≤ length rs
+    → known ≡ numbered 1 (take at (blocks rs)) → length known ≡ at
+count-blocks rs at known le is = ap length is ∙ length-numbered at 1 (blocks rs) (omega (arith, le, length-blocks rs))
+
+pub all-blocks : (rs : List Record) (at : ℕ) → at ≡ length rs → take at (blocks rs) ≡ blocks rs
+all-blocks rs at end = take_all at (blocks rs) (omega (arith, end, length-blocks rs))
+
+pub accepted-at : (p : Problem) (rs : List Record) (at : ℕ) (r : Record) → AllByRecursion (IsAccepted p) rs
+    → slice_get rs at ≡ Some r → IsSubset (set_of r) (all_groups p.groups)
+accepted-at p [] at r all is = absurd (nothing is)
+  where
+    nothing : slice_get [] at ≡ Some r → ⊥
+    nothing e = let lt = slice_get_within [] at r e in omega arith
+accepted-at p (q ∷ qs) zero r all is = subst (λ (s : Record). IsSubset (set_of s) (all_groups p.groups)) (let same : q ≡ r = cc in same) all.0.within
+accepted-at p (q ∷ qs) (suc at) r all is = accepted-at p qs at r all.1 is
+
+-- ---- a closing part in which nothing is refused
+
+goal-empty : (o : Option (List ℤ))
+    → option_map_or (λ (c : List ℤ). if is_nil c then None else Some NotRefuting) o (Some UnknownClause) ≡ None
+    → option_map_or (λ (c : List ℤ). list_all (λ l. false) c) o false ≡ true
+goal-empty None h = absurd (some_none UnknownClause h)
+  where
+    some_none : (w : Why) → Some w ≡ None → ⊥
+    some_none w e = cc
+goal-empty (Some []) h = refl
+goal-empty (Some (l ∷ ls)) h = absurd (some_none NotRefuting h)
+  where
+    some_none : (w : Why) → Some w ≡ None → ⊥
+    some_none w e = cc
+
+at_line-none : (line : ℕ) (why : Option Why) → at_line line why ≡ None → why ≡ None
+at_line-none line None h = refl
+at_line-none line (Some w) h = cc
+
+-- it derives the empty clause
+pub closing-shows : (groups : ℕ) (found : List Found) (d : Derivation) → closing_refusal groups found d ≡ None
+    → shows_all_explored groups found d ≡ true
+closing-shows groups found d h =
+    let cs : List (List ℤ) = map block_clause found in
+    let why : Option Why = empty_refusal (all_known cs d.steps) d.goal in
+    let parts = none-parts (steps_refusal groups (numbered 1 cs) 0 d.steps) (at_line (length d.steps) why) h in
+    and_from (is_derivation groups cs d) (option_map_or (λ (c : List ℤ). list_all (λ l. false) c) (clause_of (all_known cs d.steps) d.goal) false)
+    (subst (λ n. steps_follow groups n (numbered 1 cs) d.steps ≡ true) (last_id-numbered cs)
+    ((steps-none groups (numbered 1 cs) 0 d.steps).0 parts.0))
+    (goal-empty (clause_of (all_known cs d.steps) d.goal) (at_line-none (length d.steps) why parts.1))

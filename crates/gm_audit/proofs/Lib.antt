@@ -1,0 +1,6 @@
+pub mod SeenLemmas
+pub mod BlocksLemmas
+pub mod ExactLemmas
+pub mod KeptLemmas
+pub mod TextLemmas
+pub mod ReadingLemmas

@@ -1,0 +1,322 @@
+-- What was read of a text so far, and what the text is refused for.
+use Rattle.std.proofs.Common.{◌≡◌, ℕ, zero, suc, ◌+◌, ◌<◌, ◌≤◌, Bool, true, false, List, [], ◌∷◌, ◌++◌, map, length, Option, Some, None, refl, sym, ◌∙◌, ap, subst, arith, append_assoc, append-nil, length-append}
+use Rattle.std.specs.Prelude.{IfSome, is_some, Result, Ok, Err, IfOk, OnOk, codes}
+use Rattle.std.specs.Option.{option_or}
+use Rattle.std.specs.List.{flat_map}
+use Rattle.std.specs.declared.alloc.AllocError.{AllocError}
+use Rattle.std.proofs.lemmas.Grind.{flat_map-append}
+use Rattle.std.proofs.lemmas.List.Concat.{flat_map-cons}
+use Rattle.sat_base.specs.Derivation.{Derivation}
+use Rattle.gm_base.specs.Problem.{Problem}
+use Rattle.lrat_check.specs.declared.why.Why.TheVariants.{Truncated}
+use Rattle.evidence_rec.specs.declared.record.Record.{Record}
+use Rattle.evidence_rec.specs.declared.record.Record.TheVariants.{Conflict, Correction}
+use Rattle.evidence_rec.specs.Records.{founds}
+use Rattle.evidence_rec.specs.Seeding.{shows_all_explored}
+use Rattle.evidence_text.specs.declared.offence.Offence.{Offence}
+use Rattle.evidence_text.specs.declared.reader.Answer.{Answer}
+use Rattle.evidence_text.specs.declared.reader.Answer.TheVariants as answer
+use Rattle.evidence_text.specs.Text.{Line, head_line, record_lines, step_line, exhaustion_line, end_line, end_lines}
+use Rattle.evidence_text.specs.Lines.{lines_of, unended}
+use Rattle.evidence_text.specs.Reading.{Below, below, head_at, piece_at, offence}
+use Rattle.evidence_text.specs.Readable.{IsReadable, IsReadableEnd}
+use Rattle.evidence_text.specs.Reader.{Reader, reader_of, head_of, head_answer, behind_head, piece_of, piece_answer, behind_piece, StandsAt}
+use Rattle.gm_audit.specs.declared.answer.Audited.{Audited}
+use Rattle.gm_audit.specs.declared.answer.Audited.TheVariants.{Yes, No}
+use Rattle.gm_audit.specs.declared.auditor.Auditor.{Auditor}
+use Rattle.gm_audit.specs.Refusals.{Placed, Ending, Contents, with_record, contents_by, contents_at, placed_refusal, records_refusal, closing_refusal, ending_refusal, kept_in, contents_refusal, text_refusal}
+use Rattle.gm_audit.specs.Audits.{AuditYes, refusal_of, TellsRecords, TellsKept}
+use Rattle.gm_audit.specs.Inside.{IsAuditing}
+use Rattle.gm_audit.proofs.BlocksLemmas.{closing-shows}
+use Rattle.gm_audit.proofs.KeptLemmas.{in_text-none}
+use Rattle.gm_audit.proofs.TextLemmas.{evidence-from_lines}
+
+-- what is read, or found, at a place
+abbrev pub Piece : Type 0
+Piece = Result (Answer × Below) Offence
+
+-- the refusal of a whole text but for its length
+abbrev pub whole_refusal : Problem → List ℕ → Option Offence
+whole_refusal p text = text_refusal p text (head_at p 1 (lines_of text))
+
+abbrev pub placed : ℕ → Record → Placed
+placed line r = record { line = line; kept = r }
+
+-- the head and these records were read, each passed, and what the text is refused for is left
+pub record IsReading (p : Problem) (text : List ℕ) (r : Reader) (records : List Record) : Type 0 where
+  pub problem : r.problem ≡ p
+  pub rest : r.rest ≡ unended text
+  pub begun : r.begun ≡ true
+  pub clean : r.offence ≡ None
+  pub lines : lines_of text ≡ head_line p ∷ (flat_map record_lines records ++ r.left.lines)
+  pub most : ℕ
+  pub enough : length r.left.lines ≤ most
+  pub refusal : whole_refusal p text ≡ contents_refusal p records (contents_at most p (unended text) r.left)
+
+-- ---- the head
+
+reading-begins : (p : Problem) (text : List ℕ) (new : Reader) (h : Result Below Offence) → head_at p 1 (lines_of text) ≡ h
+    → Ok tt ≡ head_answer h → new ≡ behind_head (reader_of p text) h → lines_of text ≡ head_line p ∷ new.left.lines
+    → IsReading p text new []
+reading-begins p text new (Err o) e ok is lines = cc
+reading-begins p text new (Ok b) e ok is lines =
+    record {
+      problem = ap (λ (r : Reader). r.problem) is;
+      rest = ap (λ (r : Reader). r.rest) is;
+      begun = ap (λ (r : Reader). r.begun) is;
+      clean = ap (λ (r : Reader). r.offence) is;
+      lines = lines;
+      most = length b.lines;
+      enough = let same = ap (λ (r : Reader). length r.left.lines) is in omega arith;
+      refusal =
+          ap (text_refusal p text) e
+          ∙ ap (λ (c : Below). contents_refusal p [] (contents_at (length b.lines) p (unended text) c)) (sym (ap (λ (r : Reader). r.left) is));
+    }
+
+-- behind the head, by what its reader ensures
+pub reading-begun : (p : Problem) (text : List ℕ) (made new : Reader) (said : Result (Unit {0}) Offence) → made ≡ reader_of p text
+    → (made.begun ≡ false → said ≡ head_answer (head_of made)) → (made.begun ≡ false → new ≡ behind_head made (head_of made))
+    → (made.begun ≡ false → OnOk said (made.left.lines ≡ head_line made.problem ∷ new.left.lines)) → said ≡ Ok tt
+    → IsReading p text new []
+reading-begun p text made new said is answers goes stands ok =
+    let fresh : made.begun ≡ false = ap (λ (r : Reader). r.begun) is in
+    let h : Result Below Offence = head_of made in
+    let there : made.left.lines ≡ head_line made.problem ∷ new.left.lines =
+    subst (λ (a : Result (Unit {0}) Offence). OnOk a (made.left.lines ≡ head_line made.problem ∷ new.left.lines)) ok (stands fresh) in
+    reading-begins p text new h (sym (ap head_of is)) (sym ok ∙ answers fresh)
+    (goes fresh ∙ ap (λ (r : Reader). behind_head r h) is)
+    (sym (ap (λ (r : Reader). r.left.lines) is) ∙ there
+    ∙ ap (λ (r : Reader). head_line r.problem ∷ new.left.lines) is)
+
+-- ---- a record
+
+at-piece : (m : ℕ) (p : Problem) (rest : List ℕ) (b : Below) (got : Piece) → piece_at p rest b.at b.lines ≡ got
+    → contents_at (suc m) p rest b ≡ contents_by b.at got (contents_at m p rest)
+unfolding contents_at
+at-piece m p rest b got e = ap (λ (g : Piece). contents_by b.at g (contents_at m p rest)) e
+
+-- what stands at a reader's place, as its own parts have it
+piece-is : (p : Problem) (text : List ℕ) (r : Reader) (records : List Record) (got : Piece) → IsReading p text r records
+    → piece_of r ≡ got → piece_at p (unended text) r.left.at r.left.lines ≡ got
+piece-is p text r records got h e =
+    ap (λ (q : Problem). piece_at q (unended text) r.left.at r.left.lines) (sym h.problem)
+    ∙ ap (λ (bs : List ℕ). piece_at r.problem bs r.left.at r.left.lines) (sym h.rest) ∙ e
+
+some-lines : (r : Record) → 0 < length (record_lines r)
+some-lines (Conflict set proof ws) = omega arith
+some-lines (Correction set w ds) = omega arith
+
+some-end : (closing : Option Derivation) → 0 < length (end_lines closing)
+some-end None = omega arith
+some-end (Some d) =
+    let count = length-append (map step_line d.steps) (exhaustion_line d.goal ∷ end_line (codes "complete") ∷ []) in omega arith
+
+record-passed : (p : Problem) (records : List Record) (line : ℕ) (r : Record) (c : Contents)
+    → placed_refusal p records (placed line r) ≡ None
+    → contents_refusal p records (with_record line r c) ≡ contents_refusal p (records ++ r ∷ []) c
+record-passed p records line r c none =
+    let behind = records_refusal p (records ++ r ∷ []) c.records in
+    ap (λ (x : Option Offence). option_or (option_or x behind) (ending_refusal p (records ++ (r ∷ kept_in c.records)) c.ending)) none
+    ∙ ap (λ (rs : List Record). option_or behind (ending_refusal p rs c.ending)) (sym (append_assoc records (r ∷ []) (kept_in c.records)))
+
+record-refused : (p : Problem) (records : List Record) (line : ℕ) (r : Record) (c : Contents) (o : Offence)
+    → placed_refusal p records (placed line r) ≡ Some o → contents_refusal p records (with_record line r c) ≡ Some o
+record-refused p records line r c o some =
+    let behind = records_refusal p (records ++ r ∷ []) c.records in
+    ap (λ (x : Option Offence). option_or (option_or x behind) (ending_refusal p (records ++ (r ∷ kept_in c.records)) c.ending)) some
+
+-- a record that was read, before the lines that are left
+record-at : (r : Record) (got : Piece) (line : ℕ) (more : Below → Contents) → answer.Record r ≡ piece_answer got
+    → (b : Below) × (got ≡ Ok (answer.Record r, b)) × (contents_by line got more ≡ with_record line r (more b))
+record-at r (Err o) line more is = cc
+record-at r (Ok (answer.End closing, b)) line more is = cc
+record-at r (Ok (answer.Offence o, b)) line more is = cc
+record-at r (Ok (answer.Record q, b)) line more is =
+    let same : q ≡ r = cc in
+    (b, ap (λ (s : Record). Ok (answer.Record s, b)) same, ap (λ (s : Record). with_record line s (more b)) same)
+
+pub record-line : (old new : Reader) (r : Record) (got : Piece) → answer.Record r ≡ piece_answer got → new ≡ behind_piece old got
+    → new.line ≡ old.left.at
+record-line old new r got is behind =
+    let (b, same, by) = record-at r got 0 (λ b. record { records = []; ending = Err (offence 0 Truncated) }) is in
+    ap (λ (x : Reader). x.line) (behind ∙ ap (behind_piece old) same)
+
+-- the text is refused for this record
+pub refused-record : (p : Problem) (text : List ℕ) (old : Reader) (records : List Record) (r : Record) (ls : List Line) (got : Piece) (o : Offence)
+    → IsReading p text old records → piece_of old ≡ got → answer.Record r ≡ piece_answer got
+    → old.left.lines ≡ record_lines r ++ ls → placed_refusal p records (placed old.left.at r) ≡ Some o → whole_refusal p text ≡ Some o
+refused-record p text old records r ls got o h e is lines refused = by h.most h.enough h.refusal
+  where
+    by : (m : ℕ) → length old.left.lines ≤ m
+        → whole_refusal p text ≡ contents_refusal p records (contents_at m p (unended text) old.left) → whole_refusal p text ≡ Some o
+    by zero le all =
+        absurd (let some = some-lines r in let count = ap length lines ∙ length-append (record_lines r) ls in omega arith)
+    by (suc m) le all =
+        let (b, same, stands) = record-at r got old.left.at (contents_at m p (unended text)) is in
+        all ∙ ap (contents_refusal p records) (at-piece m p (unended text) old.left got (piece-is p text old records got h e) ∙ stands)
+        ∙ record-refused p records old.left.at r (contents_at m p (unended text) b) o refused
+
+-- it joins the records, and what is left is behind it
+pub reading-record : (p : Problem) (text : List ℕ) (old new : Reader) (records more : List Record) (r : Record) (got : Piece)
+    → IsReading p text old records → piece_of old ≡ got → answer.Record r ≡ piece_answer got → new ≡ behind_piece old got
+    → old.left.lines ≡ record_lines r ++ new.left.lines → placed_refusal p records (placed old.left.at r) ≡ None
+    → more ≡ records ++ r ∷ [] → IsReading p text new more
+reading-record p text old new records more r got h e is behind lines passed grown = by h.most h.enough h.refusal
+  where
+    after : Below
+    after = (record-at r got 0 (λ b. record { records = []; ending = Err (offence 0 Truncated) }) is).0
+
+    new-is : new ≡ record old { left = after; line = old.left.at }
+    new-is =
+        behind ∙ ap (behind_piece old) (record-at r got 0 (λ b. record { records = []; ending = Err (offence 0 Truncated) }) is).1
+
+    whole : lines_of text ≡ head_line p ∷ (flat_map record_lines more ++ new.left.lines)
+    whole =
+        h.lines
+        ∙ ap (λ (ls : List Line). head_line p ∷ ls)
+        (ap (λ (ls : List Line). flat_map record_lines records ++ ls) lines
+        ∙ sym (append_assoc (flat_map record_lines records) (record_lines r) new.left.lines)
+        ∙ ap (λ (ls : List Line). ls ++ new.left.lines) (pushed ∙ ap (flat_map record_lines) (sym grown)))
+      where
+        pushed : flat_map record_lines records ++ record_lines r ≡ flat_map record_lines (records ++ r ∷ [])
+        pushed =
+            sym (flat_map-append record_lines records (r ∷ [])
+            ∙ ap (λ (ls : List Line). flat_map record_lines records ++ ls) (flat_map-cons record_lines r [] ∙ append-nil (record_lines r)))
+
+    by : (m : ℕ) → length old.left.lines ≤ m
+        → whole_refusal p text ≡ contents_refusal p records (contents_at m p (unended text) old.left) → IsReading p text new more
+    by zero le all =
+        absurd (let some = some-lines r in let count = ap length lines ∙ length-append (record_lines r) new.left.lines in omega arith)
+    by (suc m) le all =
+        let (b, same, stands) = record-at r got old.left.at (contents_at m p (unended text)) is in
+        let left-is : new.left ≡ b = ap (λ (x : Reader). x.left) (behind ∙ ap (behind_piece old) same) in
+        record {
+          problem = ap (λ (x : Reader). x.problem) new-is ∙ h.problem;
+          rest = ap (λ (x : Reader). x.rest) new-is ∙ h.rest;
+          begun = ap (λ (x : Reader). x.begun) new-is ∙ h.begun;
+          clean = ap (λ (x : Reader). x.offence) new-is ∙ h.clean;
+          lines = whole;
+          most = m;
+          enough = (let some = some-lines r in let count = ap length lines ∙ length-append (record_lines r) new.left.lines in omega arith);
+          refusal =
+              all ∙ ap (contents_refusal p records) (at-piece m p (unended text) old.left got (piece-is p text old records got h e) ∙ stands)
+              ∙ record-passed p records old.left.at r (contents_at m p (unended text) b) passed
+              ∙ ap (λ (c : Below). contents_refusal p (records ++ r ∷ []) (contents_at m p (unended text) c)) (sym left-is)
+              ∙ ap (λ (rs : List Record). contents_refusal p rs (contents_at m p (unended text) new.left)) (sym grown);
+        }
+
+-- ---- the ending
+
+nothing-left : (p : Problem) (records : List Record) (ending : Ending)
+    → contents_refusal p records (record { records = []; ending = ending }) ≡ ending_refusal p records ending
+nothing-left p records ending = ap (λ (rs : List Record). ending_refusal p rs ending) (append-nil records)
+
+-- the end, with its first line
+pub ended : (p : Problem) (text : List ℕ) (old : Reader) (records : List Record) (closing : Option Derivation) (got : Piece)
+    → IsReading p text old records → piece_of old ≡ got → answer.End closing ≡ piece_answer got → old.left.lines ≡ end_lines closing
+    → whole_refusal p text ≡ ending_refusal p records (Ok (old.left.at, closing))
+ended p text old records closing got h e is lines = by h.most h.enough h.refusal
+  where
+    end-at : (got : Piece) (more : Below → Contents) → answer.End closing ≡ piece_answer got
+        → contents_by old.left.at got more ≡ record { records = []; ending = Ok (old.left.at, closing) }
+    end-at (Err o) more is = cc
+    end-at (Ok (answer.Record q, b)) more is = cc
+    end-at (Ok (answer.Offence o, b)) more is = cc
+    end-at (Ok (answer.End other, b)) more is = let same : other ≡ closing = cc in ap (λ (d : Option Derivation). record { records = []; ending = Ok (old.left.at, d) }) same
+
+    by : (m : ℕ) → length old.left.lines ≤ m
+        → whole_refusal p text ≡ contents_refusal p records (contents_at m p (unended text) old.left)
+        → whole_refusal p text ≡ ending_refusal p records (Ok (old.left.at, closing))
+    by zero le all = absurd (let some = some-end closing in let count = ap length lines in omega arith)
+    by (suc m) le all =
+        all
+        ∙ ap (contents_refusal p records)
+        (at-piece m p (unended text) old.left got (piece-is p text old records got h e) ∙ end-at got (contents_at m p (unended text)) is)
+        ∙ nothing-left p records (Ok (old.left.at, closing))
+
+pub end-line : (old new : Reader) (closing : Option Derivation) (got : Piece) → answer.End closing ≡ piece_answer got
+    → new ≡ behind_piece old got → new.line ≡ old.left.at
+end-line old new closing (Err o) is behind = cc
+end-line old new closing (Ok (answer.Record q, b)) is behind = cc
+end-line old new closing (Ok (answer.Offence o, b)) is behind = cc
+end-line old new closing (Ok (answer.End other, b)) is behind = ap (λ (x : Reader). x.line) behind
+
+-- where no line is left
+at-none : (p : Problem) (rest : List ℕ) (at : ℕ) → piece_at p rest at [] ≡ Err (offence at Truncated)
+unfolding piece_at
+at-none p rest at = refl
+
+at-zero : (p : Problem) (rest : List ℕ) (b : Below)
+    → contents_at zero p rest b ≡ record { records = []; ending = Err (offence b.at Truncated) }
+unfolding contents_at
+at-zero p rest b = refl
+
+-- an offence of the text
+pub offended : (p : Problem) (text : List ℕ) (old : Reader) (records : List Record) (o : Offence) (got : Piece)
+    → IsReading p text old records → piece_of old ≡ got → answer.Offence o ≡ piece_answer got → whole_refusal p text ≡ Some o
+offended p text old records o got h e is = by h.most h.enough h.refusal
+  where
+    ending-at : (got : Piece) (line : ℕ) (more : Below → Contents) → answer.Offence o ≡ piece_answer got
+        → contents_by line got more ≡ record { records = []; ending = Err o }
+    ending-at (Ok (answer.Record q, b)) line more is = cc
+    ending-at (Ok (answer.End closing, b)) line more is = cc
+    ending-at (Ok (answer.Offence q, b)) line more is = let same : q ≡ o = cc in ap (λ (x : Offence). record { records = []; ending = Err x }) same
+    ending-at (Err q) line more is = let same : q ≡ o = cc in ap (λ (x : Offence). record { records = []; ending = Err x }) same
+
+    no-lines : (ls : List Line) → length ls ≤ 0 → ls ≡ []
+    no-lines [] le = refl
+    no-lines (l ∷ ls) le = absurd (omega arith)
+
+    truncated : (b : Below) → length b.lines ≤ 0 → piece_at p (unended text) b.at b.lines ≡ Err (offence b.at Truncated)
+    truncated b le = ap (piece_at p (unended text) b.at) (no-lines b.lines le) ∙ at-none p (unended text) b.at
+
+    by : (m : ℕ) → length old.left.lines ≤ m
+        → whole_refusal p text ≡ contents_refusal p records (contents_at m p (unended text) old.left) → whole_refusal p text ≡ Some o
+    by zero le all =
+        let it : got ≡ Err (offence old.left.at Truncated) = sym (piece-is p text old records got h e) ∙ truncated old.left le in
+        let same : o ≡ offence old.left.at Truncated = offence-of (is ∙ ap piece_answer it) in
+        all ∙ ap (contents_refusal p records) (at-zero p (unended text) old.left) ∙ nothing-left p records (Err (offence old.left.at Truncated))
+        ∙ ap Some (sym same)
+      where
+        offence-of : {q : Offence} → answer.Offence o ≡ answer.Offence q → o ≡ q
+        offence-of same = cc
+    by (suc m) le all =
+        all
+        ∙ ap (contents_refusal p records)
+        (at-piece m p (unended text) old.left got (piece-is p text old records got h e) ∙ ending-at got old.left.at (contents_at m p (unended text)) is)
+        ∙ nothing-left p records (Err o)
+
+-- ---- what the last answer says
+
+pub refusal-of : (answer : Result Audited AllocError) (x y : Option Offence) → x ≡ y → IfOk answer (λ a. refusal_of a ≡ y)
+    → IfOk answer (λ a. refusal_of a ≡ x)
+refusal-of (Ok a) x y same says = says ∙ sym same
+refusal-of (Err e) x y same says = tt
+
+-- a yes has read all, and nothing was refused
+pub yes-of : (p : Problem) (text : List ℕ) (old : Reader) (a : Auditor) (closing : Option Derivation) (line : ℕ) (answer : Result Audited AllocError)
+    → IsReading p text old a.records → IsAuditing p a → IsReadableEnd old.problem closing → old.left.lines ≡ end_lines closing → old.rest ≡ []
+    → IfOk answer (λ b. refusal_of b ≡ ending_refusal p a.records (Ok (line, closing))) → IfOk answer (TellsKept a.records closing)
+    → IfOk answer (TellsRecords p text)
+yes-of p text old a closing line (Err e) h ok end lines rest says kept = tt
+yes-of p text old a closing line (Ok (No at why)) h ok end lines rest says kept = tt
+yes-of p text old a closing line (Ok (Yes complete records)) h ok end lines rest says kept =
+    subst (λ (rs : List Record). AuditYes p text rs complete) (sym kept.0)
+    (record {
+      closing = closing;
+      is_complete = kept.1;
+      text_is =
+          evidence-from_lines p text a.records closing
+          (h.lines ∙ ap (λ (ls : List Line). head_line p ∷ (flat_map record_lines a.records ++ ls)) lines) (sym h.rest ∙ rest);
+      readable = ok.readable;
+      readable_end = subst (λ (q : Problem). IsReadableEnd q closing) h.problem end;
+      accepted = ok.accepted;
+      distinct = ok.distinct;
+      closes = closed closing says;
+    })
+  where
+    closed : (c : Option Derivation) → None ≡ ending_refusal p a.records (Ok (line, c))
+        → IfSome c (λ d. shows_all_explored p.groups (founds a.records) d ≡ true)
+    closed None says = tt
+    closed (Some d) says =
+        closing-shows p.groups (founds a.records) d (in_text-none line (closing_refusal p.groups (founds a.records) d) (sym says))

@@ -1,0 +1,82 @@
+use Rattle.std.proofs.Common.{◌≡◌, ◌∙◌, ℕ, List, Option, Some, None, refl, sym, ap, subst}
+use Rattle.std.specs.Prelude.{Ok}
+use Rattle.evidence_rec.specs.declared.record.Record.{Record}
+use Rattle.evidence_text.specs.declared.offence.Offence.{Offence}
+use Rattle.evidence_text.specs.Reader.{piece_of, StandsAt}
+use Rattle.gm_audit.specs.Refusals.{placed_refusal, ending_refusal}
+use Rattle.gm_audit.proofs.ReadingLemmas.{IsReading, placed, whole_refusal, reading-begun, record-line, refused-record, reading-record, ended, end-line, offended, refusal-of, yes-of}
+use Rattle.gm_audit.proofs.auditing.audit_text.Goals as goal
+
+-- nothing but the head was read
+pub pieces-init : goal.pieces-init
+pieces-init c = record {
+  auditing = c.in_ok-auditor.ensures.auditing;
+  reading =
+      subst (IsReading c.args.problem.now c.args.bytes.now c.head.new.self) (sym c.in_ok-auditor.ensures.records)
+      (reading-begun c.args.problem.now c.args.bytes.now c.new-reader.result c.head.new.self c.head.result c.new-reader.ensures
+      c.head.ensures.answer c.head.ensures.behind c.head.ensures.stands c.in_default.is);
+}
+
+-- a record is the first that is refused
+pub returns-in-Some-clause-refusal : goal.returns-in-Some-clause-refusal
+returns-in-Some-clause-refusal c =
+    let p = c.args.problem.now in
+    let old = c.pieces.reader in
+    let h = c.pieces.invariant.reading in
+    let r = c.in-Record.found in
+    let is = sym c.in-Record.is ∙ c.in_ok-found.ensures.answer h.clean in
+    let stands = subst (StandsAt old c.next.new.self) c.in-Record.is c.in_ok-found.ensures.stands in
+    let line = c.line.ensures ∙ record-line old c.next.new.self r (piece_of old) is (c.in_ok-found.ensures.behind h.clean) in
+    c.refused-in-Some.ensures
+    ∙ sym (refused-record p c.args.bytes.now old c.pieces.auditor.records r c.next.new.self.left.lines (piece_of old) c.in-Some.offence
+    h refl is stands.1
+    (sym (ap (λ (n : ℕ). placed_refusal p c.pieces.auditor.records (placed n r)) line) ∙ sym c.in_ok-offence-in-Record.ensures.refusal ∙ c.in-Some.is))
+
+-- it passed, and what is left is behind it
+pub pieces-preserved : goal.pieces-preserved
+pieces-preserved c =
+    let p = c.args.problem.now in
+    let old = c.pieces.reader in
+    let h = c.pieces.invariant.reading in
+    let r = c.in-Record.found in
+    let is = sym c.in-Record.is ∙ c.in_ok-found.ensures.answer h.clean in
+    let stands = subst (StandsAt old c.next.new.self) c.in-Record.is c.in_ok-found.ensures.stands in
+    let behind = c.in_ok-found.ensures.behind h.clean in
+    let line = c.line.ensures ∙ record-line old c.next.new.self r (piece_of old) is behind in
+    record {
+      auditing = c.in_ok-offence-in-Record.ensures.auditing c.in_default-2.is;
+      reading =
+          reading-record p c.args.bytes.now old c.next.new.self c.pieces.auditor.records c.add.new.self.records r (piece_of old) h refl is behind
+          stands.1
+          (sym (ap (λ (n : ℕ). placed_refusal p c.pieces.auditor.records (placed n r)) line) ∙ sym c.in_ok-offence-in-Record.ensures.refusal ∙ c.in_default-2.is)
+          (c.in_ok-offence-in-Record.ensures.records c.in_default-2.is);
+    }
+
+-- the end, or what closes the text is refused
+pub returns-in-End-clause-refusal : goal.returns-in-End-clause-refusal
+returns-in-End-clause-refusal c =
+    let p = c.args.problem.now in
+    let old = c.pieces.reader in
+    let h = c.pieces.invariant.reading in
+    let is = sym c.in-End.is ∙ c.in_ok-found.ensures.answer h.clean in
+    let stands = subst (StandsAt old c.next.new.self) c.in-End.is c.in_ok-found.ensures.stands in
+    let line = c.line-in-End.ensures ∙ end-line old c.next.new.self c.in-End.closing (piece_of old) is (c.in_ok-found.ensures.behind h.clean) in
+    refusal-of c.close.result (whole_refusal p c.args.bytes.now)
+    (ending_refusal p c.pieces.auditor.records (Ok (c.line-in-End.result, c.in-End.closing)))
+    (ended p c.args.bytes.now old c.pieces.auditor.records c.in-End.closing (piece_of old) h refl is stands.1
+    ∙ sym (ap (λ (n : ℕ). ending_refusal p c.pieces.auditor.records (Ok (n, c.in-End.closing))) line))
+    c.close.ensures.refusal
+
+pub returns-in-End-clause-yes : goal.returns-in-End-clause-yes
+returns-in-End-clause-yes c =
+    let stands = subst (StandsAt c.pieces.reader c.next.new.self) c.in-End.is c.in_ok-found.ensures.stands in
+    yes-of c.args.problem.now c.args.bytes.now c.pieces.reader c.pieces.auditor c.in-End.closing c.line-in-End.result c.close.result
+    c.pieces.invariant.reading c.pieces.invariant.auditing stands.0 stands.1 stands.2 c.close.ensures.refusal c.close.ensures.records
+
+-- the first offence of the text
+pub returns-in-Offence-clause-refusal : goal.returns-in-Offence-clause-refusal
+returns-in-Offence-clause-refusal c =
+    let h = c.pieces.invariant.reading in
+    c.refused-in-Offence.ensures
+    ∙ sym (offended c.args.problem.now c.args.bytes.now c.pieces.reader c.pieces.auditor.records c.in-Offence.offence (piece_of c.pieces.reader)
+    h refl (sym c.in-Offence.is ∙ c.in_ok-found.ensures.answer h.clean))

@@ -1,0 +1,52 @@
+-- What evidence shows of a problem, and what an answer of an audit says.
+use Rattle.std.specs.Prelude.{◌≡◌, ℕ, Bool, true, List, [], Option, Some, None, IfSome, is_some}
+use Rattle.std.specs.List.{AllByRecursion}
+use Rattle.gm_base.specs.Problem.{Problem, IsProblem}
+use Rattle.sat_base.specs.Derivation.{Derivation}
+use Rattle.evidence_rec.specs.declared.record.Record.{Record}
+use Rattle.evidence_rec.specs.Records.{founds, IsAccepted}
+use Rattle.evidence_rec.specs.Seeding.{shows_all_explored}
+use Rattle.evidence_rec.specs.Held.{AreNew, AreExactlyAll}
+use Rattle.evidence_text.specs.declared.offence.Offence.{Offence}
+use Rattle.evidence_text.specs.Text.{evidence_text}
+use Rattle.evidence_text.specs.Reading.{offence}
+use Rattle.evidence_text.specs.Readable.{IsReadable, IsReadableEnd}
+use Rattle.gm_audit.specs.declared.answer.Audited.{Audited}
+use Rattle.gm_audit.specs.declared.answer.Audited.TheVariants.{Yes, No}
+
+-- these bytes are the evidence text of the records; each of them is accepted; no two of one kind have one set; and where
+-- the text is complete, it ends in a derivation of the empty clause from their block clauses
+pub record AuditYes (p : Problem) (text : List ℕ) (records : List Record) (complete : Bool) : Type 0 where
+  pub closing : Option Derivation
+  pub is_complete : complete ≡ is_some closing
+  pub text_is : text ≡ evidence_text p records closing
+  -- each number is one that a text can hold
+  pub readable : AllByRecursion (IsReadable p) records
+  pub readable_end : IsReadableEnd p closing
+  pub accepted : AllByRecursion (IsAccepted p) records
+  pub distinct : AreNew [] records
+  pub closes : IfSome closing (λ d. shows_all_explored p.groups (founds records) d ≡ true)
+
+-- the refusal that an answer tells
+abbrev pub refusal_of : Audited → Option Offence
+refusal_of (Yes complete records) = None
+refusal_of (No line why) = Some (offence line why)
+
+-- a yes tells the records of the text, and whether it is complete
+abbrev pub TellsRecords : Problem → List ℕ → Audited → Type 0
+TellsRecords p text (Yes complete records) = AuditYes p text records complete
+TellsRecords p text (No line why) = Unit {0}
+
+-- a yes tells these records, and is complete where something closes them
+abbrev pub TellsKept : List Record → Option Derivation → Audited → Type 0
+TellsKept kept closing (Yes complete records) = (records ≡ kept) × (complete ≡ is_some closing)
+TellsKept kept closing (No line why) = Unit {0}
+
+-- and where it is complete, their sets are exactly all minimal conflicts and all minimal corrections
+abbrev pub TellsAll : Problem → Audited → Type 0
+TellsAll p (Yes complete records) = complete ≡ true → AreExactlyAll p records
+TellsAll p (No line why) = Unit {0}
+
+-- complete evidence shows all minimal sets, whoever wrote it
+abbrev pub CompleteIsExact : Type 0
+CompleteIsExact = (p : Problem) (text : List ℕ) (records : List Record) → IsProblem p → AuditYes p text records true → AreExactlyAll p records

@@ -1,0 +1,4 @@
+pub mod Refusals
+pub mod Audits
+pub mod Seen
+pub mod Inside

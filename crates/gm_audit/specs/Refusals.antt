@@ -1,0 +1,107 @@
+-- Why a text of evidence is refused, and at which line: the first refusal. The text is too long; or its head is refused; or
+-- the first record that does not pass, at the first of its lines that is refused; or what stands behind the records.
+--
+-- A record or a closing part is read whole before it is checked, so an offence of its text ends what is read before it.
+use Rattle.std.specs.Prelude.{ℕ, zero, suc, ◌+◌, List, [], ◌∷◌, ◌++◌, map, length, ℤ, nat_lt, Option, Some, None, Result, Ok, Err, if◌then◌else◌}
+use Rattle.std.specs.Option.{option_map, option_map_or, option_or}
+use Rattle.sat_base.specs.Derivation.{Derivation, numbered, clause_of, all_known, is_nil}
+use Rattle.gm_base.specs.Problem.{Problem}
+use Rattle.gm_base.specs.Explored.{Found, block_clause}
+use Rattle.lrat_check.specs.declared.why.Why.{Why}
+use Rattle.lrat_check.specs.declared.why.Why.TheVariants.{Truncated, TooLong, UnknownClause, NotRefuting, RepeatedSet}
+use Rattle.evidence_rec.specs.declared.record.Record.{Record}
+use Rattle.evidence_rec.specs.Records.{kind_of, set_of, founds}
+use Rattle.evidence_rec.specs.Held.{is_held}
+use Rattle.evidence_rec.specs.Refusals.{at_line, steps_refusal, record_refusal}
+use Rattle.evidence_text.specs.declared.offence.Offence.{Offence}
+use Rattle.evidence_text.specs.declared.reader.Answer.{Answer}
+use Rattle.evidence_text.specs.declared.reader.Answer.TheVariants as answer
+use Rattle.evidence_text.specs.Lines.{lines_of, unended}
+use Rattle.evidence_text.specs.Reading.{Below, head_at, piece_at, offence}
+
+-- ---- what stands in a text
+
+-- a record, and the number of its first line
+pub record Placed : Type 0 where
+  pub line : ℕ
+  pub kept : Record
+
+-- the end, with its first line and what closes it, or the first offence of the text
+abbrev pub Ending : Type 0
+Ending = Result (ℕ × Option Derivation) Offence
+
+-- the records that can be read, and what stands behind them
+pub record Contents : Type 0 where
+  pub records : List Placed
+  pub ending : Ending
+
+abbrev pub with_record : ℕ → Record → Contents → Contents
+with_record line r c = record { records = record { line = line; kept = r } ∷ c.records; ending = c.ending }
+
+-- from this line on, where this stands there: a record and what is behind it, or the ending
+abbrev pub contents_by : ℕ → Result (Answer × Below) Offence → (Below → Contents) → Contents
+contents_by line (Ok (answer.Record r, b)) behind = with_record line r (behind b)
+contents_by line (Ok (answer.End closing, b)) behind = record { records = []; ending = Ok (line, closing) }
+contents_by line (Ok (answer.Offence o, b)) behind = record { records = []; ending = Err o }
+contents_by line (Err o) behind = record { records = []; ending = Err o }
+
+-- what stands in so many lines at most, where these bytes stand behind the last; a record has a line of its own at least
+unfoldable pub contents_at : ℕ → Problem → List ℕ → Below → Contents
+contents_at zero p rest b = record { records = []; ending = Err (offence b.at Truncated) }
+contents_at (suc most) p rest b = contents_by b.at (piece_at p rest b.at b.lines) (contents_at most p rest)
+
+-- ---- what it is refused for
+
+-- the line of the text for a line of a record or of a closing part, counted from 0, whose first line is this one
+abbrev pub in_text : ℕ → Option (ℕ × Why) → Option Offence
+in_text line part = option_map (λ (w : ℕ × Why). offence (line + w.0) w.1) part
+
+-- a record's set stood before; or one of its lines is refused
+abbrev pub placed_refusal : Problem → List Record → Placed → Option Offence
+placed_refusal p earlier r =
+    if is_held earlier (kind_of r.kept) (set_of r.kept) then Some (offence r.line RepeatedSet)
+    else in_text r.line (record_refusal p r.kept)
+
+-- the first of the records, behind these earlier ones, that is refused
+abbrev pub records_refusal : Problem → List Record → List Placed → Option Offence
+records_refusal p earlier [] = None
+records_refusal p earlier (r ∷ rs) = option_or (placed_refusal p earlier r) (records_refusal p (earlier ++ r.kept ∷ []) rs)
+
+-- a goal has to name the empty clause
+abbrev pub empty_refusal : List (ℕ × List ℤ) → ℕ → Option Why
+empty_refusal known goal = option_map_or (λ c. if is_nil c then None else Some NotRefuting) (clause_of known goal) (Some UnknownClause)
+
+-- a closing part has to derive the empty clause from the block clauses: its first line, counted from 0, that is refused
+abbrev pub closing_refusal : ℕ → List Found → Derivation → Option (ℕ × Why)
+closing_refusal groups found d =
+    let blocks : List (List ℤ) = map block_clause found in
+    option_or
+    (steps_refusal groups (numbered 1 blocks) 0 d.steps)
+    (at_line (length d.steps) (empty_refusal (all_known blocks d.steps) d.goal))
+
+-- what stands behind these records
+abbrev pub ending_refusal : Problem → List Record → Ending → Option Offence
+ending_refusal p records (Ok (line, None)) = None
+ending_refusal p records (Ok (line, Some d)) = in_text line (closing_refusal p.groups (founds records) d)
+ending_refusal p records (Err o) = Some o
+
+abbrev pub kept_in : List Placed → List Record
+kept_in placed = map (λ (r : Placed). r.kept) placed
+
+-- the records, behind these earlier ones, and then what stands behind them
+abbrev pub contents_refusal : Problem → List Record → Contents → Option Offence
+contents_refusal p earlier c = option_or (records_refusal p earlier c.records) (ending_refusal p (earlier ++ kept_in c.records) c.ending)
+
+-- what stands behind the head, or the head's own offence
+abbrev pub text_refusal : Problem → List ℕ → Result Below Offence → Option Offence
+text_refusal p text (Ok b) = contents_refusal p [] (contents_at (length b.lines) p (unended text) b)
+text_refusal p text (Err o) = Some o
+
+-- how many bytes are read
+abbrev pub max_bytes : ℕ
+max_bytes = 2147483648
+
+-- the first refusal of a text, or that there is none
+abbrev pub first_refusal : Problem → List ℕ → Option Offence
+first_refusal p text =
+    if nat_lt max_bytes (length text) then Some (offence 0 TooLong) else text_refusal p text (head_at p 1 (lines_of text))

@@ -1,0 +1,28 @@
+//! What an audit answers.
+ghost use Rattle.std.specs.Prelude.{◌≡◌, Some};
+ghost use Rattle.gm_audit.specs.Audits.{refusal_of};
+
+use evidence_rec::Records;
+use evidence_text::Offence;
+use lrat_check::Why;
+
+/// What became of a text of evidence.
+#[derive(Drop)]
+pub enum Audited {
+    /// Nothing is refused: its records, in their order, and whether it shows that no minimal set is missing.
+    Yes { complete: bool, records: Records },
+    /// The first refusal: its line, from 1, or 0 where the text is too long.
+    No { line: u64, why: Why },
+}
+
+impl Audited {
+    /// The text is refused for this.
+    pub(crate) fn refused(offence: Offence) -> Audited
+        ensures { refusal_of result ≡ Some offence }
+    {
+        Audited::No {
+            line: offence.line,
+            why: offence.why,
+        }
+    }
+}

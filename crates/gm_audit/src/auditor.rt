@@ -1,0 +1,100 @@
+//! What is kept of a text from record to record: one checker for all records, the sets that stood there, and the records.
+ghost use Rattle.std.specs.Prelude.{◌≡◌, ◌∷◌, ◌++◌, [], IfOk, None, Ok};
+ghost use Rattle.evidence_text.specs.Readable.{IsReadable};
+ghost use Rattle.gm_audit.specs.Refusals.{placed_refusal, ending_refusal};
+ghost use Rattle.gm_audit.specs.Audits.{refusal_of, TellsKept};
+
+use crate::answer::Audited;
+use crate::closing::{closing_offence, offence_of};
+use crate::seen::SeenSets;
+use evidence_rec::{Record, RecordChecker, Records};
+use evidence_text::Offence;
+use gm_base::{Derivation, Problem};
+use lrat_check::Why;
+use std::alloc::{AllocError, Global};
+
+/// An audit on its way.
+#[derive(Drop)]
+pub struct Auditor {
+    pub checker: RecordChecker,
+    pub seen: SeenSets,
+    pub records: Records,
+}
+
+impl Auditor {
+    ghost use Rattle.gm_audit.specs.Inside.{IsAuditing};
+
+    /// No record so far.
+    pub fn new(alloc: Global, problem: &Problem) -> Result<Auditor, AllocError>
+        ensures auditing { IfOk result (IsAuditing problem.now) }
+        ensures records { IfOk result (λ auditor. auditor.records ≡ []) }
+    {
+        Ok(Auditor {
+            checker: RecordChecker::new(alloc, problem)?,
+            seen: SeenSets::new(alloc),
+            records: Records::new(alloc),
+        })
+    }
+
+    /// The next record, whose first line is this one: it is kept, or it is refused.
+    pub fn add(
+        &mut self,
+        alloc: Global,
+        problem: &Problem,
+        found: Record,
+        line: u64,
+    ) -> Result<Option<Offence>, AllocError>
+        requires auditing { IsAuditing problem.now self.old }
+        requires readable { IsReadable problem.now found }
+        ensures refusal { IfOk result (λ refusal. refusal ≡ placed_refusal problem.now self.old.records (record { line = line; kept = found })) }
+        ensures records { IfOk result (λ refusal. refusal ≡ None → self.new.records ≡ self.old.records ++ found ∷ []) }
+        ensures auditing { IfOk result (λ refusal. refusal ≡ None → IsAuditing problem.now self.new) }
+    {
+        let set = found.set().copy(alloc)?;
+        if !self.seen.add(found.kind(), set)? {
+            return Ok(Some(Offence {
+                line,
+                why: Why::RepeatedSet,
+            }));
+        }
+        let verdict = self.checker.check(alloc, problem, &found)?;
+        let refusal = offence_of(line, verdict)?;
+        if refusal.is_none() {
+            self.records.push(found)?;
+        }
+        Ok(refusal)
+    }
+
+    /// The end of the text, whose first line is this one: all records, or the closing part is refused.
+    pub fn close(
+        self,
+        alloc: Global,
+        problem: &Problem,
+        closing: Option<Derivation>,
+        line: u64,
+    ) -> Result<Audited, AllocError>
+        requires auditing { IsAuditing problem.now self }
+        ensures refusal { IfOk result (λ a. refusal_of a ≡ ending_refusal problem.now self.records (Ok (line, closing))) }
+        ensures records { IfOk result (TellsKept self.records closing) }
+    {
+        let Some(proof) = closing else {
+            return Ok(self.whole(false));
+        };
+        match closing_offence(alloc, problem, &self.records, line, &proof)? {
+            Some(offence) => Ok(Audited::refused(offence)),
+            None => Ok(self.whole(true)),
+        }
+    }
+
+    // All records passed.
+    fn whole(self, complete: bool) -> Audited
+        ensures { result ≡ Audited.Yes complete self.records }
+    {
+        let Auditor {
+            checker: _,
+            seen: _,
+            records,
+        } = self;
+        Audited::Yes { complete, records }
+    }
+}

@@ -1,0 +1,100 @@
+//! The closing part.
+//!
+//! The block clauses of all records are given to a checker of steps, over the groups as variables. Where it takes all steps
+//! and the goal names the empty clause, no set of groups is left that nothing explores.
+ghost use Rattle.std.specs.Prelude.{◌≡◌, ◌+◌, ◌++◌, ◌∷◌, [], IfOk, OnOk, length, map};
+ghost use Rattle.std.specs.List.{AllByRecursion};
+ghost use Rattle.gm_base.specs.Sets.{IsSubset, all_groups};
+ghost use Rattle.gm_base.specs.Explored.{block_clause};
+ghost use Rattle.sat_base.specs.Derivation.{numbered};
+ghost use Rattle.evidence_rec.specs.Records.{found_of, founds, set_of, IsAccepted};
+ghost use Rattle.evidence_rec.specs.Verdicts.{refusal_by};
+ghost use Rattle.gm_audit.specs.Refusals.{in_text, empty_refusal, closing_refusal};
+
+use evidence_rec::{Record, Records, Verdict, block_lits, steps_verdict};
+use evidence_text::Offence;
+use gm_base::{Derivation, Kind, Problem, Side};
+use lrat_check::{Checker, Why};
+use std::alloc::{AllocError, Global};
+
+/// Why a closing part is refused, whose first line is this one.
+pub fn closing_offence(
+    alloc: Global,
+    problem: &Problem,
+    records: &Records,
+    line: u64,
+    proof: &Derivation,
+) -> Result<Option<Offence>, AllocError>
+    requires { AllByRecursion (IsAccepted problem.now) records.now }
+    ensures { IfOk result (λ refusal. refusal ≡ in_text line (closing_refusal problem.now.groups (founds records.now) proof.now)) }
+{
+    let mut checker = block_checker(alloc, problem, records)?;
+    // This also tells that no clause is but the given ones.
+    let _inputs = checker.inputs();
+    let steps = steps_verdict(&mut checker, proof, 0)?;
+    if !steps.is_ok() {
+        return offence_of(line, steps);
+    }
+    let Some(why) = empty_refusal(&checker, proof.goal()) else {
+        return Ok(None);
+    };
+    let part = proof.len() as u64;
+    offence_of(line, Verdict::Refused { part, why })
+}
+
+/// A verdict on lines that count from 0, of which the first is this line of the text.
+pub fn offence_of(line: u64, verdict: Verdict) -> Result<Option<Offence>, AllocError>
+    ensures { IfOk result (λ refusal. refusal ≡ in_text line (refusal_by verdict)) }
+{
+    let Verdict::Refused { part, why } = verdict else {
+        return Ok(None);
+    };
+    let line = line.checked_add(part).ok_or(AllocError)?;
+    Ok(Some(Offence { line, why }))
+}
+
+// Why a goal is refused: it has to name the empty clause.
+fn empty_refusal(checker: &Checker, goal: u64) -> Option<Why>
+    ensures { result ≡ empty_refusal checker.now.known goal }
+{
+    let Some(clause) = checker.clause(goal) else {
+        return Some(Why::UnknownClause);
+    };
+    if clause.is_empty() {
+        None
+    } else {
+        Some(Why::NotRefuting)
+    }
+}
+
+// A checker of steps from the block clauses of the records.
+fn block_checker(alloc: Global, problem: &Problem, records: &Records) -> Result<Checker, AllocError>
+    requires { AllByRecursion (IsAccepted problem.now) records.now }
+    ensures vars { IfOk result (λ checker. checker.vars ≡ problem.now.groups) }
+    ensures inputs { IfOk result (λ checker. checker.inputs ≡ length records.now) }
+    ensures known { IfOk result (λ checker. checker.known ≡ numbered 1 (map block_clause (founds records.now))) }
+{
+    let mut checker = Checker::with_vars(alloc, problem.groups())?;
+    for at in 0..records.len() {
+        add_block(alloc, &mut checker, records.at(at))?;
+    }
+    Ok(checker)
+}
+
+// Gives the block clause of a record.
+fn add_block(alloc: Global, checker: &mut Checker, found: &Record) -> Result<(), AllocError>
+    requires within { IsSubset (set_of found.now) (all_groups checker.old.vars) }
+    requires no_steps { length checker.old.known ≡ checker.old.inputs }
+    ensures added { OnOk result (checker.new.known ≡ checker.old.known ++ (checker.old.inputs + 1, block_clause (found_of found.now)) ∷ []) }
+    ensures inputs { OnOk result (checker.new.inputs ≡ checker.old.inputs + 1) }
+    ensures vars { checker.new.vars ≡ checker.old.vars }
+{
+    // This also tells that its variables are few.
+    let _vars = checker.vars();
+    let side = match found.kind() {
+        Kind::Conflict => Side::Up,
+        Kind::Correction => Side::Down,
+    };
+    let lits = block_lits(alloc, found.set(), side)?;
+    checker.add_input(lits.as_slice())
+}
