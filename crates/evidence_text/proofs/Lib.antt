@@ -8,3 +8,5 @@ pub mod SetLemmas
 pub mod ProofLemmas
 pub mod GroupLemmas
 pub mod TextLemmas
+pub mod WordsLemmas
+pub mod StandsLemmas

@@ -6,3 +6,4 @@ pub mod Reader
 pub mod Scan
 pub mod Items
 pub mod Cursors
+pub mod Laws

@@ -40,6 +40,7 @@ mod answer;
 mod fields;
 mod goal;
 mod head;
+pub mod laws;
 mod lines;
 mod offence;
 mod proof;

@@ -1,0 +1,328 @@
+-- Lines of which a piece of evidence can be read are just those that write it.
+use Rattle.std.proofs.Common.{◌≡◌, ℕ, ◌+◌, ◌^◌, ◌<◌, ◌≤◌, ◌-◌, ◌&&◌, Bool, true, false, eqb, List, [], ◌∷◌, ◌++◌, map, length, Option, Some, None, refl, sym, ◌∙◌, ap, ap₂, subst, inl, inr, arith, append_assoc}
+use Rattle.std.specs.Prelude.{codes, Result, Ok, Err}
+use Rattle.std.specs.List.{AllByRecursion}
+use Rattle.std.specs.Fmt.{decimal}
+use Rattle.std.proofs.lemmas.Bool.{eqb-true, and_parts}
+use Rattle.sat_base.specs.Derivation.{Derivation}
+use Rattle.gm_base.specs.Problem.{Problem}
+use Rattle.lrat_check.specs.declared.why.Why.{Why}
+use Rattle.lrat_check.specs.declared.why.Counts.{Counts}
+use Rattle.evidence_rec.specs.declared.record.Record.{Record}
+use Rattle.evidence_rec.specs.declared.record.Record.TheVariants as record_of
+use Rattle.evidence_text.specs.declared.goal.Goal.{Goal}
+use Rattle.evidence_text.specs.declared.goal.Goal.TheVariants.{Refutes, Exhausts}
+use Rattle.evidence_text.specs.declared.offence.Offence.{Offence}
+use Rattle.evidence_text.specs.declared.answer.Answer.{Answer}
+use Rattle.evidence_text.specs.declared.answer.Answer.TheVariants as answer
+use Rattle.evidence_text.specs.Text.{Word, Line, head_line, set_line, step_line, goal_line, witness_line, exhaustion_line, end_line, refutation_lines, refutations_lines, witnesses_lines, record_lines, end_lines}
+use Rattle.evidence_text.specs.Reading.{Below, below, at_line, behind, letter_of, is_letter, goal_letter, with_step, word_at, number_at, line_end, counts_at, set_at, step_at, witness_at, goal_at, last_word_at, proof_at, witness_line_at, witnesses_at, refutations_at, conflict_at, correction_at, complete_at, closing_at, is_nothing, nothing_behind, piece_at, counts_of, same_counts, head_words_at, head_at}
+use Rattle.evidence_text.specs.Readable.{IsReadableProof, IsSetUpTo, IsReadable, IsReadableEnd}
+use Rattle.evidence_text.specs.Laws.{PieceStands}
+use Rattle.evidence_text.proofs.NumberLemmas.{decimal-number}
+use Rattle.evidence_text.proofs.WordsLemmas.{bind-ok, cond-cases, pair-is, all-then, number-ok, word-ok, line_end-ok, set-ok, step-ok, witness-ok, goal-ok, last_word-ok, goal_words, IsSmallGoal}
+
+at_line-ok : {X : Type 0} (line : ℕ) (r : Result X Why) (x : X) → at_line line r ≡ Ok x → r ≡ Ok x
+at_line-ok line (Ok y) x h = let same : y ≡ x = cc in ap (λ z. Ok z) same
+at_line-ok line (Err why) x h = cc
+
+letter-ok : (byte : ℕ) (l : Line) → 0 < byte → is_letter byte l ≡ true → l ≡ (byte ∷ []) ∷ behind l
+letter-ok byte [] some h = absurd (let e = eqb-true 0 byte h in omega arith)
+letter-ok byte ([] ∷ ws) some h = absurd (let e = eqb-true 0 byte h in omega arith)
+letter-ok byte ((b ∷ []) ∷ ws) some h = ap (λ (c : ℕ). (c ∷ []) ∷ ws) (eqb-true b byte h)
+letter-ok byte ((b ∷ c ∷ bs) ∷ ws) some h = absurd (let e = eqb-true 0 byte h in omega arith)
+
+-- ---- a derivation
+
+abbrev goal_text : Goal → ℕ → Line
+goal_text (Refutes g) id = goal_line g id
+goal_text Exhausts id = exhaustion_line id
+
+goal-letter : (goal : Goal) (l : Line) (id : ℕ) → is_letter (goal_letter goal) l ≡ true → behind l ≡ goal_words goal id → l ≡ goal_text goal id
+goal-letter (Refutes g) l id is words = letter-ok 114 l (omega arith) is ∙ ap (λ (ws : List Word). codes "r" ∷ ws) words
+goal-letter Exhausts l id is words = letter-ok 120 l (omega arith) is ∙ ap (λ (ws : List Word). codes "x" ∷ ws) words
+
+proof-ok : (vars : ℕ) (goal : Goal) (at : ℕ) (ls : List Line) (d : Derivation) (b : Below) → vars < 2 ^ 64 → IsSmallGoal goal
+    → proof_at vars goal at ls ≡ Ok (d, b) → (ls ≡ map step_line d.steps ++ goal_text goal d.goal ∷ b.lines) × IsReadableProof vars d
+unfolding proof_at
+proof-ok vars goal at [] d b small few h = cc
+proof-ok vars goal at (l ∷ ls) d b small few h =
+    elim (cond-cases (is_letter 100 l) _ _ (Ok (d, b)) h) [
+      | inl step ↦
+          let (s, a, h1) = bind-ok (at_line at (step_at vars (behind l))) _ (d, b) step.1 in
+          let (r, tail, same) = bind-ok (proof_at vars goal (at + 1) ls) (λ r. Ok (with_step s r.0, r.1)) (d, b) h1 in
+          let (e, f) = pair-is (with_step s r.0) d r.1 b (Ok (with_step s r.0, r.1)) refl same in
+          let (line, good) = step-ok vars (behind l) s small (at_line-ok at (step_at vars (behind l)) s a) in
+          let (rest, proof) = proof-ok vars goal (at + 1) ls r.0 r.1 small few tail in (
+            ap₂ (λ (k : Line) (ks : List Line). k ∷ ks) (letter-ok 100 l (omega arith) step.0 ∙ line) rest
+                ∙ ap₂ (λ (x : Derivation) (c : Below). map step_line x.steps ++ goal_text goal x.goal ∷ c.lines) e f,
+            subst (IsReadableProof vars) e (record { steps = (good, proof.steps); goal = proof.goal }),
+          )
+      | inr other ↦
+          elim (cond-cases (is_letter (goal_letter goal) l) _ _ (Ok (d, b)) other.1) [
+            | inl last ↦
+                let (id, a, same) = bind-ok (at_line at (goal_at goal (behind l))) _ (d, b) last.1 in
+                let made : Derivation = record { steps = []; goal = id } in
+                let (e, f) = pair-is made d (below (at + 1) ls) b (Ok (made, below (at + 1) ls)) refl same in
+                let (words, good) = goal-ok goal (behind l) id few (at_line-ok at (goal_at goal (behind l)) id a) in (
+                  ap (λ (k : Line). k ∷ ls) (goal-letter goal l id last.0 words)
+                      ∙ ap₂ (λ (x : Derivation) (c : Below). map step_line x.steps ++ goal_text goal x.goal ∷ c.lines) e f,
+                  subst (IsReadableProof vars) e (record { steps = tt; goal = good }),
+                )
+            | inr none ↦ cc (none.1)
+          ]
+    ]
+
+-- ---- witnesses and refutations of each group
+
+witness_line-ok : (vars g at : ℕ) (ls : List Line) (w : List Bool) (b : Below) → vars < 2 ^ 64 → g < 2 ^ 64
+    → witness_line_at vars g at ls ≡ Ok (w, b) → (ls ≡ witness_line g w ∷ b.lines) × (length w ≡ vars)
+unfolding witness_line_at
+witness_line-ok vars g at [] w b small few h = cc
+witness_line-ok vars g at (l ∷ ls) w b small few h =
+    elim (cond-cases (is_letter 119 l) _ _ (Ok (w, b)) h) [
+      | inl is ↦
+          let (v, a, same) = bind-ok (at_line at (witness_at vars g (behind l))) _ (w, b) is.1 in
+          let (e, f) = pair-is v w (below (at + 1) ls) b (Ok (v, below (at + 1) ls)) refl same in
+          let (line, len) = witness-ok vars g (behind l) v small few (at_line-ok at (witness_at vars g (behind l)) v a) in (
+            ap (λ (k : Line). k ∷ ls) (letter-ok 119 l (omega arith) is.0 ∙ line)
+                ∙ ap₂ (λ (x : List Bool) (c : Below). witness_line g x ∷ c.lines) e f,
+            ap length (sym e) ∙ len,
+          )
+      | inr none ↦ cc (none.1)
+    ]
+
+witnesses-ok : (vars : ℕ) (gs : List ℕ) (at : ℕ) (ls : List Line) (ws : List (List Bool)) (b : Below) → vars < 2 ^ 64
+    → AllByRecursion (λ g. g < 2 ^ 64) gs → witnesses_at vars gs at ls ≡ Ok (ws, b)
+    → (ls ≡ witnesses_lines gs ws ++ b.lines) × (length ws ≡ length gs) × AllByRecursion (λ (w : List Bool). length w ≡ vars) ws
+unfolding witnesses_at
+witnesses-ok vars [] at ls ws b small few h =
+    let (e, f) = pair-is [] ws (below at ls) b (Ok ([], below at ls)) refl h in
+    (ap (λ (c : Below). c.lines) f, ap length (sym e), subst (AllByRecursion (λ (w : List Bool). length w ≡ vars)) e tt)
+witnesses-ok vars (g ∷ gs) at ls ws b small few h =
+    let (w, a, h1) = bind-ok (witness_line_at vars g at ls) _ (ws, b) h in
+    let (r, tail, same) = bind-ok (witnesses_at vars gs w.1.at w.1.lines) _ (ws, b) h1 in
+    let (e, f) = pair-is (w.0 ∷ r.0) ws r.1 b (Ok (w.0 ∷ r.0, r.1)) refl same in
+    let (line, len) = witness_line-ok vars g at ls w.0 w.1 small few.0 a in
+    let (rest, count, each) = witnesses-ok vars gs w.1.at w.1.lines r.0 r.1 small few.1 tail in (
+      line ∙ ap (λ (ks : List Line). witness_line g w.0 ∷ ks) rest
+          ∙ ap₂ (λ (xs : List (List Bool)) (c : Below). witnesses_lines (g ∷ gs) xs ++ c.lines) e f,
+      ap length (sym e) ∙ omega arith,
+      subst (AllByRecursion (λ (v : List Bool). length v ≡ vars)) e (len, each),
+    )
+
+refutations-ok : (vars : ℕ) (gs : List ℕ) (at : ℕ) (ls : List Line) (ds : List Derivation) (b : Below) → vars < 2 ^ 64
+    → AllByRecursion (λ g. g < 2 ^ 64) gs → refutations_at vars gs at ls ≡ Ok (ds, b)
+    → (ls ≡ refutations_lines gs ds ++ b.lines) × (length ds ≡ length gs) × AllByRecursion (IsReadableProof vars) ds
+unfolding refutations_at
+refutations-ok vars [] at ls ds b small few h =
+    let (e, f) = pair-is [] ds (below at ls) b (Ok ([], below at ls)) refl h in
+    (ap (λ (c : Below). c.lines) f, ap length (sym e), subst (AllByRecursion (IsReadableProof vars)) e tt)
+refutations-ok vars (g ∷ gs) at ls ds b small few h =
+    let (d, a, h1) = bind-ok (proof_at vars (Refutes g) at ls) _ (ds, b) h in
+    let (r, tail, same) = bind-ok (refutations_at vars gs d.1.at d.1.lines) _ (ds, b) h1 in
+    let (e, f) = pair-is (d.0 ∷ r.0) ds r.1 b (Ok (d.0 ∷ r.0, r.1)) refl same in
+    let (lines, good) = proof-ok vars (Refutes g) at ls d.0 d.1 small few.0 a in
+    let (rest, count, each) = refutations-ok vars gs d.1.at d.1.lines r.0 r.1 small few.1 tail in (
+      lines ∙ ap (λ (ks : List Line). map step_line d.0.steps ++ goal_line g d.0.goal ∷ ks) rest
+          ∙ regroup (map step_line d.0.steps) (goal_line g d.0.goal) (refutations_lines gs r.0) r.1.lines
+          ∙ ap₂ (λ (xs : List Derivation) (c : Below). refutations_lines (g ∷ gs) xs ++ c.lines) e f,
+      ap length (sym e) ∙ omega arith,
+      subst (AllByRecursion (IsReadableProof vars)) e (good, each),
+    )
+  where
+    regroup : (m : List Line) (k : Line) (xs ys : List Line) → m ++ k ∷ (xs ++ ys) ≡ ((m ++ k ∷ []) ++ xs) ++ ys
+    regroup m k xs ys = sym (append_assoc (m ++ k ∷ []) xs ys ∙ append_assoc m (k ∷ []) (xs ++ ys))
+
+-- ---- records
+
+few_groups : (p : Problem) (set : List ℕ) → p.vars + p.groups < 2 ^ 64 → IsSetUpTo p.groups set → AllByRecursion (λ g. g < 2 ^ 64) set
+few_groups p set small ok = all-then (λ g. g ≤ p.groups) (λ g. g < 2 ^ 64) set (λ g le. omega arith) ok.in_range
+
+conflict-ok : (p : Problem) (set : List ℕ) (at : ℕ) (ls : List Line) (r : Record) (b : Below) → p.vars + p.groups < 2 ^ 64
+    → IsSetUpTo p.groups set → conflict_at p set at ls ≡ Ok (r, b)
+    → IsReadable p r × (set_line (codes "u") set ∷ ls ≡ record_lines r ++ b.lines)
+unfolding conflict_at
+conflict-ok p set at ls r b small ok h =
+    let (d, a, h1) = bind-ok (proof_at (p.vars + p.groups) (Refutes 0) at ls) _ (r, b) h in
+    let (ws, c, same) = bind-ok (witnesses_at p.vars set d.1.at d.1.lines) _ (r, b) h1 in
+    let made : Record = record_of.Conflict set d.0 ws.0 in
+    let (e, f) = pair-is made r ws.1 b (Ok (made, ws.1)) refl same in
+    let (lines, good) = proof-ok (p.vars + p.groups) (Refutes 0) at ls d.0 d.1 small (omega arith) a in
+    let (rest, count, each) = witnesses-ok p.vars set d.1.at d.1.lines ws.0 ws.1 (omega arith) (few_groups p set small ok) c in (
+      subst (IsReadable p) e (ok, good, count, each),
+      ap (λ (ks : List Line). set_line (codes "u") set ∷ ks)
+          (lines ∙ ap (λ (ks : List Line). map step_line d.0.steps ++ goal_line 0 d.0.goal ∷ ks) rest
+          ∙ sym (append_assoc (map step_line d.0.steps ++ goal_line 0 d.0.goal ∷ []) (witnesses_lines set ws.0) ws.1.lines
+          ∙ append_assoc (map step_line d.0.steps) (goal_line 0 d.0.goal ∷ []) (witnesses_lines set ws.0 ++ ws.1.lines)))
+          ∙ ap₂ (λ (x : Record) (k : Below). record_lines x ++ k.lines) e f,
+    )
+
+correction-ok : (p : Problem) (set : List ℕ) (at : ℕ) (ls : List Line) (r : Record) (b : Below) → p.vars + p.groups < 2 ^ 64
+    → IsSetUpTo p.groups set → correction_at p set at ls ≡ Ok (r, b)
+    → IsReadable p r × (set_line (codes "m") set ∷ ls ≡ record_lines r ++ b.lines)
+unfolding correction_at
+correction-ok p set at ls r b small ok h =
+    let (w, a, h1) = bind-ok (witness_line_at p.vars 0 at ls) _ (r, b) h in
+    let (ds, c, same) = bind-ok (refutations_at (p.vars + p.groups) set w.1.at w.1.lines) _ (r, b) h1 in
+    let made : Record = record_of.Correction set w.0 ds.0 in
+    let (e, f) = pair-is made r ds.1 b (Ok (made, ds.1)) refl same in
+    let (line, len) = witness_line-ok p.vars 0 at ls w.0 w.1 (omega arith) (omega arith) a in
+    let (rest, count, each) = refutations-ok (p.vars + p.groups) set w.1.at w.1.lines ds.0 ds.1 small (few_groups p set small ok) c in (
+      subst (IsReadable p) e (ok, len, count, each),
+      ap (λ (ks : List Line). set_line (codes "m") set ∷ ks) (line ∙ ap (λ (ks : List Line). witness_line 0 w.0 ∷ ks) rest)
+          ∙ ap₂ (λ (x : Record) (k : Below). record_lines x ++ k.lines) e f,
+    )
+
+-- ---- the end
+
+complete-ok : (at : ℕ) (ls : List Line) (b : Below) → complete_at at ls ≡ Ok b → ls ≡ end_line (codes "complete") ∷ b.lines
+unfolding complete_at
+complete-ok at [] b h = cc
+complete-ok at (l ∷ ls) b h =
+    elim (cond-cases (is_letter 101 l) _ _ (Ok b) h) [
+      | inl is ↦
+          let (u, a, same) = bind-ok (at_line at (last_word_at (codes "complete") (behind l))) _ b is.1 in
+          let below_is : below (at + 1) ls ≡ b = cc in
+          ap (λ (k : Line). k ∷ ls)
+          (letter-ok 101 l (omega arith) is.0
+          ∙ ap (λ (ws : List Word). codes "e" ∷ ws) (last_word-ok (codes "complete") (behind l) u (at_line-ok at (last_word_at (codes "complete") (behind l)) u a)))
+          ∙ ap (λ (c : Below). end_line (codes "complete") ∷ c.lines) below_is
+      | inr none ↦ cc (none.1)
+    ]
+
+closing-ok : (p : Problem) (at : ℕ) (ls : List Line) (d : Derivation) (b : Below) → p.vars + p.groups < 2 ^ 64
+    → closing_at p at ls ≡ Ok (d, b) → (ls ≡ end_lines (Some d) ++ b.lines) × IsReadableProof p.groups d
+unfolding closing_at
+closing-ok p at ls d b small h =
+    let (r, a, h1) = bind-ok (proof_at p.groups Exhausts at ls) _ (d, b) h in
+    let (c, z, same) = bind-ok (complete_at r.1.at r.1.lines) _ (d, b) h1 in
+    let (e, f) = pair-is r.0 d c b (Ok (r.0, c)) refl same in
+    let (lines, good) = proof-ok p.groups Exhausts at ls r.0 r.1 (omega arith) tt a in (
+      lines ∙ ap (λ (ks : List Line). map step_line r.0.steps ++ exhaustion_line r.0.goal ∷ ks) (complete-ok r.1.at r.1.lines c z)
+          ∙ sym (append_assoc (map step_line r.0.steps) (exhaustion_line r.0.goal ∷ end_line (codes "complete") ∷ []) c.lines)
+          ∙ ap₂ (λ (x : Derivation) (k : Below). end_lines (Some x) ++ k.lines) e f,
+      subst (IsReadableProof p.groups) e good,
+    )
+
+no-items : {X : Type 0} (xs : List X) → eqb (length xs) 0 ≡ true → xs ≡ []
+no-items [] h = refl
+no-items (x ∷ xs) h = absurd (let e = eqb-true (length (x ∷ xs)) 0 h in omega arith)
+
+nothing-ok : (rest : List ℕ) (closing : Option Derivation) (c : Below) (a : Answer) (b : Below) → nothing_behind rest closing c ≡ Ok (a, b)
+    → (c.lines ≡ []) × (rest ≡ []) × (answer.End closing ≡ a)
+nothing-ok rest closing c a b h =
+    elim (cond-cases (is_nothing c.lines rest) _ _ (Ok (a, b)) h) [
+      | inl none ↦
+          let (first, second) = and_parts (eqb (length c.lines) 0) (eqb (length rest) 0) none.0 in
+          (no-items c.lines first, no-items rest second, (pair-is (answer.End closing) a c b (Ok (answer.End closing, c)) refl none.1).0)
+      | inr some ↦ cc (some.1)
+    ]
+
+-- ---- a piece
+
+pub piece-stands : (p : Problem) (rest : List ℕ) (at : ℕ) (ls : List Line) (a : Answer) (b : Below) → p.vars + p.groups < 2 ^ 64
+    → piece_at p rest at ls ≡ Ok (a, b) → PieceStands p rest ls a b
+unfolding piece_at
+piece-stands p rest at [] a b small h = cc
+piece-stands p rest at (l ∷ ls) a b small h =
+    elim (cond-cases (is_letter 117 l) _ _ (Ok (a, b)) h) [
+      | inl is ↦
+          let (set, x, h1) = bind-ok (at_line at (set_at p.groups (behind l))) _ (a, b) is.1 in
+          let (r, y, same) = bind-ok (conflict_at p set (at + 1) ls) _ (a, b) h1 in
+          let (words, ok) = set-ok p.groups (behind l) set (omega arith) (at_line-ok at (set_at p.groups (behind l)) set x) in
+          let (good, lines) = conflict-ok p set (at + 1) ls r.0 r.1 small ok y in
+          as_record r.0 r.1 (Ok (answer.Record r.0, r.1)) refl same good
+          (ap (λ (k : Line). k ∷ ls) (letter-ok 117 l (omega arith) is.0 ∙ ap (λ (ws : List Word). codes "u" ∷ ws) words) ∙ lines)
+      | inr other ↦ elim (cond-cases (is_letter 109 l) _ _ (Ok (a, b)) other.1) [
+        | inl is ↦
+            let (set, x, h1) = bind-ok (at_line at (set_at p.groups (behind l))) _ (a, b) is.1 in
+            let (r, y, same) = bind-ok (correction_at p set (at + 1) ls) _ (a, b) h1 in
+            let (words, ok) = set-ok p.groups (behind l) set (omega arith) (at_line-ok at (set_at p.groups (behind l)) set x) in
+            let (good, lines) = correction-ok p set (at + 1) ls r.0 r.1 small ok y in
+            as_record r.0 r.1 (Ok (answer.Record r.0, r.1)) refl same good
+            (ap (λ (k : Line). k ∷ ls) (letter-ok 109 l (omega arith) is.0 ∙ ap (λ (ws : List Word). codes "m" ∷ ws) words) ∙ lines)
+        | inr third ↦ elim (cond-cases (is_letter 101 l) _ _ (Ok (a, b)) third.1) [
+          | inl is ↦
+              let (u, x, h1) = bind-ok (at_line at (last_word_at (codes "partial") (behind l))) _ (a, b) is.1 in
+              let (none, nothing, same) = nothing-ok rest None (below (at + 1) ls) a b h1 in
+              as_end None same tt
+              (ap₂ (λ (k : Line) (ks : List Line). k ∷ ks)
+              (letter-ok 101 l (omega arith) is.0
+              ∙ ap (λ (ws : List Word). codes "e" ∷ ws) (last_word-ok (codes "partial") (behind l) u (at_line-ok at (last_word_at (codes "partial") (behind l)) u x)))
+              none)
+              nothing
+          | inr last ↦
+              let (d, x, h1) = bind-ok (closing_at p at (l ∷ ls)) _ (a, b) last.1 in
+              let (none, nothing, same) = nothing-ok rest (Some d.0) d.1 a b h1 in
+              let (lines, good) = closing-ok p at (l ∷ ls) d.0 d.1 small x in
+              as_end (Some d.0) same good (lines ∙ ap (λ (ks : List Line). end_lines (Some d.0) ++ ks) none ∙ no_more (end_lines (Some d.0))) nothing
+        ]
+      ]
+    ]
+  where
+    no_more : (xs : List Line) → xs ++ [] ≡ xs
+    no_more [] = refl
+    no_more (x ∷ xs) = ap (λ (ys : List Line). x ∷ ys) (no_more xs)
+
+    as_record : (r : Record) (c : Below) (got : Result (Answer × Below) Offence) → got ≡ Ok (answer.Record r, c) → got ≡ Ok (a, b)
+        → IsReadable p r → l ∷ ls ≡ record_lines r ++ c.lines → PieceStands p rest (l ∷ ls) a b
+    as_record r c got is same good lines =
+        let (e, f) = pair-is (answer.Record r) a c b got is same in
+        subst (λ (x : Answer). PieceStands p rest (l ∷ ls) x b) e
+        (subst (λ (k : Below). PieceStands p rest (l ∷ ls) (answer.Record r) k) f (good, lines))
+
+    as_end : (closing : Option Derivation) → answer.End closing ≡ a → IsReadableEnd p closing → l ∷ ls ≡ end_lines closing → rest ≡ []
+        → PieceStands p rest (l ∷ ls) a b
+    as_end closing same good lines nothing = subst (λ (x : Answer). PieceStands p rest (l ∷ ls) x b) same (good, lines, nothing)
+
+-- ---- the head
+
+counts-ok : (ws : List Word) (c : Counts) → counts_at ws ≡ Ok c
+    → ws ≡ codes "gmev" ∷ codes "1" ∷ decimal c.vars ∷ decimal c.clauses ∷ decimal c.groups ∷ []
+unfolding counts_at
+counts-ok ws c h =
+    let (format, a1, h1) = bind-ok (word_at (codes "gmev") ws) _ c h in
+    let (version, a2, h2) = bind-ok (number_at 1 1 format) _ c h1 in
+    let (vars, a3, h3) = bind-ok (number_at 0 (2 ^ 64 - 1) version.1) _ c h2 in
+    let (clauses, a4, h4) = bind-ok (number_at 0 (2 ^ 64 - 1) vars.1) _ c h3 in
+    let (groups, a5, h5) = bind-ok (number_at 0 (2 ^ 64 - 1) clauses.1) _ c h4 in
+    let made : Counts = record { vars = vars.0; groups = groups.0; clauses = clauses.0 } in
+    let (over, same) = line_end-ok made c groups.1 h5 in
+    let (l2, low, high) = number-ok 1 1 format version.0 version.1 (omega arith) a2 in
+    let one : version.0 ≡ 1 = omega arith in
+    let l3 = (number-ok 0 (2 ^ 64 - 1) version.1 vars.0 vars.1 (omega arith) a3).0 in
+    let l4 = (number-ok 0 (2 ^ 64 - 1) vars.1 clauses.0 clauses.1 (omega arith) a4).0 in
+    let l5 = (number-ok 0 (2 ^ 64 - 1) clauses.1 groups.0 groups.1 (omega arith) a5).0 in
+    word-ok (codes "gmev") ws format a1
+    ∙ ap (λ (q : List Word). codes "gmev" ∷ q)
+    (l2 ∙ ap₂ (λ (w : Word) (q : List Word). w ∷ q) (ap decimal one ∙ decimal-number (codes "1") refl (omega arith))
+    (l3 ∙ ap (λ (q : List Word). decimal vars.0 ∷ q)
+    (l4 ∙ ap (λ (q : List Word). decimal clauses.0 ∷ q) (l5 ∙ ap (λ (q : List Word). decimal groups.0 ∷ q) over))))
+    ∙ ap (λ (k : Counts). codes "gmev" ∷ codes "1" ∷ decimal k.vars ∷ decimal k.clauses ∷ decimal k.groups ∷ []) same
+
+pub head-stands : (p : Problem) (at : ℕ) (ls : List Line) (b : Below) → head_at p at ls ≡ Ok b → ls ≡ head_line p ∷ b.lines
+unfolding head_at head_words_at
+head-stands p at [] b h = cc
+head-stands p at (l ∷ ls) b h =
+    let (u, a, same) = bind-ok (at_line at (head_words_at p l)) _ b h in
+    let below_is : below (at + 1) ls ≡ b = cc in
+    ap (λ (k : Line). k ∷ ls) (head-line u (at_line-ok at (head_words_at p l) u a)) ∙ ap (λ (c : Below). head_line p ∷ c.lines) below_is
+  where
+    head-line : (u : Unit {0}) → head_words_at p l ≡ Ok u → l ≡ head_line p
+    head-line u h =
+        elim (cond-cases (is_letter 112 l) _ _ (Ok u) h) [
+          | inl is ↦
+              let (c, a, h1) = bind-ok (counts_at (behind l)) _ u is.1 in
+              elim (cond-cases (same_counts c (counts_of p)) _ _ (Ok u) h1) [
+                | inl same ↦
+                    let (both, clauses) = and_parts (eqb c.vars p.vars && eqb c.groups p.groups) (eqb c.clauses (length p.clauses)) same.0 in
+                    let (vars, groups) = and_parts (eqb c.vars p.vars) (eqb c.groups p.groups) both in
+                    letter-ok 112 l (omega arith) is.0 ∙ ap (λ (ws : List Word). codes "p" ∷ ws) (counts-ok (behind l) c a)
+                    ∙ ap (λ (n : ℕ). codes "p" ∷ codes "gmev" ∷ codes "1" ∷ decimal n ∷ decimal c.clauses ∷ decimal c.groups ∷ []) (eqb-true c.vars p.vars vars)
+                    ∙ ap₂ (λ (m n : ℕ). codes "p" ∷ codes "gmev" ∷ codes "1" ∷ decimal p.vars ∷ decimal m ∷ decimal n ∷ []) (eqb-true c.clauses (length p.clauses) clauses)
+                    (eqb-true c.groups p.groups groups)
+                | inr other ↦ cc (other.1)
+              ]
+          | inr none ↦ cc (none.1)
+        ]
