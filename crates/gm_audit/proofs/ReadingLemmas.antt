@@ -1,6 +1,6 @@
 -- What was read of a text so far, and what the text is refused for.
-use Rattle.std.proofs.Common.{◌≡◌, ℕ, zero, suc, ◌+◌, ◌<◌, ◌≤◌, Bool, true, false, List, [], ◌∷◌, ◌++◌, map, length, Option, Some, None, refl, sym, ◌∙◌, ap, subst, arith, append_assoc, append-nil, length-append}
-use Rattle.std.specs.Prelude.{IfSome, is_some, Result, Ok, Err, IfOk, OnOk, codes}
+use Rattle.std.proofs.Common.{◌≡◌, ℕ, zero, suc, ◌+◌, ◌^◌, ◌<◌, ◌≤◌, Bool, true, false, List, [], ◌∷◌, ◌++◌, map, length, Option, Some, None, refl, sym, ◌∙◌, ap, subst, arith, append_assoc, append-nil, length-append}
+use Rattle.std.specs.Prelude.{IfSome, is_some, Result, Ok, Err, IfOk, codes}
 use Rattle.std.specs.Option.{option_or}
 use Rattle.std.specs.List.{flat_map}
 use Rattle.std.specs.declared.alloc.AllocError.{AllocError}
@@ -14,13 +14,14 @@ use Rattle.evidence_rec.specs.declared.record.Record.TheVariants.{Conflict, Corr
 use Rattle.evidence_rec.specs.Records.{founds}
 use Rattle.evidence_rec.specs.Seeding.{shows_all_explored}
 use Rattle.evidence_text.specs.declared.offence.Offence.{Offence}
-use Rattle.evidence_text.specs.declared.reader.Answer.{Answer}
-use Rattle.evidence_text.specs.declared.reader.Answer.TheVariants as answer
+use Rattle.evidence_text.specs.declared.answer.Answer.{Answer}
+use Rattle.evidence_text.specs.declared.answer.Answer.TheVariants as answer
 use Rattle.evidence_text.specs.Text.{Line, head_line, record_lines, step_line, exhaustion_line, end_line, end_lines}
 use Rattle.evidence_text.specs.Lines.{lines_of, unended}
 use Rattle.evidence_text.specs.Reading.{Below, below, head_at, piece_at, offence}
 use Rattle.evidence_text.specs.Readable.{IsReadable, IsReadableEnd}
-use Rattle.evidence_text.specs.Reader.{Reader, reader_of, head_of, head_answer, behind_head, piece_of, piece_answer, behind_piece, StandsAt}
+use Rattle.evidence_text.specs.Reader.{Reader, reader_of, head_of, head_answer, behind_head, piece_of, piece_answer, behind_piece}
+use Rattle.evidence_text.proofs.StandsLemmas.{piece-stands, head-stands}
 use Rattle.gm_audit.specs.declared.answer.Audited.{Audited}
 use Rattle.gm_audit.specs.declared.answer.Audited.TheVariants.{Yes, No}
 use Rattle.gm_audit.specs.declared.auditor.Auditor.{Auditor}
@@ -56,16 +57,17 @@ pub record IsReading (p : Problem) (text : List ℕ) (r : Reader) (records : Lis
 -- ---- the head
 
 reading-begins : (p : Problem) (text : List ℕ) (new : Reader) (h : Result Below Offence) → head_at p 1 (lines_of text) ≡ h
-    → Ok tt ≡ head_answer h → new ≡ behind_head (reader_of p text) h → lines_of text ≡ head_line p ∷ new.left.lines
-    → IsReading p text new []
-reading-begins p text new (Err o) e ok is lines = cc
-reading-begins p text new (Ok b) e ok is lines =
+    → Ok tt ≡ head_answer h → new ≡ behind_head (reader_of p text) h → IsReading p text new []
+reading-begins p text new (Err o) e ok is = cc
+reading-begins p text new (Ok b) e ok is =
     record {
       problem = ap (λ (r : Reader). r.problem) is;
       rest = ap (λ (r : Reader). r.rest) is;
       begun = ap (λ (r : Reader). r.begun) is;
       clean = ap (λ (r : Reader). r.offence) is;
-      lines = lines;
+      lines =
+          head-stands p 1 (lines_of text) b e
+          ∙ ap (λ (ls : List Line). head_line p ∷ ls) (sym (ap (λ (r : Reader). r.left.lines) is));
       most = length b.lines;
       enough = let same = ap (λ (r : Reader). length r.left.lines) is in omega arith;
       refusal =
@@ -76,17 +78,12 @@ reading-begins p text new (Ok b) e ok is lines =
 -- behind the head, by what its reader ensures
 pub reading-begun : (p : Problem) (text : List ℕ) (made new : Reader) (said : Result (Unit {0}) Offence) → made ≡ reader_of p text
     → (made.begun ≡ false → said ≡ head_answer (head_of made)) → (made.begun ≡ false → new ≡ behind_head made (head_of made))
-    → (made.begun ≡ false → OnOk said (made.left.lines ≡ head_line made.problem ∷ new.left.lines)) → said ≡ Ok tt
-    → IsReading p text new []
-reading-begun p text made new said is answers goes stands ok =
+    → said ≡ Ok tt → IsReading p text new []
+reading-begun p text made new said is answers goes ok =
     let fresh : made.begun ≡ false = ap (λ (r : Reader). r.begun) is in
     let h : Result Below Offence = head_of made in
-    let there : made.left.lines ≡ head_line made.problem ∷ new.left.lines =
-    subst (λ (a : Result (Unit {0}) Offence). OnOk a (made.left.lines ≡ head_line made.problem ∷ new.left.lines)) ok (stands fresh) in
     reading-begins p text new h (sym (ap head_of is)) (sym ok ∙ answers fresh)
     (goes fresh ∙ ap (λ (r : Reader). behind_head r h) is)
-    (sym (ap (λ (r : Reader). r.left.lines) is) ∙ there
-    ∙ ap (λ (r : Reader). head_line r.problem ∷ new.left.lines) is)
 
 -- ---- a record
 
@@ -140,6 +137,17 @@ pub record-line : (old new : Reader) (r : Record) (got : Piece) → answer.Recor
 record-line old new r got is behind =
     let (b, same, by) = record-at r got 0 (λ b. record { records = []; ending = Err (offence 0 Truncated) }) is in
     ap (λ (x : Reader). x.line) (behind ∙ ap (behind_piece old) same)
+
+-- it stands before the lines that are left then
+pub record-stands : (p : Problem) (text : List ℕ) (old new : Reader) (records : List Record) (r : Record) (got : Piece)
+    → p.vars + p.groups < 2 ^ 31 → IsReading p text old records → piece_of old ≡ got → answer.Record r ≡ piece_answer got
+    → new ≡ behind_piece old got → IsReadable p r × (old.left.lines ≡ record_lines r ++ new.left.lines)
+record-stands p text old new records r got small h e is behind =
+    let (b, same, by) = record-at r got 0 (λ b. record { records = []; ending = Err (offence 0 Truncated) }) is in
+    let (good, lines) =
+    piece-stands p (unended text) old.left.at old.left.lines (answer.Record r) b (omega arith) (piece-is p text old records got h e ∙ same) in
+    let left-is : new.left ≡ b = ap (λ (x : Reader). x.left) (behind ∙ ap (behind_piece old) same) in
+    (good, lines ∙ ap (λ (c : Below). record_lines r ++ c.lines) (sym left-is))
 
 -- the text is refused for this record
 pub refused-record : (p : Problem) (text : List ℕ) (old : Reader) (records : List Record) (r : Record) (ls : List Line) (got : Piece) (o : Offence)
@@ -205,6 +213,11 @@ reading-record p text old new records more r got h e is behind lines passed grow
               ∙ ap (λ (rs : List Record). contents_refusal p rs (contents_at m p (unended text) new.left)) (sym grown);
         }
 
+-- fewer lines are left then
+pub record-shorter : (r : Record) (old new : List Line) → old ≡ record_lines r ++ new → length new < length old
+record-shorter r old new lines =
+    let some = some-lines r in let count = ap length lines ∙ length-append (record_lines r) new in omega arith
+
 -- ---- the ending
 
 nothing-left : (p : Problem) (records : List Record) (ending : Ending)
@@ -233,6 +246,20 @@ ended p text old records closing got h e is lines = by h.most h.enough h.refusal
         ∙ ap (contents_refusal p records)
         (at-piece m p (unended text) old.left got (piece-is p text old records got h e) ∙ end-at got (contents_at m p (unended text)) is)
         ∙ nothing-left p records (Ok (old.left.at, closing))
+
+-- the end stands there, and nothing behind it
+pub end-stands : (p : Problem) (text : List ℕ) (old : Reader) (records : List Record) (closing : Option Derivation) (got : Piece)
+    → p.vars + p.groups < 2 ^ 31 → IsReading p text old records → piece_of old ≡ got → answer.End closing ≡ piece_answer got
+    → IsReadableEnd p closing × (old.left.lines ≡ end_lines closing) × (unended text ≡ [])
+end-stands p text old records closing got small h e is =
+    let (b, same) = end-of got is in
+    piece-stands p (unended text) old.left.at old.left.lines (answer.End closing) b (omega arith) (piece-is p text old records got h e ∙ same)
+  where
+    end-of : (got : Piece) → answer.End closing ≡ piece_answer got → (b : Below) × (got ≡ Ok (answer.End closing, b))
+    end-of (Err o) is = cc
+    end-of (Ok (answer.Record q, b)) is = cc
+    end-of (Ok (answer.Offence o, b)) is = cc
+    end-of (Ok (answer.End other, b)) is = let same : other ≡ closing = cc in (b, ap (λ (c : Option Derivation). Ok (answer.End c, b)) same)
 
 pub end-line : (old new : Reader) (closing : Option Derivation) (got : Piece) → answer.End closing ≡ piece_answer got
     → new ≡ behind_piece old got → new.line ≡ old.left.at
@@ -295,7 +322,7 @@ refusal-of (Err e) x y same says = tt
 
 -- a yes has read all, and nothing was refused
 pub yes-of : (p : Problem) (text : List ℕ) (old : Reader) (a : Auditor) (closing : Option Derivation) (line : ℕ) (answer : Result Audited AllocError)
-    → IsReading p text old a.records → IsAuditing p a → IsReadableEnd old.problem closing → old.left.lines ≡ end_lines closing → old.rest ≡ []
+    → IsReading p text old a.records → IsAuditing p a → IsReadableEnd p closing → old.left.lines ≡ end_lines closing → unended text ≡ []
     → IfOk answer (λ b. refusal_of b ≡ ending_refusal p a.records (Ok (line, closing))) → IfOk answer (TellsKept a.records closing)
     → IfOk answer (TellsRecords p text)
 yes-of p text old a closing line (Err e) h ok end lines rest says kept = tt
@@ -307,9 +334,9 @@ yes-of p text old a closing line (Ok (Yes complete records)) h ok end lines rest
       is_complete = kept.1;
       text_is =
           evidence-from_lines p text a.records closing
-          (h.lines ∙ ap (λ (ls : List Line). head_line p ∷ (flat_map record_lines a.records ++ ls)) lines) (sym h.rest ∙ rest);
+          (h.lines ∙ ap (λ (ls : List Line). head_line p ∷ (flat_map record_lines a.records ++ ls)) lines) rest;
       readable = ok.readable;
-      readable_end = subst (λ (q : Problem). IsReadableEnd q closing) h.problem end;
+      readable_end = end;
       accepted = ok.accepted;
       distinct = ok.distinct;
       closes = closed closing says;

@@ -19,7 +19,9 @@ spaced-cons w ws = flat_map-cons (λ (v : Word). codes " " ++ v) w ws
 -- words that begin behind a blank
 behind-blank : (ws : List Word) → (0 ≡ length ws → ⊥) → line_text ([] ∷ ws) ≡ 32 ∷ line_text ws
 behind-blank [] some = absurd (some refl)
-behind-blank (w ∷ ws) some = ap (λ (bs : List ℕ). bs ++ codes "\n") (spaced-cons w ws)
+behind-blank (w ∷ ws) some =
+    ap (λ (bs : List ℕ). bs ++ codes "\n") (spaced-cons w ws)
+    ∙ ap (λ (bs : List ℕ). 32 ∷ bs) (append_assoc w (spaced ws) (codes "\n"))
 
 -- a byte of the first word
 in-word : (b : ℕ) (ws : List Word) → (0 ≡ length ws → ⊥) → line_text (onto_first b ws) ≡ b ∷ line_text ws

@@ -14,8 +14,8 @@ use Rattle.evidence_rec.specs.Records.{kind_of, set_of, founds}
 use Rattle.evidence_rec.specs.Held.{is_held}
 use Rattle.evidence_rec.specs.Refusals.{at_line, steps_refusal, record_refusal}
 use Rattle.evidence_text.specs.declared.offence.Offence.{Offence}
-use Rattle.evidence_text.specs.declared.reader.Answer.{Answer}
-use Rattle.evidence_text.specs.declared.reader.Answer.TheVariants as answer
+use Rattle.evidence_text.specs.declared.answer.Answer.{Answer}
+use Rattle.evidence_text.specs.declared.answer.Answer.TheVariants as answer
 use Rattle.evidence_text.specs.Lines.{lines_of, unended}
 use Rattle.evidence_text.specs.Reading.{Below, head_at, piece_at, offence}
 

@@ -40,6 +40,8 @@ fn audit_text(alloc: Global, problem: &Problem, bytes: &[u8]) -> Result<Audited,
     ensures refusal { IfOk result (λ answer. refusal_of answer ≡ text_refusal problem.now bytes.now (head_at problem.now 1 (lines_of bytes.now))) }
     ensures yes { IfOk result (TellsRecords problem.now bytes.now) }
 {
+    // This also tells that the problem's numbers are small, so that a text can hold them.
+    let _groups = problem.groups();
     let mut reader = EvidenceReader::new(problem, bytes);
     if let Err(offence) = reader.head() {
         return Ok(Audited::refused(offence));

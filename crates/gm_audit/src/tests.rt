@@ -111,26 +111,19 @@ fn write(text: &mut Vec<u8>, line: &str) -> Result<(), AllocError> {
     Ok(())
 }
 
-fn write_all(text: &mut Vec<u8>, lines: &[&str]) -> Result<(), AllocError> {
-    for line in lines {
-        write(text, line)?;
-    }
-    Ok(())
-}
-
 // The lines, with others in place of those from the first to the last, which count from 1; behind them where none is left.
 fn with_lines(
     alloc: Global,
     first: usize,
     last: usize,
-    others: &[&str],
+    others: &str,
 ) -> Result<Vec<u8>, AllocError> {
     let mut text = Vec::new(alloc);
     let mut number: usize = 0;
     for line in LINES.iter() {
         number = number.saturating_add(1);
         if number == first {
-            write_all(&mut text, others)?;
+            text.extend_from_slice(others.as_bytes())?;
         }
         if number < first || number > last {
             write(&mut text, line)?;
@@ -168,64 +161,47 @@ fn told(alloc: Global, problem: &Problem, text: &[u8]) -> Result<Told, AllocErro
 fn evidence_is_accepted_or_refused_at_its_line(rt: HostRuntime) -> Result<(), Fail> {
     let alloc = rt.alloc();
     let problem = four_clauses(alloc, false)?;
-    let rows: [(usize, usize, &[&str], Told); 22] = [
-        (32, 0, &[], (0, 0, true, 2, 3)),
-        (29, 31, &["e partial"], (0, 0, false, 2, 3)),
-        (2, 31, &["e partial"], (0, 0, false, 0, 0)),
-        (8, 8, &["d 5 -3 -5 -6 0 1 4 0"], (8, 12, false, 0, 0)),
-        (30, 30, &[], (30, 1, false, 0, 0)),
+    let rows: [(usize, usize, &str, Told); 22] = [
+        (32, 0, "", (0, 0, true, 2, 3)),
+        (29, 31, "e partial\n", (0, 0, false, 2, 3)),
+        (2, 31, "e partial\n", (0, 0, false, 0, 0)),
+        (8, 8, "d 5 -3 -5 -6 0 1 4 0\n", (8, 12, false, 0, 0)),
+        (30, 30, "", (30, 1, false, 0, 0)),
         (
             23,
             22,
-            &[
-                "m 2 3 0",
-                "w 0 1 0",
-                "d 5 -3 -4 0 1 2 0",
-                "r 2 5",
-                "d 5 -3 -5 -6 0 1 3 4 0",
-                "r 3 5",
-            ],
+            "m 2 3 0\nw 0 1 0\nd 5 -3 -4 0 1 2 0\nr 2 5\nd 5 -3 -5 -6 0 1 3 4 0\nr 3 5\n",
             (23, 19, false, 0, 0),
         ),
         (
             23,
             22,
-            &["m 2 3 0", "w 0 1 0", "r 2 5", "r 3 5"],
+            "m 2 3 0\nw 0 1 0\nr 2 5\nr 3 5\n",
             (23, 19, false, 0, 0),
         ),
         (
             23,
             22,
-            &["m 2 3 0", "w 0 1 0", "r 2 5", "r 2 5"],
+            "m 2 3 0\nw 0 1 0\nr 2 5\nr 2 5\n",
             (26, 2, false, 0, 0),
         ),
-        (
-            7,
-            6,
-            &["m 1 2 0", "w 0 0", "r 1 1", "r 2 1"],
-            (9, 17, false, 0, 0),
-        ),
-        (1, 1, &["p gmev 1 2 4 5"], (1, 4, false, 0, 0)),
-        (1, 1, &["p gmev 2 2 4 4"], (1, 2, false, 0, 0)),
-        (12, 12, &["w 4 1 0"], (12, 18, false, 0, 0)),
-        (22, 22, &["r 3 6"], (22, 16, false, 0, 0)),
-        (29, 30, &["x 1"], (29, 17, false, 0, 0)),
-        (30, 30, &["x 7"], (30, 16, false, 0, 0)),
-        (29, 29, &["d 5 0 3 1 4 5 2 0"], (29, 14, false, 0, 0)),
-        (23, 28, &[], (23, 10, false, 0, 0)),
-        (31, 31, &["e complete", "e complete"], (32, 5, false, 0, 0)),
-        (29, 31, &["x 9", "e complete", ""], (31, 5, false, 0, 0)),
-        (31, 31, &[], (31, 3, false, 0, 0)),
-        (
-            3,
-            5,
-            &["d 5 -3 -4 0 9 0", "r 0 5", "w 2 0"],
-            (5, 2, false, 0, 0),
-        ),
+        (7, 6, "m 1 2 0\nw 0 0\nr 1 1\nr 2 1\n", (9, 17, false, 0, 0)),
+        (1, 1, "p gmev 1 2 4 5\n", (1, 4, false, 0, 0)),
+        (1, 1, "p gmev 2 2 4 4\n", (1, 2, false, 0, 0)),
+        (12, 12, "w 4 1 0\n", (12, 18, false, 0, 0)),
+        (22, 22, "r 3 6\n", (22, 16, false, 0, 0)),
+        (29, 30, "x 1\n", (29, 17, false, 0, 0)),
+        (30, 30, "x 7\n", (30, 16, false, 0, 0)),
+        (29, 29, "d 5 0 3 1 4 5 2 0\n", (29, 14, false, 0, 0)),
+        (23, 28, "", (23, 10, false, 0, 0)),
+        (31, 31, "e complete\ne complete\n", (32, 5, false, 0, 0)),
+        (29, 31, "x 9\ne complete\n\n", (31, 5, false, 0, 0)),
+        (31, 31, "", (31, 3, false, 0, 0)),
+        (3, 5, "d 5 -3 -4 0 9 0\nr 0 5\nw 2 0\n", (5, 2, false, 0, 0)),
         (
             3,
             7,
-            &["d 5 -3 -4 0 9 0", "r 0 5", "w 1 0", "w 2 1 0", "u 9 0"],
+            "d 5 -3 -4 0 9 0\nr 0 5\nw 1 0\nw 2 1 0\nu 9 0\n",
             (3, 10, false, 0, 0),
         ),
     ];
@@ -243,7 +219,7 @@ fn evidence_is_accepted_or_refused_at_its_line(rt: HostRuntime) -> Result<(), Fa
 #[test]
 fn evidence_is_about_one_problem(rt: HostRuntime) -> Result<(), Fail> {
     let alloc = rt.alloc();
-    let text = with_lines(alloc, 32, 0, &[])?;
+    let text = with_lines(alloc, 32, 0, "")?;
     let other = one_clause(alloc)?;
     assert_eq!(rt; told(alloc, &other, text.as_slice())?, (1, 4, false, 0, 0));
     let turned = four_clauses(alloc, true)?;

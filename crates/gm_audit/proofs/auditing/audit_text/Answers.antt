@@ -2,9 +2,9 @@ use Rattle.std.proofs.Common.{◌≡◌, ◌∙◌, ℕ, List, Option, Some, Non
 use Rattle.std.specs.Prelude.{Ok}
 use Rattle.evidence_rec.specs.declared.record.Record.{Record}
 use Rattle.evidence_text.specs.declared.offence.Offence.{Offence}
-use Rattle.evidence_text.specs.Reader.{piece_of, StandsAt}
+use Rattle.evidence_text.specs.Reader.{piece_of}
 use Rattle.gm_audit.specs.Refusals.{placed_refusal, ending_refusal}
-use Rattle.gm_audit.proofs.ReadingLemmas.{IsReading, placed, whole_refusal, reading-begun, record-line, refused-record, reading-record, ended, end-line, offended, refusal-of, yes-of}
+use Rattle.gm_audit.proofs.ReadingLemmas.{IsReading, placed, whole_refusal, reading-begun, record-line, record-stands, record-shorter, refused-record, reading-record, ended, end-stands, end-line, offended, refusal-of, yes-of}
 use Rattle.gm_audit.proofs.auditing.audit_text.Goals as goal
 
 -- nothing but the head was read
@@ -14,7 +14,7 @@ pieces-init c = record {
   reading =
       subst (IsReading c.args.problem.now c.args.bytes.now c.head.new.self) (sym c.in_ok-auditor.ensures.records)
       (reading-begun c.args.problem.now c.args.bytes.now c.new-reader.result c.head.new.self c.head.result c.new-reader.ensures
-      c.head.ensures.answer c.head.ensures.behind c.head.ensures.stands c.in_default.is);
+      c.head.ensures.answer c.head.ensures.behind c.in_default.is);
 }
 
 -- a record is the first that is refused
@@ -25,8 +25,9 @@ returns-in-Some-clause-refusal c =
     let h = c.pieces.invariant.reading in
     let r = c.in-Record.found in
     let is = sym c.in-Record.is ∙ c.in_ok-found.ensures.answer h.clean in
-    let stands = subst (StandsAt old c.next.new.self) c.in-Record.is c.in_ok-found.ensures.stands in
-    let line = c.line.ensures ∙ record-line old c.next.new.self r (piece_of old) is (c.in_ok-found.ensures.behind h.clean) in
+    let behind = c.in_ok-found.ensures.behind h.clean in
+    let stands = record-stands p c.args.bytes.now old c.next.new.self c.pieces.auditor.records r (piece_of old) c.groups-groups.ensures.small h refl is behind in
+    let line = c.line.ensures ∙ record-line old c.next.new.self r (piece_of old) is behind in
     c.refused-in-Some.ensures
     ∙ sym (refused-record p c.args.bytes.now old c.pieces.auditor.records r c.next.new.self.left.lines (piece_of old) c.in-Some.offence
     h refl is stands.1
@@ -40,8 +41,8 @@ pieces-preserved c =
     let h = c.pieces.invariant.reading in
     let r = c.in-Record.found in
     let is = sym c.in-Record.is ∙ c.in_ok-found.ensures.answer h.clean in
-    let stands = subst (StandsAt old c.next.new.self) c.in-Record.is c.in_ok-found.ensures.stands in
     let behind = c.in_ok-found.ensures.behind h.clean in
+    let stands = record-stands p c.args.bytes.now old c.next.new.self c.pieces.auditor.records r (piece_of old) c.groups-groups.ensures.small h refl is behind in
     let line = c.line.ensures ∙ record-line old c.next.new.self r (piece_of old) is behind in
     record {
       auditing = c.in_ok-offence-in-Record.ensures.auditing c.in_default-2.is;
@@ -59,7 +60,7 @@ returns-in-End-clause-refusal c =
     let old = c.pieces.reader in
     let h = c.pieces.invariant.reading in
     let is = sym c.in-End.is ∙ c.in_ok-found.ensures.answer h.clean in
-    let stands = subst (StandsAt old c.next.new.self) c.in-End.is c.in_ok-found.ensures.stands in
+    let stands = end-stands p c.args.bytes.now old c.pieces.auditor.records c.in-End.closing (piece_of old) c.groups-groups.ensures.small h refl is in
     let line = c.line-in-End.ensures ∙ end-line old c.next.new.self c.in-End.closing (piece_of old) is (c.in_ok-found.ensures.behind h.clean) in
     refusal-of c.close.result (whole_refusal p c.args.bytes.now)
     (ending_refusal p c.pieces.auditor.records (Ok (c.line-in-End.result, c.in-End.closing)))
@@ -69,9 +70,30 @@ returns-in-End-clause-refusal c =
 
 pub returns-in-End-clause-yes : goal.returns-in-End-clause-yes
 returns-in-End-clause-yes c =
-    let stands = subst (StandsAt c.pieces.reader c.next.new.self) c.in-End.is c.in_ok-found.ensures.stands in
-    yes-of c.args.problem.now c.args.bytes.now c.pieces.reader c.pieces.auditor c.in-End.closing c.line-in-End.result c.close.result
-    c.pieces.invariant.reading c.pieces.invariant.auditing stands.0 stands.1 stands.2 c.close.ensures.refusal c.close.ensures.records
+    let p = c.args.problem.now in
+    let old = c.pieces.reader in
+    let h = c.pieces.invariant.reading in
+    let is = sym c.in-End.is ∙ c.in_ok-found.ensures.answer h.clean in
+    let stands = end-stands p c.args.bytes.now old c.pieces.auditor.records c.in-End.closing (piece_of old) c.groups-groups.ensures.small h refl is in
+    yes-of p c.args.bytes.now old c.pieces.auditor c.in-End.closing c.line-in-End.result c.close.result
+    h c.pieces.invariant.auditing stands.0 stands.1 stands.2 c.close.ensures.refusal c.close.ensures.records
+
+-- what is read has one item of evidence for each group
+pub add-requires-clause-readable : goal.add-requires-clause-readable
+add-requires-clause-readable c =
+    let old = c.pieces.reader in
+    let h = c.pieces.invariant.reading in
+    (record-stands c.args.problem.now c.args.bytes.now old c.next.new.self c.pieces.auditor.records c.in-Record.found (piece_of old)
+    c.groups-groups.ensures.small h refl (sym c.in-Record.is ∙ c.in_ok-found.ensures.answer h.clean) (c.in_ok-found.ensures.behind h.clean)).0
+
+-- fewer lines are left then
+pub pieces-smaller : goal.pieces-smaller
+pieces-smaller c =
+    let old = c.pieces.reader in
+    let h = c.pieces.invariant.reading in
+    record-shorter c.in-Record.found old.left.lines c.next.new.self.left.lines
+    (record-stands c.args.problem.now c.args.bytes.now old c.next.new.self c.pieces.auditor.records c.in-Record.found (piece_of old)
+    c.groups-groups.ensures.small h refl (sym c.in-Record.is ∙ c.in_ok-found.ensures.answer h.clean) (c.in_ok-found.ensures.behind h.clean)).1
 
 -- the first offence of the text
 pub returns-in-Offence-clause-refusal : goal.returns-in-Offence-clause-refusal
