@@ -41,6 +41,11 @@ abbrev pub list_app : App
 list_app = with_rule (with_rule (with_rule (new_app (codes "list"))
     (place_rule (codes "file"))) conflicts_rule) limit_rule
 
+-- `check FILE EVIDENCE`
+abbrev pub check_app : App
+check_app = with_rule (with_rule (new_app (codes "check"))
+    (place_rule (codes "file"))) (place_rule (codes "evidence"))
+
 -- the command without its subcommands: the program's name is not among the words, and a subcommand is due
 abbrev pub gmus_top : App
 gmus_top = record (new_app (codes "gmus")) {
@@ -49,7 +54,7 @@ gmus_top = record (new_app (codes "gmus")) {
 
 -- the command
 abbrev pub gmus_app : App
-gmus_app = with_subcommand gmus_top list_app.top
+gmus_app = with_subcommand (with_subcommand gmus_top list_app.top) check_app.top
 
 -- ---- what the words ask for
 
@@ -59,8 +64,14 @@ pub record Listing : Type 0 where
   pub conflicts : ℕ
   pub limit : ℕ
 
+-- what `check` is asked for
+pub record Checking : Type 0 where
+  pub file : Text
+  pub evidence : Text
+
 pub data Asked : Type 0 where
   listing : Listing → Asked
+  checking : Checking → Asked
 
 -- the number that a text says, where the option takes the text
 abbrev pub number_by : Rule → Text → Option ℕ
@@ -82,9 +93,19 @@ abbrev pub listing_of : List Row → Option Asked
 listing_of rows = listing_with (first_of (codes "file") rows)
     (number_or greatest_conflicts conflicts_rule rows) (number_or greatest_limit limit_rule rows)
 
+-- a checking, where both names can be had
+abbrev pub checking_with : Option Text → Option Text → Option Asked
+checking_with (Some file) (Some evidence) = Some (checking (record { file = file; evidence = evidence }))
+checking_with _ _ = None
+
+-- what the values of `check` ask for
+abbrev pub checking_of : List Row → Option Asked
+checking_of rows = checking_with (first_of (codes "file") rows) (first_of (codes "evidence") rows)
+
 -- what a subcommand's values ask for
 abbrev pub asked_of : Text → List Row → Option Asked
-asked_of name rows = if bytes_eq name (codes "list") then listing_of rows else None
+asked_of name rows = if bytes_eq name (codes "list") then listing_of rows
+    else (if bytes_eq name (codes "check") then checking_of rows else None)
 
 -- the subcommand and its values, by clap's reading; none where that refuses the words
 abbrev pub words_read : List Text → Option Asked

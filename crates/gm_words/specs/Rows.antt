@@ -3,7 +3,7 @@ use Rattle.std.specs.Prelude.{◌≡◌, ℕ, [], ◌∷◌, Option, Some, None,
 use Rattle.std.proofs.Common.{refl}
 use Rattle.clap.proofs.OnLiterals.{clap_on_literals}
 use Rattle.clap.specs.Walk.{Text}
-use Rattle.gm_words.specs.Reading.{Asked, greatest_conflicts, greatest_limit, listing, words_read}
+use Rattle.gm_words.specs.Reading.{Asked, greatest_conflicts, greatest_limit, listing, checking, words_read}
 
 -- `list` of a file, with both numbers
 abbrev pub listing_of_file : Text → ℕ → ℕ → Option Asked
@@ -43,6 +43,29 @@ pub read_options :
     ≡ listing_of_file (codes "f") 7 greatest_limit)
 unfolding clap_on_literals
 read_options = (refl, refl, refl, refl, refl, refl, refl)
+
+-- `check` of two files, each under any name
+abbrev pub check_of : Text → Text → Option Asked
+check_of file evidence = Some (checking (record { file = file; evidence = evidence }))
+
+pub read_check :
+    (words_read (codes "check" ∷ codes "f" ∷ codes "e" ∷ []) ≡ check_of (codes "f") (codes "e"))
+    × (words_read (codes "check" ∷ codes "f" ∷ codes "f" ∷ []) ≡ check_of (codes "f") (codes "f"))
+    × (words_read (codes "check" ∷ [] ∷ codes "-" ∷ []) ≡ check_of [] (codes "-"))
+    × (words_read (codes "check" ∷ codes "--" ∷ codes "-f" ∷ codes "--limit" ∷ []) ≡ check_of (codes "-f") (codes "--limit"))
+unfolding clap_on_literals
+read_check = (refl, refl, refl, refl)
+
+-- one name, three, and the options of `list`
+pub refused_check :
+    (words_read (codes "check" ∷ []) ≡ None)
+    × (words_read (codes "check" ∷ codes "f" ∷ []) ≡ None)
+    × (words_read (codes "check" ∷ codes "f" ∷ codes "e" ∷ codes "g" ∷ []) ≡ None)
+    × (words_read (codes "check" ∷ codes "f" ∷ codes "-e" ∷ []) ≡ None)
+    × (words_read (codes "check" ∷ codes "f" ∷ codes "e" ∷ codes "--limit" ∷ codes "5" ∷ []) ≡ None)
+    × (words_read (codes "check" ∷ codes "--help" ∷ []) ≡ None)
+unfolding clap_on_literals
+refused_check = (refl, refl, refl, refl, refl, refl)
 
 -- no name, two names, and what looks like an option
 pub refused :

@@ -2,7 +2,7 @@
 ghost use Rattle.std.specs.Prelude.{◌≡◌, IfOk, false};
 ghost use Rattle.clap.specs.Words.{app_of, rule_of};
 ghost use Rattle.clap.specs.declared.builder.command.Command.TheViews.{out-Command};
-ghost use Rattle.gm_words.specs.Reading.{gmus_app, gmus_top, list_app, place_rule};
+ghost use Rattle.gm_words.specs.Reading.{check_app, gmus_app, gmus_top, list_app, place_rule};
 
 use crate::options::{CONFLICTS, LIMIT};
 use clap::{Arg, Command};
@@ -12,7 +12,9 @@ use std::alloc::{AllocError, Global};
 pub(crate) fn gmus_command<'a>(alloc: Global) -> Result<Command<'a>, AllocError>
     ensures app { IfOk result (λ c. app_of c ≡ gmus_app) }
 {
-    gmus_top_command(alloc).subcommand(list_command(alloc)?)
+    gmus_top_command(alloc)
+        .subcommand(list_command(alloc)?)?
+        .subcommand(check_command(alloc)?)
 }
 
 /// The command without its subcommands. The words do not begin with the program's name.
@@ -33,6 +35,16 @@ fn list_command<'a>(alloc: Global) -> Result<Command<'a>, AllocError>
         .arg(place(alloc, "file"))?
         .arg(CONFLICTS.arg(alloc))?
         .arg(LIMIT.arg(alloc))
+}
+
+/// `check FILE EVIDENCE`
+fn check_command<'a>(alloc: Global) -> Result<Command<'a>, AllocError>
+    ensures app { IfOk result (λ c. app_of c ≡ check_app) }
+    ensures local { IfOk result (λ c. (out-Command c).has_globals ≡ false) }
+{
+    Command::new(alloc, "check")
+        .arg(place(alloc, "file"))?
+        .arg(place(alloc, "evidence"))
 }
 
 /// A word that is required at its place.

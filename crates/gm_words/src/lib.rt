@@ -5,6 +5,7 @@
 //! ```text
 //! match read_words(alloc, words)? {
 //!     Some(Request::List(listing)) => list(listing.file, listing.conflicts, listing.limit),
+//!     Some(Request::Check(checking)) => check(checking.file, checking.evidence),
 //!     None => usage(),
 //! }
 //! ```
@@ -20,7 +21,7 @@ mod read;
 mod request;
 
 pub use read::read_words;
-pub use request::{Listing, Request};
+pub use request::{Checking, Listing, Request};
 
 #[cfg(test)]
 mod tests;

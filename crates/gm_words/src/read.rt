@@ -3,12 +3,12 @@ ghost use Rattle.std.specs.Prelude.{◌≡◌, ◌≤◌, IfOk, IfSome, map, opt
 ghost use Rattle.clap.specs.Walk.{first_of, rows_of};
 ghost use Rattle.clap.specs.Words.{found_of, subcommand_rows_of};
 ghost use Rattle.gm_words.specs.Options.{option_rule};
-ghost use Rattle.gm_words.specs.Reading.{asked_of, listing_of, number_or, words_read};
+ghost use Rattle.gm_words.specs.Reading.{asked_of, checking_of, listing_of, number_or, words_read};
 ghost use Rattle.gm_words.specs.Requests.{HasGoodLimit, asked_by, text_of};
 
 use crate::command::gmus_command;
 use crate::options::{CONFLICTS, LIMIT, NumberOption};
-use crate::request::{Listing, Request};
+use crate::request::{Checking, Listing, Request};
 use clap::ArgMatches;
 use clap::error::ErrorKind;
 use std::alloc::{AllocError, Global};
@@ -37,7 +37,13 @@ fn request_of<'a>(matches: &ArgMatches<'a>) -> Option<Request<'a>>
     ensures limit { IfSome result HasGoodLimit }
 {
     let (name, inner) = matches.subcommand()?;
-    if name == "list" { listing(inner) } else { None }
+    if name == "list" {
+        listing(inner)
+    } else if name == "check" {
+        checking(inner)
+    } else {
+        None
+    }
 }
 
 /// What the matches of `list` ask for.
@@ -53,6 +59,16 @@ fn listing<'a>(matches: &ArgMatches<'a>) -> Option<Request<'a>>
         conflicts,
         limit,
     }))
+}
+
+/// What the matches of `check` ask for.
+fn checking<'a>(matches: &ArgMatches<'a>) -> Option<Request<'a>>
+    ensures asked { option_map asked_by result ≡ checking_of (rows_of (found_of matches.now)) }
+    ensures limit { IfSome result HasGoodLimit }
+{
+    let file = text_given(matches, "file")?;
+    let evidence = text_given(matches, "evidence")?;
+    Some(Request::Check(Checking { file, evidence }))
 }
 
 /// The text of an argument, if it was given.

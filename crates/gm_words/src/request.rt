@@ -11,9 +11,20 @@ pub struct Listing<'a> {
     pub limit: u64,
 }
 
+/// What `check` is asked for.
+#[derive(Clone, Copy, Debug, PartialEq, Eq)]
+pub struct Checking<'a> {
+    /// The name of the input file.
+    pub file: &'a str,
+    /// The name of the file with the evidence.
+    pub evidence: &'a str,
+}
+
 /// What the words ask for.
 #[derive(Clone, Copy, Debug, PartialEq, Eq)]
 pub enum Request<'a> {
     /// `list FILE [--conflicts B] [--limit L]`
     List(Listing<'a>),
+    /// `check FILE EVIDENCE`
+    Check(Checking<'a>),
 }

@@ -1,4 +1,4 @@
-use super::{Listing, Request, read_words};
+use super::{Checking, Listing, Request, read_words};
 use crate::command::gmus_command;
 use std::alloc::Global;
 use std::test::Fail;
@@ -86,6 +86,26 @@ fn numbers_are_read_before_and_behind_the_name(rt: HostRuntime) -> Result<(), Fa
     Ok(())
 }
 
+#[test]
+fn a_checking_has_two_names(rt: HostRuntime) -> Result<(), Fail> {
+    let rows = [
+        ("check|f|e|", "f", "e"),
+        ("check|f|f|", "f", "f"),
+        ("check||-|", "", "-"),
+        ("check|--|-f|-e|", "-f", "-e"),
+        ("check|f|--|--limit|", "f", "--limit"),
+        ("check|list|check|", "list", "check"),
+    ];
+    for (line, file, evidence) in rows {
+        let words = split(rt.alloc(), line)?;
+        let Ok(Some(Request::Check(checking))) = read_words(rt.alloc(), words.as_slice()) else {
+            return Err(Fail::from("no checking"));
+        };
+        assert!(rt; checking == Checking { file, evidence }, "{line}");
+    }
+    Ok(())
+}
+
 /// The first of the lines that is not wrong.
 fn first_read<'a>(alloc: Global, lines: &[&'a str]) -> Result<Option<&'a str>, Fail> {
     for line in lines {
@@ -100,7 +120,7 @@ fn first_read<'a>(alloc: Global, lines: &[&'a str]) -> Result<Option<&'a str>, F
     Ok(None)
 }
 
-const OTHER: [&str; 30] = [
+const OTHER: [&str; 37] = [
     "",
     "|",
     "frob|",
@@ -123,7 +143,14 @@ const OTHER: [&str; 30] = [
     "lis|f|",
     "List|f|",
     "list |f|",
-    "check|f|e|",
+    "check|",
+    "check|f|",
+    "check|f|e|g|",
+    "check|f|-e|",
+    "check|f|e|--limit|5|",
+    "check|f|--evidence|e|",
+    "check|--help|",
+    "chec|f|e|",
     "drill|7|12|",
     "f|list|",
     "--limit|5|list|f|",
