@@ -3,3 +3,4 @@ pub mod OrderLemmas
 pub mod ReportLemmas
 pub mod ClosedLemmas
 pub mod RunLemmas
+pub mod CheckLemmas

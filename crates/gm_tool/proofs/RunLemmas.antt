@@ -1,20 +1,141 @@
 -- What is said of a named file, said of the file that the words name.
-use Rattle.std.proofs.Common.{◌≡◌, ℕ, List, Option, Some, subst}
+use Rattle.std.proofs.Common.{◌≡◌, ◌≢◌, ℕ, List, [], ◌∷◌, Bool, true, false, Option, Some, None, is_some, ◌==◌, inl, inr, arith, ap, ap₂, sym, subst, refl, ◌∙◌}
+use Rattle.std.proofs.lemmas.Bool.{true≢false, false≢true, eqb-true}
+use Rattle.map_core.specs.declared.closing.Verdict.{Verdict}
+use Rattle.map_core.specs.declared.closing.Verdict.TheVariants as verdict
+use Rattle.gcnf_text.specs.Grammar.{Reads}
+use Rattle.gcnf_text.specs.Read.{IsRefused}
+use Rattle.gcnf_text.specs.declared.offence.Offence.{Offence}
+use Rattle.gm_audit.specs.Refusals.{first_refusal}
+use Rattle.sat_base.specs.Members.{In}
+use Rattle.sat_base.proofs.Members.{any_from}
 use Rattle.gm_base.specs.Problem.{Problem}
 use Rattle.gm_ports.specs.FilesState.{FilesState}
-use Rattle.gm_words.specs.Reading.{Asked}
+use Rattle.gm_words.specs.Reading.{Asked, Listing, Checking, listing, checking}
 use Rattle.gm_tool.specs.declared.enumeration.Bounds.{Bounds}
+use Rattle.gm_tool.specs.declared.ending.Ending.{Ending}
+use Rattle.gm_tool.specs.declared.ending.Ending.TheVariants.{BadWords, Refused, ReadFault, EvidenceFault, EvidenceRefused, Checked, CheckCutOff, Memory, Listed, CutOff}
 use Rattle.gm_tool.specs.declared.ending.Finish.{Finish}
+use Rattle.gm_tool.specs.Checking.{IsChecked, IsEvidenceRefusal}
+use Rattle.gm_tool.specs.Endings.{finish_of, status_by}
 use Rattle.gm_tool.specs.Input.{OfFile, IsReadAs}
-use Rattle.gm_tool.specs.Listing.{IsAfterwards, TellsListing}
-use Rattle.gm_tool.specs.Run.{OfNamed, bounds_in, bounds_of, file_asked}
+use Rattle.gm_tool.specs.Listing.{IsAfterwards, IsAmong, TellsListing}
+use Rattle.gm_tool.specs.Run.{OfNamed, IsToldFile, IsStatus, TellsAccepted, bounds_for, file_asked}
 
-pub named-from : (asked : Asked) (words : Option Asked) (files : FilesState) (name : List ℕ) (P : List ℕ → Type 0)
-    → Some asked ≡ words → name ≡ file_asked asked → OfFile (files.held name) P → OfNamed words files P
-named-from asked words files name P is same h = subst (λ w. OfNamed w files P) is (subst (λ n. OfFile (files.held n) P) same h)
+pub named-from : (asked : Asked) (words : Option Asked) (files : FilesState) (P : List ℕ → Type 0)
+    → Some asked ≡ words → OfFile (files.held (file_asked asked)) P → OfNamed words files P
+named-from asked words files P is h = subst (λ w. OfNamed w files P) is h
 
-pub listing-from : (asked : Asked) (words : Option Asked) (files : FilesState) (name : List ℕ) (b : Bounds) (unread left old new got : Option (List ℕ)) (finish answer : Finish)
-    → Some asked ≡ words → name ≡ file_asked asked → b ≡ bounds_in asked → left ≡ unread → got ≡ new → answer ≡ finish
-    → (IsAfterwards finish.status → (p : Problem) × OfFile (files.held name) (IsReadAs p unread) × TellsListing p b old new finish)
-    → IsAfterwards answer.status → (p : Problem) × OfNamed words files (IsReadAs p left) × TellsListing p (bounds_of words) old got answer
-listing-from asked words files name b unread left old new got finish answer is same bounds u n f h = rw (← is, u, n, f) (rw (← same, ← bounds) h)
+-- the words ask for one thing
+listing_or : Listing → Option Asked → Listing
+listing_or l None = l
+listing_or l (Some (listing k)) = k
+listing_or l (Some (checking c)) = l
+
+pub same_listing : (words : Option Asked) (l k : Listing) → Some (listing l) ≡ words → words ≡ Some (listing k) → l ≡ k
+unfolding listing_or
+same_listing words l k is asked = ap (listing_or l) (is ∙ asked)
+
+checking_or : Checking → Option Asked → Checking
+checking_or c None = c
+checking_or c (Some (listing l)) = c
+checking_or c (Some (checking d)) = d
+
+pub same_checking : (words : Option Asked) (c d : Checking) → Some (checking c) ≡ words → words ≡ Some (checking d) → c ≡ d
+unfolding checking_or
+same_checking words c d is asked = ap (checking_or c) (is ∙ asked)
+
+asks_listing : Option Asked → Bool
+asks_listing None = false
+asks_listing (Some (listing l)) = true
+asks_listing (Some (checking c)) = false
+
+pub not_both : (words : Option Asked) (l : Listing) (c : Checking) → Some (listing l) ≡ words → words ≡ Some (checking c) → ⊥
+unfolding asks_listing
+not_both words l c is asked = true≢false (ap asks_listing (is ∙ asked))
+
+asks : Option Asked → Bool
+asks None = false
+asks (Some asked) = true
+
+pub not_none : (words : Option Asked) (asked : Asked) → None ≡ words → words ≡ Some asked → ⊥
+unfolding asks
+not_none words asked is other = true≢false (sym (ap asks (is ∙ other)))
+
+-- what is told of a file, and what is said of it
+pub told : (held : Option (Option (List ℕ))) (P Q : List ℕ → Type 0) → IsToldFile held P → OfFile held Q → (text : List ℕ) × P text × Q text
+told None P Q p q = absurd p
+told (Some None) P Q p q = absurd p
+told (Some (Some text)) P Q p q = (text, p, q)
+
+pub listing-from : (files : FilesState) (k l : Listing) (b : Bounds) (unread left old new got : Option (List ℕ)) (finish answer : Finish)
+    → k ≡ l → b ≡ bounds_for k → left ≡ unread → got ≡ new → answer ≡ finish
+    → (IsAfterwards finish.status → (p : Problem) × OfFile (files.held k.file) (IsReadAs p unread) × TellsListing p b old new finish)
+    → IsAfterwards answer.status → (p : Problem) × OfFile (files.held l.file) (IsReadAs p left) × TellsListing p (bounds_for l) old got answer
+listing-from files k l b unread left old new got finish answer same bounds u n f h = rw (← same, u, n, f) (rw (← bounds) h)
+
+pub checking-from : (files : FilesState) (c d : Checking) (old new got : Option (List ℕ)) (status answer : ℕ)
+    → c ≡ d → got ≡ new → answer ≡ status
+    → (IsAfterwards status → (p : Problem) × OfFile (files.held c.file) (λ text. Reads text p) × IsChecked p (files.held c.evidence) status old new)
+    → IsAfterwards answer → (p : Problem) × OfFile (files.held d.file) (λ text. Reads text p) × IsChecked p (files.held d.evidence) answer old got
+checking-from files c d old new got status answer same n f h = rw (← same, n, f) h
+
+-- each ending has one of the statuses
+verdict_status : (v : Verdict) → IsStatus (status_by v)
+verdict_status verdict.Complete = refl
+verdict_status verdict.Budget = refl
+verdict_status verdict.Limit = refl
+verdict_status verdict.Memory = refl
+
+pub ending_status : (e : Ending) → IsStatus (finish_of e).status
+ending_status BadWords = refl
+ending_status (Refused line) = refl
+ending_status ReadFault = refl
+ending_status EvidenceFault = refl
+ending_status (EvidenceRefused line) = refl
+ending_status Checked = refl
+ending_status CheckCutOff = refl
+ending_status Memory = refl
+ending_status (Listed line left) = verdict_status left.closing.verdict
+ending_status (CutOff left) = refl
+
+-- what is left of them without a fault and without a refusal
+pub left_of : (status : ℕ) → IsStatus status → status ≢ 2 → status ≢ 5 → status ≢ 6 → status ≢ 7 → status ≢ 9 → IsAmong (0 ∷ 3 ∷ 4 ∷ 8 ∷ []) status
+left_of status known two five six seven nine =
+    let (s, i, e) = any_from (λ (k : ℕ). status == k) (0 ∷ 2 ∷ 3 ∷ 4 ∷ 5 ∷ 6 ∷ 7 ∷ 8 ∷ 9 ∷ []) known in
+    let is : status ≡ s = eqb-true status s e in
+    by s i is
+  where
+    by : (s : ℕ) → In s (0 ∷ 2 ∷ 3 ∷ 4 ∷ 5 ∷ 6 ∷ 7 ∷ 8 ∷ 9 ∷ []) → status ≡ s → IsAmong (0 ∷ 3 ∷ 4 ∷ 8 ∷ []) status
+    by s (inl z) is = subst (IsAmong (0 ∷ 3 ∷ 4 ∷ 8 ∷ [])) (sym (is ∙ z)) refl
+    by s (inr (inl z)) is = absurd (two (is ∙ z))
+    by s (inr (inr (inl z))) is = subst (IsAmong (0 ∷ 3 ∷ 4 ∷ 8 ∷ [])) (sym (is ∙ z)) refl
+    by s (inr (inr (inr (inl z)))) is = subst (IsAmong (0 ∷ 3 ∷ 4 ∷ 8 ∷ [])) (sym (is ∙ z)) refl
+    by s (inr (inr (inr (inr (inl z))))) is = absurd (five (is ∙ z))
+    by s (inr (inr (inr (inr (inr (inl z)))))) is = absurd (six (is ∙ z))
+    by s (inr (inr (inr (inr (inr (inr (inl z))))))) is = absurd (seven (is ∙ z))
+    by s (inr (inr (inr (inr (inr (inr (inr (inl z)))))))) is = subst (IsAmong (0 ∷ 3 ∷ 4 ∷ 8 ∷ [])) (sym (is ∙ z)) refl
+    by s (inr (inr (inr (inr (inr (inr (inr (inr (inl z))))))))) is = absurd (nine (is ∙ z))
+    by s (inr (inr (inr (inr (inr (inr (inr (inr (inr none))))))))) is = absurd none
+
+-- an accepted file is not refused
+pub not_refused : (held : Option (Option (List ℕ))) (P : List ℕ → Type 0) (offence : Offence)
+    → IsToldFile held (λ text. ((p : Problem) × Reads text p) × P text) → OfFile held (λ text. IsRefused text offence) → ⊥
+not_refused held P offence accepted refused =
+    let (text, a, r) = told held (λ text. ((p : Problem) × Reads text p) × P text) (λ text. IsRefused text offence) accepted refused in
+    r.unread a.0.0 a.0.1
+
+pub not_refused-alone : (held : Option (Option (List ℕ))) (offence : Offence)
+    → IsToldFile held (λ text. (p : Problem) × Reads text p) → OfFile held (λ text. IsRefused text offence) → ⊥
+not_refused-alone held offence accepted refused =
+    let (text, a, r) = told held (λ text. (p : Problem) × Reads text p) (λ text. IsRefused text offence) accepted refused in
+    r.unread a.0 a.1
+
+-- nor is evidence that has nothing to be refused for
+pub not_refused-evidence : (files : FilesState) (c : Checking) (p : Problem) (Gets : List ℕ → Type 0) → TellsAccepted (Some (checking c)) files
+    → OfFile (files.held c.file) (λ text. Reads text p) → IsEvidenceRefusal p (files.held c.evidence) Gets → ⊥
+not_refused-evidence files c p Gets accepted reads refusal =
+    let P : List ℕ → Type 0 = λ text. ((q : Problem) × Reads text q) × ((q : Problem) → Reads text q → IsToldFile (files.held c.evidence) (λ evidence. first_refusal q evidence ≡ None)) in
+    let (text, a, r) = told (files.held c.file) P (λ text. Reads text p) accepted reads in
+    let (evidence, none, some) = told (files.held c.evidence) (λ evidence. first_refusal p evidence ≡ None) (λ evidence. first_refusal p evidence ≡ Some refusal.refusal) (a.1 p r) refusal.first in
+    false≢true (ap is_some (sym none ∙ some))

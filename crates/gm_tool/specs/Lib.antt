@@ -5,4 +5,5 @@ pub mod Closed
 pub mod Endings
 pub mod Input
 pub mod Listing
+pub mod Checking
 pub mod Run

@@ -1,5 +1,5 @@
 -- What the status of a run tells of the words, of the file that they name, and of what was written.
-use Rattle.std.specs.Prelude.{◌⊎◌, ℕ, List, [], ◌∷◌, Option, Some, None, MatchOption}
+use Rattle.std.specs.Prelude.{◌≡◌, ◌⊎◌, ℕ, List, [], ◌∷◌, Option, Some, None, MatchOption}
 use Rattle.gm_base.specs.Problem.{Problem}
 use Rattle.gm_ports.specs.Faults.{Rose}
 use Rattle.gm_ports.specs.FilesState.{FilesState}
@@ -7,34 +7,56 @@ use Rattle.gm_ports.specs.Told.{ToldAppends, ToldGrowsWithin}
 use Rattle.gcnf_text.specs.declared.offence.Offence.{Offence}
 use Rattle.gcnf_text.specs.Grammar.{Reads}
 use Rattle.gcnf_text.specs.Read.{IsRefused}
-use Rattle.gm_words.specs.Reading.{Asked, listing}
+use Rattle.gm_words.specs.Reading.{Asked, Listing, Checking, listing, checking}
+use Rattle.gm_audit.specs.Refusals.{first_refusal}
 use Rattle.gm_tool.specs.declared.enumeration.Bounds.{Bounds}
 use Rattle.gm_tool.specs.Input.{OfFile}
 use Rattle.gm_tool.specs.Listing.{IsAmong}
 use Rattle.gm_tool.specs.Refusals.{refusal_line}
 
--- the file that is to be listed
+-- the file that is to be listed, or checked
 abbrev pub file_asked : Asked → List ℕ
 file_asked (listing l) = l.file
+file_asked (checking c) = c.file
 
--- the budget and the limit that are asked for
-abbrev pub bounds_in : Asked → Bounds
-bounds_in (listing l) = record { conflicts = l.conflicts; limit = l.limit }
+-- the budget and the limit of a listing
+abbrev pub bounds_for : Listing → Bounds
+bounds_for l = record { conflicts = l.conflicts; limit = l.limit }
 
--- where the words ask for nothing, no bound is named
+abbrev pub no_bounds : Bounds
+no_bounds = record { conflicts = 0; limit = 0 }
+
+-- where the words ask for no listing, no bound is named
 abbrev pub bounds_of : Option Asked → Bounds
-bounds_of None = record { conflicts = 0; limit = 0 }
-bounds_of (Some asked) = bounds_in asked
+bounds_of None = no_bounds
+bounds_of (Some (listing l)) = bounds_for l
+bounds_of (Some (checking c)) = no_bounds
 
 -- a fact of the file that the words name: it is vacuous where the file is not told, and false where the words name none
 abbrev pub OfNamed : Option Asked → FilesState → (List ℕ → Type 0) → Type 0
 OfNamed None files P = ⊥
 OfNamed (Some asked) files P = OfFile (files.held (file_asked asked)) P
 
--- the file that the words name is told, and is a text of some problem
+-- a file that is held under a name is told, and there, and this holds of its bytes
+abbrev pub IsToldFile : Option (Option (List ℕ)) → (List ℕ → Type 0) → Type 0
+IsToldFile held P = MatchOption held ⊥ (λ file. MatchOption file ⊥ P)
+
+-- the file that the words name is told, and is a text of some problem; and evidence, where they name some, has nothing that
+-- it is refused for
 abbrev pub TellsAccepted : Option Asked → FilesState → Type 0
 TellsAccepted None files = ⊥
-TellsAccepted (Some asked) files = MatchOption (files.held (file_asked asked)) ⊥ (λ file. MatchOption file ⊥ (λ text. (p : Problem) × Reads text p))
+TellsAccepted (Some (listing l)) files = IsToldFile (files.held l.file) (λ text. (p : Problem) × Reads text p)
+TellsAccepted (Some (checking c)) files =
+    IsToldFile (files.held c.file)
+    (λ text. ((p : Problem) × Reads text p)
+    × ((p : Problem) → Reads text p → IsToldFile (files.held c.evidence) (λ evidence. first_refusal p evidence ≡ None)))
+
+-- the words ask for a checking, and the file that it names is a text of some problem
+pub record ChecksAccepted (words : Option Asked) (files : FilesState) : Type 0 where
+  pub asked : Checking
+  pub words_are : words ≡ Some (checking asked)
+  pub problem : Problem
+  pub reads : OfFile (files.held asked.file) (λ text. Reads text problem)
 
 -- the sink got this line and nothing else, or a front part of it where its count of faults rose
 abbrev pub GetsLine : List ℕ → Option (List ℕ) → Option (List ℕ) → ℕ → ℕ → Type 0
@@ -48,16 +70,20 @@ pub record IsRefusal (OfHeld : (List ℕ → Type 0) → Type 0) (Gets : List �
 
 -- all statuses
 abbrev pub IsStatus : ℕ → Type 0
-IsStatus status = IsAmong (0 ∷ 2 ∷ 3 ∷ 4 ∷ 5 ∷ 6 ∷ 7 ∷ 8 ∷ []) status
+IsStatus status = IsAmong (0 ∷ 2 ∷ 3 ∷ 4 ∷ 5 ∷ 6 ∷ 7 ∷ 8 ∷ 9 ∷ []) status
 
 -- those with which nothing is written to the report's sink
 abbrev pub IsSilent : ℕ → Type 0
-IsSilent status = IsAmong (2 ∷ 5 ∷ 6 ∷ 8 ∷ []) status
+IsSilent status = IsAmong (2 ∷ 5 ∷ 6 ∷ 8 ∷ 9 ∷ []) status
 
 -- those with which no fault was met
 abbrev pub IsFaultless : ℕ → Type 0
-IsFaultless status = IsAmong (0 ∷ 2 ∷ 3 ∷ 4 ∷ 5 ∷ []) status
+IsFaultless status = IsAmong (0 ∷ 2 ∷ 3 ∷ 4 ∷ 5 ∷ 9 ∷ []) status
 
 -- those that come without an enumeration
 abbrev pub IsBefore : ℕ → Type 0
-IsBefore status = IsAmong (2 ∷ 5 ∷ 6 ∷ []) status
+IsBefore status = IsAmong (2 ∷ 5 ∷ 6 ∷ 9 ∷ []) status
+
+-- those that tell which line standard error gets
+abbrev pub IsToldByStatus : ℕ → Type 0
+IsToldByStatus status = IsAmong (0 ∷ 2 ∷ 3 ∷ 4 ∷ 7 ∷ 8 ∷ []) status

@@ -14,6 +14,14 @@ pub enum Ending {
     /// With the line that tells why.
     Refused(Vec<u8>),
     ReadFault,
+    /// The evidence could not be read.
+    EvidenceFault,
+    /// The evidence is refused. With the line that tells why.
+    EvidenceRefused(Vec<u8>),
+    /// The report of what the evidence shows is written.
+    Checked,
+    /// It could not be written to its end.
+    CheckCutOff,
     /// Memory was wanting. What an enumeration learnt before is not told.
     Memory,
     /// The report is written. With the line that tells which bound was reached, if any.
@@ -22,8 +30,8 @@ pub enum Ending {
     CutOff(Enumerated),
 }
 
-/// How a run ended: 0 complete, 2 bad command line, 3 budget spent, 4 limit reached, 5 input refused, 6 read fault, 7 write
-/// fault, 8 want of memory.
+/// How a run ended: 0 complete or accepted, 2 bad command line, 3 budget spent, 4 limit reached, 5 input refused, 6 read
+/// fault, 7 write fault, 8 want of memory, 9 evidence refused.
 ///
 /// After an enumeration, `closing` is what is left of it, `logs` are the steps of the worker's solver and of the map's, and
 /// `spent` is how many clauses were learnt in them.
@@ -77,7 +85,10 @@ pub fn finish_of(alloc: Global, ending: Ending) -> Finish
     match ending {
         Ending::BadWords => bare(alloc, 2),
         Ending::Refused(_) => bare(alloc, 5),
-        Ending::ReadFault => bare(alloc, 6),
+        Ending::ReadFault | Ending::EvidenceFault => bare(alloc, 6),
+        Ending::EvidenceRefused(_) => bare(alloc, 9),
+        Ending::Checked => bare(alloc, 0),
+        Ending::CheckCutOff => bare(alloc, 7),
         Ending::Memory => bare(alloc, 8),
         Ending::Listed(_, left) => after(status_by(left.closing.verdict), left),
         Ending::CutOff(left) => after(7, left),

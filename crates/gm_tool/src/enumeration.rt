@@ -1,10 +1,10 @@
 //! The enumeration of a problem, from its beginning to what is left of it.
 ghost use Rattle.std.specs.Prelude.{◌≡◌, ◌<◌, ◌≤◌, IfOk};
-ghost use Rattle.gm_tool.specs.Closed.{IsLeft, conflicts_in, corrections_in};
+ghost use Rattle.gm_tool.specs.Closed.{IsLeft};
 
 use crate::marco::enumerate;
-use evidence_rec::{Oracle, Record, Records};
-use gm_base::{Kind, Problem, Sets};
+use evidence_rec::{Oracle, Records};
+use gm_base::Problem;
 use group_oracle::GroupOracle;
 use known_sets::KnownSets;
 use lrat_steps::Logs;
@@ -57,31 +57,5 @@ pub fn list_sets(alloc: Global, problem: &Problem, bounds: Bounds) -> Result<Enu
         spent,
         logs,
         closing,
-    })
-}
-
-/// The sets of records, by kind. They are lent by the records.
-#[derive(Drop)]
-pub struct Found<'a> {
-    pub conflicts: Sets<'a>,
-    pub corrections: Sets<'a>,
-}
-
-/// The sets of the records, in the order of the records.
-pub fn sets_of<'a>(alloc: Global, records: &'a [Record]) -> Result<Found<'a>, AllocError>
-    ensures conflicts { IfOk result (λ found. found.conflicts ≡ conflicts_in records.now) }
-    ensures corrections { IfOk result (λ found. found.corrections ≡ corrections_in records.now) }
-{
-    let mut conflicts = Sets::new(alloc);
-    let mut corrections = Sets::new(alloc);
-    for made in records {
-        match made.kind() {
-            Kind::Conflict => conflicts.push(made.set())?,
-            Kind::Correction => corrections.push(made.set())?,
-        }
-    }
-    Ok(Found {
-        conflicts,
-        corrections,
     })
 }

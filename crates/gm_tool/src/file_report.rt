@@ -3,8 +3,7 @@ ghost use Rattle.std.specs.Prelude.{◌≡◌, ◌≢◌, ◌⊎◌, IfOk};
 ghost use Rattle.gm_ports.specs.Faults.{Rose};
 ghost use Rattle.gm_ports.specs.FilesState.{ReadingLeaves};
 ghost use Rattle.gm_base.specs.Problem.{Problem as GroupedClauses};
-ghost use Rattle.report_text.specs.Reports.{IsReportOf};
-ghost use Rattle.gm_tool.specs.Closed.{conflicts_in, corrections_in, is_complete, learned_in};
+ghost use Rattle.gm_tool.specs.Closed.{is_complete, learned_in};
 ghost use Rattle.gm_tool.specs.Endings.{error_line, finish_of, line_of, status_by};
 ghost use Rattle.gm_tool.specs.Input.{OfFile, IsReadAs};
 ghost use Rattle.gm_tool.specs.Listing.{IsAfterwards, IsPrepared, IsRefusing, TellsListing};
@@ -12,14 +11,14 @@ ghost use Rattle.gm_tool.specs.Run.{IsRefusal, IsSilent};
 
 use crate::bounds_line::{line_of_budget, line_of_limit};
 use crate::ending::Ending;
-use crate::enumeration::{Bounds, Enumerated, list_sets, sets_of};
+use crate::enumeration::{Bounds, Enumerated, list_sets};
 use crate::input::read_file;
+use crate::records_report::report_of;
 use crate::refusal::line_of_refusal;
 use gcnf_text::{Offence, Read};
 use gm_base::Problem;
 use gm_ports::{Failed, Files, Sink, write_all};
-use map_core::{Closing, Verdict};
-use report_text::report;
+use map_core::Verdict;
 use std::alloc::{AllocError, Global};
 
 /// The line that tells which bound was reached; no bytes where none was. An enumeration that wanted memory has no line.
@@ -50,27 +49,18 @@ pub struct Prepared {
     left: Enumerated,
 }
 
-/// The report of the sets that the records of a closing are about.
-fn text_of(alloc: Global, groups: u32, closing: &Closing) -> Result<Vec<u8>, AllocError>
-    ensures { IfOk result (λ text. IsReportOf groups (is_complete closing.now.verdict) (conflicts_in closing.now.records) (corrections_in closing.now.records) text.items) }
-{
-    let found = sets_of(alloc, closing.records.as_slice())?;
-    report(
-        alloc,
-        groups,
-        is_complete(closing.verdict),
-        &found.conflicts,
-        &found.corrections,
-    )
-}
-
 /// Enumerates, and makes all that is to be written.
 fn prepare(alloc: Global, problem: &Problem, bounds: Bounds) -> Result<Prepared, AllocError>
     ensures { IfOk result (IsPrepared problem.now bounds) }
 {
     let left = list_sets(alloc, problem, bounds)?;
     let line = line_by(alloc, bounds, left.closing.verdict)?;
-    let text = text_of(alloc, problem.groups(), &left.closing)?;
+    let text = report_of(
+        alloc,
+        problem.groups(),
+        is_complete(left.closing.verdict),
+        left.closing.records.as_slice(),
+    )?;
     Ok(Prepared { line, text, left })
 }
 
@@ -95,7 +85,7 @@ fn list_problem<O: Sink>(alloc: Global, problem: &Problem, bounds: Bounds, out: 
 }
 
 /// Ends with the line of an offence.
-fn refuse(alloc: Global, offence: Offence) -> Ending
+pub fn refuse(alloc: Global, offence: Offence) -> Ending
     ensures { IsRefusing offence result }
 {
     match line_of_refusal(alloc, offence) {
@@ -113,6 +103,7 @@ pub fn list_file<F: Files, O: Sink>(
     out: &mut O,
 ) -> Ending
     ensures not_words { (finish_of result).status ≢ 2 }
+    ensures not_evidence { (finish_of result).status ≢ 9 }
     ensures listing { IsAfterwards (finish_of result).status → (p : GroupedClauses) × OfFile ((F.state files.old).held name.now) (IsReadAs p (F.state files.new).unread)
         × TellsListing p bounds (O.got out.old) (O.got out.new) (finish_of result) }
     ensures refused { (finish_of result).status ≡ 5 → IsRefusal (OfFile ((F.state files.old).held name.now)) (λ line. line_of result ≡ line) }

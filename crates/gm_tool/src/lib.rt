@@ -16,6 +16,7 @@
 #![tactic(auto)]
 
 mod bounds_line;
+mod check_report;
 mod ending;
 mod enumeration;
 mod error_line;
@@ -25,6 +26,7 @@ mod marco;
 #[cfg(test)]
 mod plain;
 mod program;
+mod records_report;
 mod refusal;
 #[cfg(test)]
 mod tests;

@@ -1,54 +1,48 @@
 //! The whole program, as one call.
-ghost use Rattle.std.specs.Prelude.{◌≡◌, ◌≢◌, ◌⊎◌, map, [], ◌∷◌, None};
+ghost use Rattle.std.specs.Prelude.{◌≡◌, ◌⊎◌, map, [], ◌∷◌, Some, None};
 ghost use Rattle.std.specs.String.{string_bytes};
 ghost use Rattle.gm_base.specs.Problem.{Problem};
 ghost use Rattle.gm_ports.specs.Faults.{Rose};
 ghost use Rattle.gm_ports.specs.FilesState.{ReadingLeaves};
-ghost use Rattle.gm_words.specs.Reading.{words_read};
-ghost use Rattle.gm_words.specs.Requests.{asked_by};
+ghost use Rattle.gcnf_text.specs.Grammar.{Reads};
+ghost use Rattle.gm_words.specs.Reading.{Listing as Listed, Checking as Checked, words_read, listing, checking};
 ghost use Rattle.gm_tool.specs.Closed.{learned_in};
-ghost use Rattle.gm_tool.specs.Endings.{bare, error_line};
-ghost use Rattle.gm_tool.specs.Input.{IsReadAs};
+ghost use Rattle.gm_tool.specs.Checking.{IsChecked, IsEvidenceRefusal};
+ghost use Rattle.gm_tool.specs.Endings.{bare, error_line, input_fault_line, evidence_fault_line};
+ghost use Rattle.gm_tool.specs.Input.{OfFile, IsReadAs};
 ghost use Rattle.gm_tool.specs.Listing.{IsAfterwards, IsAmong, TellsListing};
-ghost use Rattle.gm_tool.specs.Run.{OfNamed, TellsAccepted, GetsLine, IsRefusal, IsStatus, IsSilent, IsFaultless, IsBefore, bounds_in, bounds_of, file_asked};
+ghost use Rattle.gm_tool.specs.Run.{OfNamed, TellsAccepted, ChecksAccepted, GetsLine, IsRefusal, IsStatus, IsSilent, IsFaultless, IsBefore, IsToldByStatus, bounds_for, bounds_of};
 
+use crate::check_report::check_file;
 use crate::ending::{Ending, Finish, finish_of};
 use crate::enumeration::Bounds;
 use crate::error_line::write_error_line;
 use crate::file_report::list_file;
 use gm_ports::{Files, Sink};
-use gm_words::{Request, read_words};
+use gm_words::{Listing, Request, read_words};
 use std::alloc::{AllocError, Global};
 use std::sync::Wait;
 use std::thread::Threads;
 
-/// The file that is to be listed.
-fn file_of<'a>(request: Request<'a>) -> &'a str
-    ensures { result.now ≡ file_asked (asked_by request.entry) }
-{
-    match request {
-        Request::List(listing) => listing.file,
-    }
-}
-
 /// The bounds of the listing.
-fn bounds_in(request: Request<'_>) -> Bounds
-    ensures { result ≡ bounds_in (asked_by request.entry) }
+fn bounds_for(listing: Listing<'_>) -> Bounds
+    ensures conflicts { result.conflicts ≡ listing.entry.conflicts }
+    ensures limit { result.limit ≡ listing.entry.limit }
 {
-    match request {
-        Request::List(listing) => Bounds {
-            conflicts: listing.conflicts,
-            limit: listing.limit,
-        },
+    Bounds {
+        conflicts: listing.conflicts,
+        limit: listing.limit,
     }
 }
 
-/// Lists all minimal conflicts and corrections of the file that the words name.
+/// Lists all minimal conflicts and corrections of the file that the words name, or checks evidence about it.
 ///
-/// `words` are those behind the program's name. Status 0 says that the file is accepted and was read to its end, and that
-/// `out` got exactly the report of all its minimal conflicts and all its minimal corrections, each once, in lexicographic
-/// order. Status 3 says that as many clauses were learnt as `--conflicts` allows, and status 4 that as many sets were
-/// recorded as `--limit` allows; `out` got a report of these sets, each of which is minimal.
+/// `words` are those behind the program's name. Status 0 of `list` says that the file is accepted and was read to its end,
+/// and that `out` got exactly the report of all its minimal conflicts and all its minimal corrections, each once, in
+/// lexicographic order. Status 3 says that as many clauses were learnt as `--conflicts` allows, and status 4 that as many
+/// sets were recorded as `--limit` allows; `out` got a report of these sets, each of which is minimal. Status 0 of `check`
+/// says that file and evidence are accepted, and that `out` got the report of the sets that the evidence shows to be
+/// minimal, of all where it is complete.
 pub fn run<R: Threads + Wait + Sync, F: Files, O: Sink, E: Sink>(
     _rt: &R,
     alloc: Global,
@@ -61,12 +55,18 @@ pub fn run<R: Threads + Wait + Sync, F: Files, O: Sink, E: Sink>(
     ensures learned { result.spent ≡ learned_in result.logs }
 
     // What each status tells.
-    ensures listing { IsAfterwards result.status → (p : Problem) × OfNamed (words_read (map string_bytes words.now)) (F.state files.old) (IsReadAs p (F.state files.new).unread)
-        × TellsListing p (bounds_of (words_read (map string_bytes words.now))) (O.got out.old) (O.got out.new) result }
+    ensures listing { (l : Listed) → words_read (map string_bytes words.now) ≡ Some (listing l) → IsAfterwards result.status →
+        (p : Problem) × OfFile ((F.state files.old).held l.file) (IsReadAs p (F.state files.new).unread) × TellsListing p (bounds_for l) (O.got out.old) (O.got out.new) result }
+    ensures checking { (c : Checked) → words_read (map string_bytes words.now) ≡ Some (checking c) → IsAfterwards result.status →
+        (p : Problem) × OfFile ((F.state files.old).held c.file) (λ text. Reads text p) × IsChecked p ((F.state files.old).held c.evidence) result.status (O.got out.old) (O.got out.new) }
     ensures nothing_listed { IsBefore result.status → result ≡ bare result.status }
+    ensures nothing_listed_in_check { (c : Checked) → words_read (map string_bytes words.now) ≡ Some (checking c) → result ≡ bare result.status }
     ensures bad_words { result.status ≡ 2 → words_read (map string_bytes words.now) ≡ None }
     ensures refused { result.status ≡ 5 → IsRefusal (OfNamed (words_read (map string_bytes words.now)) (F.state files.old))
         (λ line. GetsLine line (E.got err.old) (E.got err.new) (E.faults err.old) (E.faults err.new)) }
+    ensures evidence_refused { result.status ≡ 9 → (c : Checked) × (words_read (map string_bytes words.now) ≡ Some (checking c)) × (p : Problem)
+        × OfFile ((F.state files.old).held c.file) (λ text. Reads text p)
+        × IsEvidenceRefusal p ((F.state files.old).held c.evidence) (λ line. GetsLine line (E.got err.old) (E.got err.new) (E.faults err.old) (E.faults err.new)) }
     ensures read_fault { result.status ≡ 6 → Rose (F.state files.old).read_faults (F.state files.new).read_faults }
     ensures write_fault { result.status ≡ 7 → Rose (O.faults out.old) (O.faults out.new) }
 
@@ -81,10 +81,13 @@ pub fn run<R: Threads + Wait + Sync, F: Files, O: Sink, E: Sink>(
     ensures silent { IsSilent result.status → O.got out.new ≡ O.got out.old }
     ensures no_read_fault_dropped { IsFaultless result.status → (F.state files.new).read_faults ≡ (F.state files.old).read_faults }
     ensures no_write_fault_dropped { IsFaultless result.status → O.faults out.new ≡ O.faults out.old }
-    ensures error_line { result.status ≢ 5 → GetsLine (error_line (bounds_of (words_read (map string_bytes words.now))) result.status) (E.got err.old) (E.got err.new) (E.faults err.old) (E.faults err.new) }
+    ensures error_line { IsToldByStatus result.status → GetsLine (error_line (bounds_of (words_read (map string_bytes words.now))) result.status) (E.got err.old) (E.got err.new) (E.faults err.old) (E.faults err.new) }
+    ensures fault_line { result.status ≡ 6 → GetsLine input_fault_line (E.got err.old) (E.got err.new) (E.faults err.old) (E.faults err.new)
+        ⊎ (GetsLine evidence_fault_line (E.got err.old) (E.got err.new) (E.faults err.old) (E.faults err.new) × ChecksAccepted (words_read (map string_bytes words.now)) (F.state files.old)) }
 {
     let ending = match read_words(alloc, words) {
-        Ok(Some(request)) => { list_file(alloc, file_of(request), bounds_in(request), files, out) }
+        Ok(Some(Request::List(listing))) => { list_file(alloc, listing.file, bounds_for(listing), files, out) }
+        Ok(Some(Request::Check(checking))) => { check_file(alloc, checking.file, checking.evidence, files, out) }
         Ok(None) => Ending::BadWords,
         Err(AllocError) => Ending::Memory,
     };

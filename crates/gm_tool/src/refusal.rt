@@ -1,8 +1,9 @@
-//! The line that tells why a file is refused.
+//! The lines that tell why a file is refused, and why evidence is.
 ghost use Rattle.std.specs.Prelude.{◌≡◌, IfOk};
-ghost use Rattle.gm_tool.specs.Refusals.{refusal_line, limit_text};
+ghost use Rattle.gm_tool.specs.Refusals.{evidence_line, refusal_line, limit_text};
 
 use gcnf_text::{Limit, Offence};
+use lrat_check::Why;
 use std::alloc::{AllocError, Global};
 use token_text::put_number;
 
@@ -36,4 +37,20 @@ pub fn line_of_refusal(alloc: Global, offence: Offence) -> Result<Vec<u8>, Alloc
     put_number(&mut line, i128::from(offence.byte))?;
     line.extend_from_slice(b"\n")?;
     Ok(line)
+}
+
+/// The line of the evidence, and the number and the name of what it is refused for.
+#[tactic(auto, unfolding(crate::specs::Refusals::evidence_line))]
+pub fn line_of_evidence(alloc: Global, line: u64, why: &Why) -> Result<Vec<u8>, AllocError>
+    ensures { IfOk result (λ text. text.items ≡ evidence_line (record { line = line; why = why.now })) }
+{
+    let mut text = Vec::new(alloc);
+    text.extend_from_slice(b"gmus: evidence refused: line ")?;
+    put_number(&mut text, i128::from(line))?;
+    text.extend_from_slice(b": ")?;
+    put_number(&mut text, i128::from(why.number()))?;
+    text.extend_from_slice(b" ")?;
+    text.extend_from_slice(why.name().as_bytes())?;
+    text.extend_from_slice(b"\n")?;
+    Ok(text)
 }

@@ -1,3 +1,5 @@
+mod checking;
+
 use super::*;
 use crate::plain::draw_problem;
 use gm_ports::{Calls, MemFiles, MemSink, Rooms, Texts};

@@ -1,16 +1,16 @@
 //! The program over the system's files and streams.
 //!
 //! They tell nothing of their bytes, so what `run` says of bytes says nothing here: not that the listed problem is the one
-//! in the file, nor that its report was written. All else stays, and is said once more for this program alone.
-ghost use Rattle.std.specs.Prelude.{◌≡◌, ◌⊎◌, map, None, MatchOption};
+//! in the file, nor that its report was written, nor what evidence was read and checked. All else stays, and is said once more for this program alone.
+ghost use Rattle.std.specs.Prelude.{◌≡◌, ◌⊎◌, map, Some, None, MatchOption};
 ghost use Rattle.std.specs.String.{string_bytes};
 ghost use Rattle.gm_base.specs.Problem.{Problem};
 ghost use Rattle.gm_ports.specs.Faults.{Rose};
-ghost use Rattle.gm_words.specs.Reading.{words_read};
+ghost use Rattle.gm_words.specs.Reading.{Listing as Listed, Checking as Checked, words_read, listing, checking};
 ghost use Rattle.gm_tool.specs.Closed.{learned_in};
 ghost use Rattle.gm_tool.specs.Endings.{bare};
 ghost use Rattle.gm_tool.specs.Listing.{IsAfterwards, IsEnumerated};
-ghost use Rattle.gm_tool.specs.Run.{IsStatus, IsFaultless, IsBefore, bounds_of};
+ghost use Rattle.gm_tool.specs.Run.{IsStatus, IsFaultless, IsBefore, bounds_for};
 
 use crate::files::RealFiles;
 use crate::sinks::StreamSink;
@@ -34,9 +34,10 @@ pub fn run_on_system<R: rt::Files + Threads + Wait + Sync, O: Print, E: Print>(
     ensures learned { result.spent ≡ learned_in result.logs }
 
     // What each status tells.
-    ensures enumerated { IsAfterwards result.status → (p : Problem) × MatchOption result.closing ⊥
-        (IsEnumerated p (bounds_of (words_read (map string_bytes words.now))) result.status result.logs) }
+    ensures enumerated { (l : Listed) → words_read (map string_bytes words.now) ≡ Some (listing l) → IsAfterwards result.status →
+        (p : Problem) × MatchOption result.closing ⊥ (IsEnumerated p (bounds_for l) result.status result.logs) }
     ensures nothing_listed { IsBefore result.status → result ≡ bare result.status }
+    ensures nothing_listed_in_check { (c : Checked) → words_read (map string_bytes words.now) ≡ Some (checking c) → result ≡ bare result.status }
     ensures bad_words { result.status ≡ 2 → words_read (map string_bytes words.now) ≡ None }
     ensures read_fault { result.status ≡ 6 → Rose files.old.read_faults files.new.read_faults }
     ensures write_fault { result.status ≡ 7 → Rose out.old.faults out.new.faults }

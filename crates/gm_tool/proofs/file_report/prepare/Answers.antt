@@ -1,4 +1,6 @@
+use Rattle.gm_tool.specs.Closed.{is_complete}
 use Rattle.gm_tool.proofs.ReportLemmas.{report_for-from}
+use Rattle.gm_tool.proofs.CheckLemmas.{report_with}
 use Rattle.gm_tool.proofs.file_report.prepare.Goals as goal
 
 -- the text is the report of the sets of the closing's records
@@ -11,5 +13,6 @@ returns c =
       line = c.in_ok-line.ensures.line;
       text =
           report_for-from c.args.problem.now c.args.bounds left.logs left.closing c.groups.result c.in_ok-text.text.items
-          c.in_ok-left.ensures.closed c.groups.ensures.count c.in_ok-text.ensures;
+          c.in_ok-left.ensures.closed c.groups.ensures.count
+          (report_with c.groups.result c.is_complete.result (is_complete left.closing.verdict) c.as_slice.result.now left.closing.records c.in_ok-text.text.items c.is_complete.ensures c.as_slice.ensures c.in_ok-text.ensures);
     }

@@ -1,32 +1,57 @@
-use Rattle.std.proofs.Common.{◌∙◌, map, sym, ap, subst, option_map, arith}
+use Rattle.std.proofs.Common.{◌≡◌, ℕ, List, ◌∙◌, map, sym, ap, ap₂, subst, refl, option_map, Some, None, [], ◌∷◌, arith}
 use Rattle.std.specs.String.{string_bytes}
 use Rattle.std.proofs.lemmas.Bool.{false≢true}
 use Rattle.gcnf_text.specs.Read.{IsRefused}
-use Rattle.gm_words.specs.Reading.{words_read}
+use Rattle.gm_ports.specs.Faults.{Rose}
+use Rattle.gm_words.specs.Reading.{Asked, Listing, Checking, words_read, listing, checking}
 use Rattle.gm_words.specs.Requests.{asked_by}
 use Rattle.gm_tool.specs.declared.enumeration.Bounds.{Bounds}
+use Rattle.gm_tool.specs.declared.ending.Ending.{Ending}
 use Rattle.gm_tool.specs.declared.ending.Finish.{Finish}
 use Rattle.gm_tool.specs.Endings.{error_line, finish_of, line_of}
-use Rattle.gm_tool.specs.Listing.{IsAfterwards}
-use Rattle.gm_tool.specs.Run.{GetsLine, bounds_of}
-use Rattle.gm_tool.proofs.RunLemmas.{listing-from, named-from}
+use Rattle.gm_tool.specs.Listing.{IsAfterwards, IsAmong}
+use Rattle.gm_tool.specs.Run.{GetsLine, IsToldByStatus, TellsAccepted, bounds_for, bounds_of}
+use Rattle.gm_tool.proofs.RunLemmas.{named-from, same_listing, same_checking, not_both, not_none, listing-from, checking-from, ending_status, left_of, not_refused, not_refused-alone, not_refused-evidence}
 use Rattle.gm_tool.proofs.program.run.Goals as goal
-use Rattle.gm_tool.proofs.program.run.Goals.{in-Ok-Some, in-Ok-None, in-Err}
+use Rattle.gm_tool.proofs.program.run.Goals.{in-Ok-Some-List, in-Ok-Some-Check, in-Ok-None, in-Err}
 
--- what is told of the listed file is told of the file that the words name
+-- what is told of the listed file
 pub returns-clause-listing : goal.returns-clause-listing
-returns-clause-listing g c = λ afterwards.
+returns-clause-listing g c = λ l asks afterwards.
     let files = g.F.Files.state c.args.files.now in
     let words = words_read (map string_bytes c.args.words.now) in
     elim c.match-read_words.branch [
-      | in-Ok-Some w ↦
+      | in-Ok-Some-List w ↦
           let r = w.list_file-ending in
-          let asked = sym (ap (option_map asked_by) w.in-Ok-Some.field-0-is) ∙ w.in-Ok-Some.ensures.asked in
-          listing-from (asked_by w.in-Ok-Some.request) words files w.file_of.result.now w.bounds_in.result
+          let asked = sym (ap (option_map asked_by) (w.in-Ok-Some-List.field-0-is ∙ ap Some w.in-Ok-Some-List.field-0-0-is)) ∙ w.in-Ok-Some-List.ensures.asked in
+          listing-from files _ l w.bounds_for.result
           (g.F.Files.state r.new.files).unread (g.F.Files.state c.match-read_words.files).unread
           (g.O.Sink.got c.args.out.now) (g.O.Sink.got r.new.out) (g.O.Sink.got c.match-read_words.out) (finish_of r.result) c.finish_of.result
-          asked w.file_of.ensures w.bounds_in.ensures (ap (λ f. (g.F.Files.state f).unread) w.files-is) (ap g.O.Sink.got w.out-is)
+          (same_listing words _ l asked asks) (ap₂ (λ (conflicts limit : ℕ). record { conflicts = conflicts; limit = limit }) w.bounds_for.ensures.conflicts w.bounds_for.ensures.limit)
+          (ap (λ f. (g.F.Files.state f).unread) w.files-is) (ap g.O.Sink.got w.out-is)
           (c.finish_of.ensures ∙ ap finish_of w.ending-is) r.ensures.listing afterwards
+      | in-Ok-Some-Check w ↦
+          let asked = sym (ap (option_map asked_by) (w.in-Ok-Some-Check.field-0-is ∙ ap Some w.in-Ok-Some-Check.field-0-0-is)) ∙ w.in-Ok-Some-Check.ensures.asked in
+          absurd (not_both words l _ (sym asks) (sym asked))
+      | in-Ok-None w ↦ absurd (false≢true (subst (λ (f : Finish). IsAfterwards f.status) (c.finish_of.ensures ∙ ap finish_of w.ending-is) afterwards))
+      | in-Err w ↦ absurd (false≢true (subst (λ (f : Finish). IsAfterwards f.status) (c.finish_of.ensures ∙ ap finish_of w.ending-is) afterwards))
+    ]
+
+-- what is told of the checked file and of the evidence
+pub returns-clause-checking : goal.returns-clause-checking
+returns-clause-checking g c = λ d asks afterwards.
+    let files = g.F.Files.state c.args.files.now in
+    let words = words_read (map string_bytes c.args.words.now) in
+    elim c.match-read_words.branch [
+      | in-Ok-Some-List w ↦
+          let asked = sym (ap (option_map asked_by) (w.in-Ok-Some-List.field-0-is ∙ ap Some w.in-Ok-Some-List.field-0-0-is)) ∙ w.in-Ok-Some-List.ensures.asked in
+          absurd (not_both words _ d asked asks)
+      | in-Ok-Some-Check w ↦
+          let r = w.check_file-ending in
+          let asked = sym (ap (option_map asked_by) (w.in-Ok-Some-Check.field-0-is ∙ ap Some w.in-Ok-Some-Check.field-0-0-is)) ∙ w.in-Ok-Some-Check.ensures.asked in
+          checking-from files _ d (g.O.Sink.got c.args.out.now) (g.O.Sink.got r.new.out) (g.O.Sink.got c.match-read_words.out)
+          (finish_of r.result).status c.finish_of.result.status (same_checking words _ d asked asks) (ap g.O.Sink.got w.out-is)
+          (ap (λ (f : Finish). f.status) (c.finish_of.ensures ∙ ap finish_of w.ending-is)) r.ensures.checked afterwards
       | in-Ok-None w ↦ absurd (false≢true (subst (λ (f : Finish). IsAfterwards f.status) (c.finish_of.ensures ∙ ap finish_of w.ending-is) afterwards))
       | in-Err w ↦ absurd (false≢true (subst (λ (f : Finish). IsAfterwards f.status) (c.finish_of.ensures ∙ ap finish_of w.ending-is) afterwards))
     ]
@@ -36,40 +61,108 @@ pub returns-clause-refused : goal.returns-clause-refused
 returns-clause-refused g c = λ five.
     let files = g.F.Files.state c.args.files.now in
     let words = words_read (map string_bytes c.args.words.now) in
+    let Line : List ℕ → Type 0 = λ line. GetsLine line (g.E.Sink.got c.args.err.now) (g.E.Sink.got c.write_error_line.new.err) (g.E.Sink.faults c.args.err.now) (g.E.Sink.faults c.write_error_line.new.err) in
     elim c.match-read_words.branch [
-      | in-Ok-Some w ↦
+      | in-Ok-Some-List w ↦
           let r = w.list_file-ending in
-          let asked = sym (ap (option_map asked_by) w.in-Ok-Some.field-0-is) ∙ w.in-Ok-Some.ensures.asked in
+          let asked = sym (ap (option_map asked_by) (w.in-Ok-Some-List.field-0-is ∙ ap Some w.in-Ok-Some-List.field-0-0-is)) ∙ w.in-Ok-Some-List.ensures.asked in
           let status = ap (λ (f : Finish). f.status) (c.finish_of.ensures ∙ ap finish_of w.ending-is) in
           let h = r.ensures.refused (sym status ∙ five) in
           record {
             offence = h.offence;
-            first = named-from (asked_by w.in-Ok-Some.request) words files w.file_of.result.now (λ text. IsRefused text h.offence) asked w.file_of.ensures h.first;
-            line =
-                subst
-                (λ line. GetsLine line (g.E.Sink.got c.args.err.now) (g.E.Sink.got c.write_error_line.new.err) (g.E.Sink.faults c.args.err.now) (g.E.Sink.faults c.write_error_line.new.err))
-                (ap line_of w.ending-is ∙ h.line) c.write_error_line.ensures;
+            first = named-from _ words files (λ text. IsRefused text h.offence) asked h.first;
+            line = subst Line (ap line_of w.ending-is ∙ h.line) c.write_error_line.ensures;
           }
+      | in-Ok-Some-Check w ↦
+          let r = w.check_file-ending in
+          let asked = sym (ap (option_map asked_by) (w.in-Ok-Some-Check.field-0-is ∙ ap Some w.in-Ok-Some-Check.field-0-0-is)) ∙ w.in-Ok-Some-Check.ensures.asked in
+          let status = ap (λ (f : Finish). f.status) (c.finish_of.ensures ∙ ap finish_of w.ending-is) in
+          let h = r.ensures.refused (sym status ∙ five) in
+          record {
+            offence = h.offence;
+            first = named-from _ words files (λ text. IsRefused text h.offence) asked h.first;
+            line = subst Line (ap line_of w.ending-is ∙ h.line) c.write_error_line.ensures;
+          }
+      | in-Ok-None w ↦ let status = ap (λ (f : Finish). f.status) (c.finish_of.ensures ∙ ap finish_of w.ending-is) in absurd (omega arith)
+      | in-Err w ↦ let status = ap (λ (f : Finish). f.status) (c.finish_of.ensures ∙ ap finish_of w.ending-is) in absurd (omega arith)
+    ]
+
+-- and evidence only where they ask for a checking
+pub returns-clause-evidence_refused : goal.returns-clause-evidence_refused
+returns-clause-evidence_refused g c = λ nine.
+    let Line : List ℕ → Type 0 = λ line. GetsLine line (g.E.Sink.got c.args.err.now) (g.E.Sink.got c.write_error_line.new.err) (g.E.Sink.faults c.args.err.now) (g.E.Sink.faults c.write_error_line.new.err) in
+    elim c.match-read_words.branch [
+      | in-Ok-Some-List w ↦
+          let r = w.list_file-ending in
+          let status = ap (λ (f : Finish). f.status) (c.finish_of.ensures ∙ ap finish_of w.ending-is) in
+          absurd (r.ensures.not_evidence (sym status ∙ nine))
+      | in-Ok-Some-Check w ↦
+          let r = w.check_file-ending in
+          let asked = sym (ap (option_map asked_by) (w.in-Ok-Some-Check.field-0-is ∙ ap Some w.in-Ok-Some-Check.field-0-0-is)) ∙ w.in-Ok-Some-Check.ensures.asked in
+          let status = ap (λ (f : Finish). f.status) (c.finish_of.ensures ∙ ap finish_of w.ending-is) in
+          let h = r.ensures.evidence_refused (sym status ∙ nine) in
+          (_, sym asked, h.0, h.1, record {
+            refusal = h.2.refusal;
+            first = h.2.first;
+            line = subst Line (ap line_of w.ending-is ∙ h.2.line) c.write_error_line.ensures;
+          })
       | in-Ok-None w ↦ let status = ap (λ (f : Finish). f.status) (c.finish_of.ensures ∙ ap finish_of w.ending-is) in absurd (omega arith)
       | in-Err w ↦ let status = ap (λ (f : Finish). f.status) (c.finish_of.ensures ∙ ap finish_of w.ending-is) in absurd (omega arith)
     ]
 
 -- the line is that of the status
 pub returns-clause-error_line : goal.returns-clause-error_line
-returns-clause-error_line g c = λ other.
+returns-clause-error_line g c = λ by_status.
     let words = words_read (map string_bytes c.args.words.now) in
     subst
     (λ line. GetsLine line (g.E.Sink.got c.args.err.now) (g.E.Sink.got c.write_error_line.new.err) (g.E.Sink.faults c.args.err.now) (g.E.Sink.faults c.write_error_line.new.err))
     (elim c.match-read_words.branch [
-      | in-Ok-Some w ↦
+      | in-Ok-Some-List w ↦
           let r = w.list_file-ending in
-          let asked = sym (ap (option_map asked_by) w.in-Ok-Some.field-0-is) ∙ w.in-Ok-Some.ensures.asked in
+          let asked = sym (ap (option_map asked_by) (w.in-Ok-Some-List.field-0-is ∙ ap Some w.in-Ok-Some-List.field-0-0-is)) ∙ w.in-Ok-Some-List.ensures.asked in
           let status = ap (λ (f : Finish). f.status) (c.finish_of.ensures ∙ ap finish_of w.ending-is) in
           ap line_of w.ending-is
-          ∙ r.ensures.line (λ five. other (status ∙ five))
-          ∙ ap (λ (b : Bounds). error_line b (finish_of r.result).status) (w.bounds_in.ensures ∙ ap bounds_of asked)
+          ∙ r.ensures.line (λ five. false≢true (subst IsToldByStatus (status ∙ five) by_status))
+          ∙ ap (λ (b : Bounds). error_line b (finish_of r.result).status)
+          (ap₂ (λ (conflicts limit : ℕ). record { conflicts = conflicts; limit = limit }) w.bounds_for.ensures.conflicts w.bounds_for.ensures.limit ∙ ap bounds_of asked)
           ∙ ap (error_line (bounds_of words)) (sym status)
+      | in-Ok-Some-Check w ↦
+          let r = w.check_file-ending in
+          let status = ap (λ (f : Finish). f.status) (c.finish_of.ensures ∙ ap finish_of w.ending-is) in
+          ap line_of w.ending-is ∙ r.ensures.line (subst IsToldByStatus status by_status) (bounds_of words) ∙ ap (error_line (bounds_of words)) (sym status)
       | in-Ok-None w ↦ ap line_of w.ending-is ∙ ap (λ (f : Finish). error_line (bounds_of words) f.status) (sym (c.finish_of.ensures ∙ ap finish_of w.ending-is))
       | in-Err w ↦ ap line_of w.ending-is ∙ ap (λ (f : Finish). error_line (bounds_of words) f.status) (sym (c.finish_of.ensures ∙ ap finish_of w.ending-is))
     ])
     c.write_error_line.ensures
+
+-- what is accepted is not refused
+pub returns-clause-accepted : goal.returns-clause-accepted
+returns-clause-accepted g c = λ no_read no_write tells.
+    let files = g.F.Files.state c.args.files.now in
+    elim c.match-read_words.branch [
+      | in-Ok-Some-List w ↦
+          let r = w.list_file-ending in
+          let asked = sym (ap (option_map asked_by) (w.in-Ok-Some-List.field-0-is ∙ ap Some w.in-Ok-Some-List.field-0-0-is)) ∙ w.in-Ok-Some-List.ensures.asked in
+          let accepted = subst (λ words. TellsAccepted words files) (sym asked) tells in
+          subst (λ (f : Finish). IsAmong (0 ∷ 3 ∷ 4 ∷ 8 ∷ []) f.status) (sym (c.finish_of.ensures ∙ ap finish_of w.ending-is))
+          (left_of (finish_of r.result).status (ending_status r.result) r.ensures.not_words
+          (λ five. let h = r.ensures.refused five in not_refused-alone _ h.offence accepted h.first)
+          (λ six. no_read (subst (λ f. Rose files.read_faults (g.F.Files.state f).read_faults) (sym w.files-is) (r.ensures.read_fault six)))
+          (λ seven. no_write (subst (λ o. Rose (g.O.Sink.faults c.args.out.now) (g.O.Sink.faults o)) (sym w.out-is) (r.ensures.write_fault seven)))
+          r.ensures.not_evidence)
+      | in-Ok-Some-Check w ↦
+          let r = w.check_file-ending in
+          let asked = sym (ap (option_map asked_by) (w.in-Ok-Some-Check.field-0-is ∙ ap Some w.in-Ok-Some-Check.field-0-0-is)) ∙ w.in-Ok-Some-Check.ensures.asked in
+          let accepted = subst (λ words. TellsAccepted words files) (sym asked) tells in
+          subst (λ (f : Finish). IsAmong (0 ∷ 3 ∷ 4 ∷ 8 ∷ []) f.status) (sym (c.finish_of.ensures ∙ ap finish_of w.ending-is))
+          (left_of (finish_of r.result).status (ending_status r.result)
+          (λ two. false≢true (subst (IsAmong (0 ∷ 5 ∷ 6 ∷ 7 ∷ 8 ∷ 9 ∷ [])) two r.ensures.statuses))
+          (λ five. let h = r.ensures.refused five in not_refused _ _ h.offence accepted h.first)
+          (λ six. no_read (subst (λ f. Rose files.read_faults (g.F.Files.state f).read_faults) (sym w.files-is) (r.ensures.read_fault six)))
+          (λ seven. no_write (subst (λ o. Rose (g.O.Sink.faults c.args.out.now) (g.O.Sink.faults o)) (sym w.out-is) (r.ensures.write_fault seven)))
+          (λ nine. let h = r.ensures.evidence_refused nine in not_refused-evidence files _ h.0 _ accepted h.1 h.2))
+      | in-Ok-None w ↦
+          let asked : None ≡ words_read (map string_bytes c.args.words.now) = sym (ap (option_map asked_by) w.in-Ok-None.field-0-is) ∙ w.in-Ok-None.ensures.asked in
+          absurd (subst (λ words. TellsAccepted words files) (sym asked) tells)
+      | in-Err w ↦ subst (λ (f : Finish). IsAmong (0 ∷ 3 ∷ 4 ∷ 8 ∷ []) f.status) (sym (c.finish_of.ensures ∙ ap finish_of w.ending-is)) refl
+    ]

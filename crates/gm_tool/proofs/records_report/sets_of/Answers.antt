@@ -1,7 +1,7 @@
 use Rattle.std.proofs.Common.{◌∙◌, sym, ap₂, List, ℕ, [], ◌∷◌, ◌++◌}
 use Rattle.evidence_rec.proofs.HeldLemmas.{conflict-next, correction-next}
-use Rattle.gm_tool.proofs.enumeration.sets_of.Goals as goal
-use Rattle.gm_tool.proofs.enumeration.sets_of.Goals.{in-Conflict+in_ok-push-in-Conflict, in-Correction+in_ok-push-in-Correction}
+use Rattle.gm_tool.proofs.records_report.sets_of.Goals as goal
+use Rattle.gm_tool.proofs.records_report.sets_of.Goals.{in-Conflict+in_ok-push-in-Conflict, in-Correction+in_ok-push-in-Correction}
 
 -- one record more has one set more of its kind
 pub loop-made-preserved : goal.loop-made-preserved

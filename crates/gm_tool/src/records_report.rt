@@ -1,0 +1,54 @@
+//! The report of the sets that records are about.
+ghost use Rattle.std.specs.Prelude.{◌≡◌, ◌<◌, ◌≤◌, IfOk};
+ghost use Rattle.report_text.specs.Reports.{IsReportOf};
+ghost use Rattle.gm_tool.specs.Closed.{conflicts_in, corrections_in};
+
+use evidence_rec::Record;
+use gm_base::{Kind, Sets};
+use report_text::report;
+use std::alloc::{AllocError, Global};
+
+/// The sets of records, by kind. They are lent by the records.
+#[derive(Drop)]
+struct Found<'a> {
+    conflicts: Sets<'a>,
+    corrections: Sets<'a>,
+}
+
+/// The report of the sets of these records, where the greatest group is this one; complete or not.
+pub fn report_of(
+    alloc: Global,
+    groups: u32,
+    complete: bool,
+    records: &[Record],
+) -> Result<Vec<u8>, AllocError>
+    ensures { IfOk result (λ text. IsReportOf groups complete (conflicts_in records.now) (corrections_in records.now) text.items) }
+{
+    let found = sets_of(alloc, records)?;
+    report(
+        alloc,
+        groups,
+        complete,
+        &found.conflicts,
+        &found.corrections,
+    )
+}
+
+// The sets of the records, in the order of the records.
+fn sets_of<'a>(alloc: Global, records: &'a [Record]) -> Result<Found<'a>, AllocError>
+    ensures conflicts { IfOk result (λ found. found.conflicts ≡ conflicts_in records.now) }
+    ensures corrections { IfOk result (λ found. found.corrections ≡ corrections_in records.now) }
+{
+    let mut conflicts = Sets::new(alloc);
+    let mut corrections = Sets::new(alloc);
+    for made in records {
+        match made.kind() {
+            Kind::Conflict => conflicts.push(made.set())?,
+            Kind::Correction => corrections.push(made.set())?,
+        }
+    }
+    Ok(Found {
+        conflicts,
+        corrections,
+    })
+}
