@@ -104,6 +104,20 @@ try 'an empty file' 5 'gmus: input refused: 1 NoHeader at line 1 byte 1' nothing
 try 'a file that is not there' 6 'gmus: read fault on input' nothing list lost
 try 'a folder' 6 'gmus: read fault on input' nothing list .
 
+# Evidence: as it is, cut before it is closed, with a hint left out, about another file, and none.
+evidence=$here/first.evidence
+try 'evidence' 0 '' "$here/first.report" check "$here/first.gcnf" "$evidence"
+sed '29,$d' "$evidence" >partial_evidence
+echo 'e partial' >>partial_evidence
+sed 's/^s COMPLETE$/s PARTIAL/' "$here/first.report" >partial_report
+try 'partial evidence' 0 '' partial_report check "$here/first.gcnf" partial_evidence
+sed '8s/ 1 3 4 0$/ 1 4 0/' "$evidence" >bad_evidence
+try 'a step without a hint' 9 'gmus: evidence refused: line 8: 12 NotFalse' nothing check "$here/first.gcnf" bad_evidence
+try 'evidence about another file' 9 'gmus: evidence refused: line 1: 4 OtherProblem' nothing check "$here/door.gcnf" "$evidence"
+try 'a refused file with evidence' 5 'gmus: input refused: 5 GroupTooBig at line 2 byte 2' nothing check refused "$evidence"
+try 'no evidence' 6 'gmus: read fault on evidence' nothing check "$here/first.gcnf" lost
+try 'one name' 2 "$bad" nothing check "$here/first.gcnf"
+
 fault='gmus: write fault on report'
 if [ -c /dev/full ]; then
     "$program" list "$here/first.gcnf" >/dev/full 2>err </dev/null
