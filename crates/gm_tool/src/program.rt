@@ -86,8 +86,12 @@ pub fn run<R: Threads + Wait + Sync, F: Files, O: Sink, E: Sink>(
         ⊎ (GetsLine evidence_fault_line (E.got err.old) (E.got err.new) (E.faults err.old) (E.faults err.new) × ChecksAccepted (words_read (map string_bytes words.now)) (F.state files.old)) }
 {
     let ending = match read_words(alloc, words) {
-        Ok(Some(Request::List(listing))) => { list_file(alloc, listing.file, bounds_for(listing), files, out) }
-        Ok(Some(Request::Check(checking))) => { check_file(alloc, checking.file, checking.evidence, files, out) }
+        Ok(Some(Request::List(listing))) => {
+            list_file(alloc, listing.file, bounds_for(listing), files, out)
+        }
+        Ok(Some(Request::Check(checking))) => {
+            check_file(alloc, checking.file, checking.evidence, files, out)
+        }
         Ok(None) => Ending::BadWords,
         Err(AllocError) => Ending::Memory,
     };

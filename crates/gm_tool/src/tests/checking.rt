@@ -13,8 +13,7 @@ const HEAD: &str = "p gmev 1 2 4 4\n";
 
 const U12: &str = "u 1 2 0\nd 5 -3 -4 0 1 2 0\nr 0 5\nw 1 0\nw 2 1 0\n";
 
-const U134: &str =
-    "u 1 3 4 0\nd 5 -3 -5 -6 0 1 3 4 0\nr 0 5\nw 1 0\nw 3 1 0\nw 4 1 2 0\n";
+const U134: &str = "u 1 3 4 0\nd 5 -3 -5 -6 0 1 3 4 0\nr 0 5\nw 1 0\nw 3 1 0\nw 4 1 2 0\n";
 
 const M1: &str = "m 1 0\nw 0 0\nd 5 -3 -4 0 1 2 0\nr 1 5\n";
 
@@ -63,7 +62,15 @@ const ROWS: [Row<'static>; 13] = [
     // The line of the empty clause is left out.
     Row {
         file: FIRST,
-        evidence: &[HEAD, U12, U134, M1, M23, M24, "d 6 0 3 1 4 5 2 0\ne complete\n"],
+        evidence: &[
+            HEAD,
+            U12,
+            U134,
+            M1,
+            M23,
+            M24,
+            "d 6 0 3 1 4 5 2 0\ne complete\n",
+        ],
         status: 9,
         out: &[],
         err: "gmus: evidence refused: line 30: 1 BadLine\n",

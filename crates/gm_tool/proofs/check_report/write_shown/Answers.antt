@@ -9,7 +9,7 @@ pub returns-in-Ok-write_all-clause-whole : goal.returns-in-Ok-write_all-clause-w
 returns-in-Ok-write_all-clause-whole g c = λ zero.
     let made = report_with c.groups-groups.result c.args.complete c.args.complete c.as_slice.result.now c.args.records.now c.in-Ok.text.items refl c.as_slice.ensures c.in-Ok.ensures in
     let is = shown_report-from c.args.problem.now c.args.complete c.requires.0 c.args.records.now c.in-Ok.text.items c.groups-groups.result
-        c.groups-groups.ensures.well_formed c.requires.1 c.groups-groups.ensures.count made in
+    c.groups-groups.ensures.well_formed c.requires.1 c.groups-groups.ensures.count made in
     subst (λ text. ToldAppends (g.O.Sink.got c.args.out.now) (g.O.Sink.got c.write_all.new.sink) text) (c.as_slice-2.ensures.value ∙ is) c.in-Ok-write_all.ensures.whole
 
 -- or a front part of it
@@ -17,5 +17,5 @@ pub returns-clause-cut_off : goal.returns-clause-cut_off
 returns-clause-cut_off g c = λ seven.
     let made = report_with c.groups-groups.result c.args.complete c.args.complete c.as_slice.result.now c.args.records.now c.in-Ok.text.items refl c.as_slice.ensures c.in-Ok.ensures in
     let is = shown_report-from c.args.problem.now c.args.complete c.requires.0 c.args.records.now c.in-Ok.text.items c.groups-groups.result
-        c.groups-groups.ensures.well_formed c.requires.1 c.groups-groups.ensures.count made in
+    c.groups-groups.ensures.well_formed c.requires.1 c.groups-groups.ensures.count made in
     subst (λ text. ToldGrowsWithin (g.O.Sink.got c.args.out.now) (g.O.Sink.got c.write_all.new.sink) text) (c.as_slice-2.ensures.value ∙ is) c.in-Err.ensures.failed

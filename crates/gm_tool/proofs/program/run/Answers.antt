@@ -100,12 +100,17 @@ returns-clause-evidence_refused g c = λ nine.
           let r = w.check_file-ending in
           let asked = sym (ap (option_map asked_by) (w.in-Ok-Some-Check.field-0-is ∙ ap Some w.in-Ok-Some-Check.field-0-0-is)) ∙ w.in-Ok-Some-Check.ensures.asked in
           let status = ap (λ (f : Finish). f.status) (c.finish_of.ensures ∙ ap finish_of w.ending-is) in
-          let h = r.ensures.evidence_refused (sym status ∙ nine) in
-          (_, sym asked, h.0, h.1, record {
-            refusal = h.2.refusal;
-            first = h.2.first;
-            line = subst Line (ap line_of w.ending-is ∙ h.2.line) c.write_error_line.ensures;
-          })
+          let h = r.ensures.evidence_refused (sym status ∙ nine) in (
+            _,
+            sym asked,
+            h.0,
+            h.1,
+            record {
+              refusal = h.2.refusal;
+              first = h.2.first;
+              line = subst Line (ap line_of w.ending-is ∙ h.2.line) c.write_error_line.ensures;
+            },
+          )
       | in-Ok-None w ↦ let status = ap (λ (f : Finish). f.status) (c.finish_of.ensures ∙ ap finish_of w.ending-is) in absurd (omega arith)
       | in-Err w ↦ let status = ap (λ (f : Finish). f.status) (c.finish_of.ensures ∙ ap finish_of w.ending-is) in absurd (omega arith)
     ]
