@@ -1,31 +1,33 @@
 //! Texts about x, not x, x implies y and not y, and what each is read as.
+ghost use Rattle.std.specs.Prelude.{◌≡◌, true, IfOk};
+
 use super::*;
-use gm_base::{Clause, Clauses, Lit, Lits, Problem};
+use gm_base::{Clause, Clauses, Derivation, Lit, Lits, Problem};
 use lrat_check::{Counts, Mismatch, Why};
 use std::alloc::{AllocError, Global};
 use std::test::Fail;
 
-fn clause(alloc: Global, group: u32, lits: &[Lit]) -> Result<Clause, AllocError> {
-    Ok(Clause {
-        group,
-        lits: Lits::from_slice(alloc, lits)?,
-    })
-}
-
-fn four_clauses(alloc: Global) -> Result<Problem, Fail> {
+fn four_clauses(alloc: Global) -> Result<Problem, AllocError> {
     let x = Lit::new(1);
     let y = Lit::new(2);
     let mut clauses = Clauses::new(alloc);
-    clauses.push(clause(alloc, 1, &[x])?)?;
-    clauses.push(clause(alloc, 2, &[x.negated()])?)?;
-    clauses.push(clause(alloc, 3, &[x.negated(), y])?)?;
-    clauses.push(clause(alloc, 4, &[y.negated()])?)?;
-    for at in 0..clauses.len() {
-        if !gm_base::clause_fits(2, 4, clauses.at(at)) {
-            return Err(Fail::from("a clause is over other variables"));
-        }
-    }
-    Ok(Problem::new(alloc, 2, 4, clauses)?)
+    clauses.push(Clause {
+        group: 1,
+        lits: Lits::from_slice(alloc, &[x])?,
+    })?;
+    clauses.push(Clause {
+        group: 2,
+        lits: Lits::from_slice(alloc, &[x.negated()])?,
+    })?;
+    clauses.push(Clause {
+        group: 3,
+        lits: Lits::from_slice(alloc, &[x.negated(), y])?,
+    })?;
+    clauses.push(Clause {
+        group: 4,
+        lits: Lits::from_slice(alloc, &[y.negated()])?,
+    })?;
+    Problem::new(alloc, 2, 4, clauses)
 }
 
 fn whole() -> &'static str {
@@ -49,6 +51,46 @@ fn with_line(alloc: Global, line: usize, new: &str) -> Result<Vec<u8>, AllocErro
     Ok(text)
 }
 
+// A reader whose head was answered.
+fn begin<'a>(problem: &'a Problem, text: &'a [u8]) -> Result<EvidenceReader<'a>, Offence>
+    ensures { IfOk result (λ reader. reader.begun ≡ true) }
+{
+    let mut reader = EvidenceReader::new(problem, text);
+    match reader.head() {
+        Ok(()) => Ok(reader),
+        Err(offence) => Err(offence),
+    }
+}
+
+fn following(alloc: Global, reader: &mut EvidenceReader<'_>) -> Result<Answer, AllocError>
+    requires { reader.old.begun ≡ true }
+    ensures { reader.new.begun ≡ true }
+{
+    reader.next(alloc)
+}
+
+fn write_closing(closing: Option<Derivation>, out: &mut Vec<u8>) -> Result<(), AllocError> {
+    match closing {
+        Some(closing) => write_end(Some(&closing), out),
+        None => write_end(None, out),
+    }
+}
+
+// Whether the same offence is answered again, at its line.
+fn is_told_again(
+    alloc: Global,
+    reader: &mut EvidenceReader<'_>,
+    offence: Offence,
+) -> Result<bool, AllocError>
+    requires { reader.old.begun ≡ true }
+    ensures { reader.new.begun ≡ true }
+{
+    match following(alloc, reader)? {
+        Answer::Offence(again) => Ok(again == offence && reader.line() == offence.line),
+        Answer::Record(_) | Answer::End(_) => Ok(false),
+    }
+}
+
 // What is read of a text is written again behind the others, up to the offence, if there is one.
 fn read_and_write(
     alloc: Global,
@@ -56,31 +98,24 @@ fn read_and_write(
     text: &[u8],
     out: &mut Vec<u8>,
 ) -> Result<Option<Offence>, Fail> {
-    let mut reader = EvidenceReader::new(problem, text);
-    if let Err(offence) = reader.head() {
-        return Ok(Some(offence));
-    }
+    let mut reader = match begin(problem, text) {
+        Ok(reader) => reader,
+        Err(offence) => return Ok(Some(offence)),
+    };
     write_head(problem, out)?;
     for _ in text {
-        match reader.next(alloc)? {
+        match following(alloc, &mut reader)? {
             Answer::Record(r) => write_record(&r, out)?,
             Answer::End(closing) => {
-                match closing {
-                    Some(closing) => write_end(Some(&closing), out)?,
-                    None => write_end(None, out)?,
-                }
+                write_closing(closing, out)?;
                 return Ok(None);
-            },
+            }
             Answer::Offence(offence) => {
-                let again = match reader.next(alloc)? {
-                    Answer::Offence(again) => again == offence,
-                    Answer::Record(_) | Answer::End(_) => false,
-                };
-                if !again || reader.line() != offence.line {
+                if !is_told_again(alloc, &mut reader, offence)? {
                     return Err(Fail::from("the answer after an offence is another"));
                 }
                 return Ok(Some(offence));
-            },
+            }
         }
     }
     Err(Fail::from("the text has more records than bytes"))
