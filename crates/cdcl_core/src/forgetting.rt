@@ -43,7 +43,7 @@ pub fn forget(search: &mut Search) -> Result<(), AllocError>
     Ok(())
 }
 
-// How many literals the live learnt clauses have in the mean.
+// How many literals the live clauses have in the mean, learnt or not.
 fn mean_length(search: &Search) -> u64 {
     let mut count: u64 = 1;
     let mut literals: u64 = 0;

@@ -1,9 +1,8 @@
 //! Restarts.
 //!
 //! After so many conflicts the choices are taken back, and the search goes on from the assumed literals with what it has
-//! learnt and with the activities as they are (Gomes, Selman and Kautz 1998). The values that the choices had are found
-//! again, since a variable is picked as it was last held. A restart stands right after a conflict, which has paid a unit,
-//! so there are no more restarts than units.
+//! learnt and with the activities as they are (Gomes, Selman and Kautz 1998). A restart stands right after a conflict,
+//! which has paid a unit, so there are no more restarts than units.
 ghost use Rattle.std.specs.Prelude.{◌≡◌, List, ℤ};
 ghost use Rattle.cdcl_core.specs.Search.{IsSearch};
 
