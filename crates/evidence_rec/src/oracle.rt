@@ -19,8 +19,8 @@ pub enum Asked {
 
 /// Answers questions about one problem.
 pub trait Oracle {
-    ghost use Rattle.std.specs.Prelude.{◌≡◌, ℕ, true, List, Option, Some, None, IfOk, OnErr, IsSome};
-    ghost use Rattle.gm_base.specs.Sets.{IsSubset, all_groups};
+    ghost use Rattle.std.specs.Prelude.{◌≡◌, ℕ, ◌+◌, ◌≤◌, true, List, Option, Some, None, IfOk, OnOk, OnErr, IsSome};
+    ghost use Rattle.gm_base.specs.Sets.{IsSubset, all_groups, without};
     ghost use Rattle.gm_base.specs.Evidence.{refutes};
     ghost use Rattle.evidence_rec.specs.Asking.{OracleState, TellsAsked, IsSpent, IsHonestOver, refuted_by, asked_once};
 
@@ -42,6 +42,28 @@ pub trait Oracle {
         ensures asks { (state self.new).asks ≡ asked_once (state self.old).asks }
         ensures spent { IsSpent (state self.old) (state self.new) purse.old.left purse.new.left }
         ensures honest { IsHonestOver (state self.new).problem (state self.new).log };
+
+    /// Asks the same of a set without one of its groups: the questions of shrinking. Who finds what is known by that group
+    /// needs no look at the whole set.
+    fn ask_without(
+        &mut self,
+        alloc: Global,
+        set: &GroupSet,
+        group: u32,
+        turn: u64,
+        purse: &mut Purse,
+    ) -> Result<Asked, AllocError>
+        requires { IsSubset set.now (all_groups (state self.old).problem.groups) }
+        ensures answer { IfOk result (λ answer. TellsAsked (state self.new) (without set.now group) purse.new.left answer) }
+        ensures refuted { IfOk result (λ answer. (state self.new).refuted ≡ refuted_by answer) }
+        ensures asks { OnOk result ((state self.new).asks ≡ asked_once (state self.old).asks) }
+        ensures at_most_once { (state self.new).asks ≤ (state self.old).asks + 1 }
+        ensures spent { IsSpent (state self.old) (state self.new) purse.old.left purse.new.left }
+        ensures honest { IsHonestOver (state self.old).problem (state self.old).log → IsHonestOver (state self.new).problem (state self.new).log }
+    {
+        let rest = set.without(alloc, group)?;
+        self.ask(alloc, &rest, turn, purse)
+    }
 
     /// The derivation for the last answer, which was that a set is unsatisfiable.
     fn proof(&self, alloc: Global) -> Result<Derivation, AllocError>

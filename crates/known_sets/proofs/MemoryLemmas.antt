@@ -2,14 +2,14 @@
 use Rattle.std.proofs.Common.{◌≡◌, ◌∙◌, ℕ, zero, suc, ◌<◌, Bool, true, not, List, [], ◌∷◌, ◌++◌, Some, length, get_or, eqb, refl, sym, ap, subst, arith}
 use Rattle.std.specs.Prelude.{Result, Ok, Err, OnOk, OnErr, All, slice_get}
 use Rattle.std.specs.List.{list_all}
-use Rattle.std.proofs.lemmas.Bool.{false≢true, false_from_ne_true, eqb-true, not-true}
+use Rattle.std.proofs.lemmas.Bool.{false≢true, false_from_ne_true, eqb-true, not-true, and_parts}
 use Rattle.std.proofs.lemmas.List.Elements.{All-append, All-get_or, All-from_get_or}
 use Rattle.std.proofs.lemmas.Option.{get_or_from_slice_get, slice_get_within}
 use Rattle.sat_base.proofs.Members.{all_at, any_from}
-use Rattle.gm_base.specs.Sets.{has, IsSubset, all_groups, complement}
+use Rattle.gm_base.specs.Sets.{has, without, IsSubset, all_groups, complement}
 use Rattle.gm_base.specs.Problem.{Problem}
 use Rattle.gm_base.specs.Evidence.{is_witness}
-use Rattle.gm_base.proofs.SetLemmas.{has-complement-from, complement_twice-IsSubset}
+use Rattle.gm_base.proofs.SetLemmas.{has-complement-from, complement_twice-IsSubset, has-without}
 use Rattle.evidence_rec.proofs.EvidenceLemmas.{is_witness-subset}
 
 -- a set that has none of these groups lies outside of them
@@ -21,6 +21,10 @@ IsSubset-missing groups set out within none g i =
     let (x, j, e) = any_from (λ k. eqb k g) out h in
     let gone = not-true (has set x) (all_at (λ k. not (has set k)) out x none j) in
     false≢true (sym gone ∙ ap (has set) (eqb-true x g e) ∙ i)))
+
+-- what is left of a set of the problem's groups is one
+pub IsSubset-without_one : (groups : ℕ) (set : List ℕ) (but : ℕ) → IsSubset set (all_groups groups) → IsSubset (without set but) (all_groups groups)
+IsSubset-without_one groups set but within g i = within g (and_parts (not (eqb g but)) (has set g) (sym (has-without set but g) ∙ i)).1
 
 -- an assignment that satisfies all groups outside of these satisfies a set that has none of them
 pub is_witness-missing : (p : Problem) (set out : List ℕ) (w : List Bool) → IsSubset set (all_groups p.groups) → list_all (λ g. not (has set g)) out ≡ true

@@ -10,6 +10,10 @@
 //! group less than the last refuted one can miss only complements with that group, since each has a group of the refuted
 //! set; these are the questions of shrinking. Any other question is not looked up.
 //!
+//! Shrinking asks one question for each group of a set, and the set may have thousands. So the groups of the last refuted
+//! set are marked as long as it is the last one, and a question that names the set and the group is looked up without a
+//! look at the rest of the set.
+//!
 //! A model of a shrinking question satisfies more groups than were asked about, and more still after some flips. The set of
 //! all groups that it satisfies then is remembered with it, and is often the next seed. How much flipping may look at is
 //! bounded by how many questions the oracle within was asked.
@@ -18,7 +22,7 @@
 //! apart, and goes to the others when one comes that does not lie within it.
 ghost use Rattle.std.specs.Prelude.{◌≡◌, not, true, All, IfOk, IfSome};
 ghost use Rattle.std.specs.List.{list_all};
-ghost use Rattle.gm_base.specs.Sets.{has, IsSubset, all_groups};
+ghost use Rattle.gm_base.specs.Sets.{has, without, IsSubset, all_groups};
 ghost use Rattle.gm_base.specs.Problem.{Problem};
 ghost use Rattle.gm_base.specs.Evidence.{refutes, is_witness};
 ghost use Rattle.evidence_rec.specs.Records.{IsAccepted};
@@ -54,6 +58,8 @@ pub struct Memory {
     // No group is marked between look-ups.
     marks: Vec<bool>,
     last_refuted: Option<GroupSet>,
+    // The groups of the last refuted set are marked.
+    shrinking: Vec<bool>,
     last_satisfied: Option<GroupSet>,
 }
 
@@ -72,6 +78,7 @@ impl Memory {
             answers: 0,
             marks: vec![in alloc; false; groups as usize + 1]?,
             last_refuted: None,
+            shrinking: vec![in alloc; false; groups as usize + 1]?,
             last_satisfied: None,
         })
     }
@@ -94,7 +101,8 @@ impl Memory {
             )?,
             None => held_in_seed(alloc, &self.held, &self.last_refuted, set)?,
         };
-        self.last_refuted = entry.set.copy(alloc).ok();
+        let copy = entry.set.copy(alloc).ok();
+        mark_last(&mut self.last_refuted, &mut self.shrinking, copy);
         Some(entry)
     }
 
@@ -109,6 +117,20 @@ impl Memory {
         let assign = assignment(&self.satisfied, number, set)?;
         self.last_satisfied = set.copy(alloc).ok();
         Some(assign)
+    }
+
+    /// An assignment that satisfies the background and a set without one of its groups, where one is found by that group.
+    /// It is looked for where the set is the last refuted one.
+    pub fn satisfying_without(&mut self, set: &GroupSet, group: u32) -> Option<Assign>
+        ensures right { (p : Problem) → IsRightFor p self.old → IsRightFor p self.new }
+        ensures witness { (p : Problem) → IsRightFor p self.old → IsSubset set.now (all_groups p.groups) → IfSome result (λ assign. is_witness p (without set.now group) assign ≡ true) }
+    {
+        let number = self.satisfied.find(Wanted {
+            marks: &self.shrinking,
+            mark: false,
+            but: group,
+        })?;
+        assignment_without(&self.satisfied, number, set, group)
     }
 
     /// Remembers that an assignment satisfies the background and a set. Of a question of shrinking it remembers the set
@@ -158,7 +180,11 @@ impl Memory {
         ensures same_proof { IfSome result (λ entry. entry.evidence ≡ proof) }
     {
         self.answers = self.answers.saturating_add(1);
-        self.last_refuted = set.copy(alloc).ok();
+        mark_last(
+            &mut self.last_refuted,
+            &mut self.shrinking,
+            set.copy(alloc).ok(),
+        );
         let entry = Entry {
             set: set.copy(alloc).ok()?,
             evidence: proof,
@@ -261,6 +287,17 @@ fn is_within(set: &GroupSet, other: &Option<Refuted>) -> bool {
         Some(other) => set.is_subset(&other.set),
         None => false,
     }
+}
+
+// Keeps a set as the last one, and has its groups marked in place of those of the last one before.
+fn mark_last(last: &mut Option<GroupSet>, marks: &mut [bool], set: Option<GroupSet>) {
+    if let Some(before) = last {
+        mark_all(marks, before.as_slice(), false);
+    }
+    if let Some(now) = &set {
+        mark_all(marks, now.as_slice(), true);
+    }
+    *last = set;
 }
 
 fn mark_all(marks: &mut [bool], groups: &[u32], mark: bool) {
@@ -375,6 +412,44 @@ fn assignment(satisfied: &SatisfiedSets, number: usize, set: &GroupSet) -> Optio
         return None;
     };
     Some(assign)
+}
+
+// The assignment of this number, where it satisfies the set without a group.
+fn assignment_without(
+    satisfied: &SatisfiedSets,
+    number: usize,
+    set: &GroupSet,
+    group: u32,
+) -> Option<Assign>
+    ensures { (p : Problem) → All (IsSatisfied p) satisfied.now → IsSubset set.now (all_groups p.groups) → IfSome result (λ assign. is_witness p (without set.now group) assign ≡ true) }
+{
+    let lent = satisfied.get(number)?;
+    if !misses_but(set, lent.set, group) {
+        return None;
+    }
+    let Ok(witness) = lent.evidence.copy() else {
+        return None;
+    };
+    Some(witness)
+}
+
+// Whether the set without one group has none of these groups.
+fn misses_but(set: &GroupSet, groups: &[u32], but: u32) -> bool
+    ensures { result ≡ list_all (λ g. not (has (without set.now but) g)) groups.now }
+{
+    for group in groups {
+        if has_but(set, *group, but) {
+            return false;
+        }
+    }
+    true
+}
+
+// Whether a group stands in the set without another one.
+fn has_but(set: &GroupSet, group: u32, but: u32) -> bool
+    ensures { result ≡ has (without set.now but) group }
+{
+    group != but && set.contains(group)
 }
 
 // Whether the set has none of these groups.

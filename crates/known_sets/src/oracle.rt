@@ -84,6 +84,46 @@ impl<O: Oracle> KnownSets<O> {
     }
 }
 
+impl<O: Oracle> KnownSets<O> {
+    // Counts a question, which has no answer yet.
+    fn begin(&mut self)
+        ensures { self.new ≡ record self.old { refuted = None; asks = asked_once self.old.asks } }
+    {
+        self.asks = self.asks.saturating_add(1);
+        self.last = Last::Nothing;
+    }
+
+    // Asks the oracle within, and remembers what it answers.
+    fn ask_within(
+        &mut self,
+        alloc: Global,
+        set: &GroupSet,
+        turn: u64,
+        purse: &mut Purse,
+    ) -> Result<Asked, AllocError>
+        requires within { IsSubset set.now (all_groups self.old.problem.groups) }
+        requires none { self.old.refuted ≡ None }
+        ensures answer { IfOk result (λ answer. TellsAsked self.new set.now purse.new.left answer) }
+        ensures refuted { IfOk result (λ answer. self.new.refuted ≡ refuted_by answer) }
+        ensures err { OnErr result (self.new.refuted ≡ None) }
+        ensures asks { self.new.asks ≡ self.old.asks }
+        ensures spent { IsSpent self.old self.new purse.old.left purse.new.left }
+        ensures honest { IsHonestOver self.new.problem self.new.log }
+    {
+        match self.oracle.ask(alloc, set, turn, purse)? {
+            Asked::Sat(assign) => {
+                self.memory.keep_satisfied(alloc, set, &assign);
+                Ok(Asked::Sat(assign))
+            }
+            Asked::Unsat(core) => {
+                self.last = keep(alloc, &self.oracle, &mut self.memory, &core);
+                Ok(Asked::Unsat(core))
+            }
+            Asked::Dry => Ok(Asked::Dry),
+        }
+    }
+}
+
 impl<O: Oracle + Drop> KnownSets<O> {
     /// An oracle that knows nothing yet, around one that is fresh or has an honest log. The problem is copied. It remembers
     /// up to [`MOST_BYTES`].
@@ -127,8 +167,7 @@ impl<O: Oracle> Oracle for KnownSets<O> {
         turn: u64,
         purse: &mut Purse,
     ) -> Result<Asked, AllocError> {
-        self.asks = self.asks.saturating_add(1);
-        self.last = Last::Nothing;
+        self.begin();
         if let Some(known) = self.memory.refuted_within(alloc, set) {
             let _groups = known.set.as_slice(); // They ascend.
             let core = known.set.copy(alloc)?;
@@ -138,17 +177,23 @@ impl<O: Oracle> Oracle for KnownSets<O> {
         if let Some(assign) = self.memory.satisfying(alloc, set) {
             return Ok(Asked::Sat(assign));
         }
-        match self.oracle.ask(alloc, set, turn, purse)? {
-            Asked::Sat(assign) => {
-                self.memory.keep_satisfied(alloc, set, &assign);
-                Ok(Asked::Sat(assign))
-            }
-            Asked::Unsat(core) => {
-                self.last = keep(alloc, &self.oracle, &mut self.memory, &core);
-                Ok(Asked::Unsat(core))
-            }
-            Asked::Dry => Ok(Asked::Dry),
+        self.ask_within(alloc, set, turn, purse)
+    }
+
+    fn ask_without(
+        &mut self,
+        alloc: Global,
+        set: &GroupSet,
+        group: u32,
+        turn: u64,
+        purse: &mut Purse,
+    ) -> Result<Asked, AllocError> {
+        self.begin();
+        if let Some(assign) = self.memory.satisfying_without(set, group) {
+            return Ok(Asked::Sat(assign));
         }
+        let rest = set.without(alloc, group)?;
+        self.ask_within(alloc, &rest, turn, purse)
     }
 
     fn proof(&self, alloc: Global) -> Result<Derivation, AllocError> {

@@ -72,8 +72,7 @@ fn try_group<O: Oracle>(
     if !candidate.set.contains(g) {
         return Ok(None);
     }
-    let rest = candidate.set.without(alloc, g)?;
-    match oracle.ask(alloc, &rest, turn, purse)? {
+    match oracle.ask_without(alloc, &candidate.set, g, turn, purse)? {
         Asked::Sat(witness) => {
             candidate.witnesses.push(witness)?;
         }
@@ -84,6 +83,7 @@ fn try_group<O: Oracle>(
             candidate.set = core;
         }
         Asked::Dry => {
+            let rest = candidate.set.without(alloc, g)?;
             return Ok(Some(rest));
         }
     }
