@@ -21,6 +21,10 @@ place_rule id = record (new_rule id) { required = true }
 abbrev pub number_rule : Text → ℕ → ℕ → Rule
 number_rule id low high = record (new_rule id) { long = Some id; parser = Some (Unsigned low high) }
 
+-- `--id TEXT`: any text, where it is given
+abbrev pub text_rule : Text → Rule
+text_rule id = record (new_rule id) { long = Some id }
+
 -- the greatest numbers that the options take, which are also meant where they are not given
 abbrev pub greatest_conflicts : ℕ
 greatest_conflicts = 2 ^ 64 - 1
@@ -36,10 +40,14 @@ conflicts_rule = number_rule (codes "conflicts") 0 greatest_conflicts
 abbrev pub limit_rule : Rule
 limit_rule = number_rule (codes "limit") 1 greatest_limit
 
--- `list FILE [--conflicts B] [--limit L]`
+-- `--evidence FILE`
+abbrev pub evidence_rule : Rule
+evidence_rule = text_rule (codes "evidence")
+
+-- `list FILE [--conflicts B] [--limit L] [--evidence FILE]`
 abbrev pub list_app : App
-list_app = with_rule (with_rule (with_rule (new_app (codes "list"))
-    (place_rule (codes "file"))) conflicts_rule) limit_rule
+list_app = with_rule (with_rule (with_rule (with_rule (new_app (codes "list"))
+    (place_rule (codes "file"))) conflicts_rule) limit_rule) evidence_rule
 
 -- `check FILE EVIDENCE`
 abbrev pub check_app : App
@@ -63,6 +71,7 @@ pub record Listing : Type 0 where
   pub file : Text
   pub conflicts : ℕ
   pub limit : ℕ
+  pub evidence : Option Text
 
 -- what `check` is asked for
 pub record Checking : Type 0 where
@@ -82,16 +91,17 @@ number_by rule text = if value_passes rule text
 abbrev pub number_or : ℕ → Rule → List Row → Option ℕ
 number_or other rule rows = option_map_or (number_by rule) (first_of rule.id rows) (Some other)
 
--- a listing, where each of its parts can be had
-abbrev pub listing_with : Option Text → Option ℕ → Option ℕ → Option Asked
-listing_with (Some file) (Some conflicts) (Some limit) =
-    Some (listing (record { file = file; conflicts = conflicts; limit = limit }))
-listing_with _ _ _ = None
+-- a listing, where each of its parts can be had; evidence need not be asked for
+abbrev pub listing_with : Option Text → Option ℕ → Option ℕ → Option Text → Option Asked
+listing_with (Some file) (Some conflicts) (Some limit) evidence =
+    Some (listing (record { file = file; conflicts = conflicts; limit = limit; evidence = evidence }))
+listing_with _ _ _ _ = None
 
 -- what the values of `list` ask for
 abbrev pub listing_of : List Row → Option Asked
 listing_of rows = listing_with (first_of (codes "file") rows)
     (number_or greatest_conflicts conflicts_rule rows) (number_or greatest_limit limit_rule rows)
+    (first_of (codes "evidence") rows)
 
 -- a checking, where both names can be had
 abbrev pub checking_with : Option Text → Option Text → Option Asked

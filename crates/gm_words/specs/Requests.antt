@@ -13,7 +13,7 @@ text_of = option_map (λ s. s.now)
 -- what the request asks for, in the words of the definition
 abbrev pub asked_by : Request → Asked
 asked_by (request.List l) =
-    listing (record { file = l.file.now; conflicts = l.conflicts; limit = l.limit })
+    listing (record { file = l.file.now; conflicts = l.conflicts; limit = l.limit; evidence = text_of l.evidence })
 asked_by (request.Check c) = checking (record { file = c.file.now; evidence = c.evidence.now })
 
 -- the limit of a listing is not 0, and at most the greatest that is taken

@@ -8,7 +8,7 @@ use Rattle.gm_words.specs.Reading.{Asked, greatest_conflicts, greatest_limit, li
 -- `list` of a file, with both numbers
 abbrev pub listing_of_file : Text → ℕ → ℕ → Option Asked
 listing_of_file file conflicts limit =
-    Some (listing (record { file = file; conflicts = conflicts; limit = limit }))
+    Some (listing (record { file = file; conflicts = conflicts; limit = limit; evidence = None }))
 
 -- and with none given
 abbrev pub list_of : Text → Option Asked
@@ -43,6 +43,29 @@ pub read_options :
     ≡ listing_of_file (codes "f") 7 greatest_limit)
 unfolding clap_on_literals
 read_options = (refl, refl, refl, refl, refl, refl, refl)
+
+-- with evidence under a name
+abbrev pub list_with_evidence : Text → Text → Option Asked
+list_with_evidence file evidence =
+    Some (listing (record { file = file; conflicts = greatest_conflicts; limit = greatest_limit; evidence = Some evidence }))
+
+-- the name of the evidence, before and behind the name of the file; the empty one is a name too
+pub read_evidence :
+    (words_read (codes "list" ∷ codes "f" ∷ codes "--evidence" ∷ codes "e" ∷ []) ≡ list_with_evidence (codes "f") (codes "e"))
+    × (words_read (codes "list" ∷ codes "--evidence=e" ∷ codes "f" ∷ []) ≡ list_with_evidence (codes "f") (codes "e"))
+    × (words_read (codes "list" ∷ codes "f" ∷ codes "--evidence=" ∷ []) ≡ list_with_evidence (codes "f") [])
+    × (words_read (codes "list" ∷ codes "f" ∷ codes "--evidence=-x" ∷ []) ≡ list_with_evidence (codes "f") (codes "-x"))
+    × (words_read (codes "list" ∷ codes "f" ∷ codes "--evidence" ∷ codes "-" ∷ []) ≡ list_with_evidence (codes "f") (codes "-"))
+unfolding clap_on_literals
+read_evidence = (refl, refl, refl, refl, refl)
+
+-- no name of the evidence, one that looks like an option, two
+pub refused_evidence :
+    (words_read (codes "list" ∷ codes "f" ∷ codes "--evidence" ∷ []) ≡ None)
+    × (words_read (codes "list" ∷ codes "f" ∷ codes "--evidence" ∷ codes "-x" ∷ []) ≡ None)
+    × (words_read (codes "list" ∷ codes "f" ∷ codes "--evidence=e" ∷ codes "--evidence=e" ∷ []) ≡ None)
+unfolding clap_on_literals
+refused_evidence = (refl, refl, refl)
 
 -- `check` of two files, each under any name
 abbrev pub check_of : Text → Text → Option Asked

@@ -2,7 +2,7 @@
 ghost use Rattle.std.specs.Prelude.{◌≡◌, IfOk, false};
 ghost use Rattle.clap.specs.Words.{app_of, rule_of};
 ghost use Rattle.clap.specs.declared.builder.command.Command.TheViews.{out-Command};
-ghost use Rattle.gm_words.specs.Reading.{check_app, gmus_app, gmus_top, list_app, place_rule};
+ghost use Rattle.gm_words.specs.Reading.{check_app, gmus_app, gmus_top, list_app, place_rule, text_rule};
 
 use crate::options::{CONFLICTS, LIMIT};
 use clap::{Arg, Command};
@@ -26,7 +26,7 @@ fn gmus_top_command<'a>(alloc: Global) -> Command<'a>
         .subcommand_required(true)
 }
 
-/// `list FILE [--conflicts B] [--limit L]`
+/// `list FILE [--conflicts B] [--limit L] [--evidence FILE]`
 fn list_command<'a>(alloc: Global) -> Result<Command<'a>, AllocError>
     ensures app { IfOk result (λ c. app_of c ≡ list_app) }
     ensures local { IfOk result (λ c. (out-Command c).has_globals ≡ false) }
@@ -34,7 +34,8 @@ fn list_command<'a>(alloc: Global) -> Result<Command<'a>, AllocError>
     Command::new(alloc, "list")
         .arg(place(alloc, "file"))?
         .arg(CONFLICTS.arg(alloc))?
-        .arg(LIMIT.arg(alloc))
+        .arg(LIMIT.arg(alloc))?
+        .arg(named_text(alloc, "evidence"))
 }
 
 /// `check FILE EVIDENCE`
@@ -45,6 +46,14 @@ fn check_command<'a>(alloc: Global) -> Result<Command<'a>, AllocError>
     Command::new(alloc, "check")
         .arg(place(alloc, "file"))?
         .arg(place(alloc, "evidence"))
+}
+
+/// `--name TEXT`, which need not be given.
+fn named_text<'a>(alloc: Global, name: &'a str) -> Arg<'a>
+    ensures rule { rule_of result ≡ text_rule name.now }
+    ensures local { result.global ≡ false }
+{
+    Arg::new(alloc, name).long(name)
 }
 
 /// A word that is required at its place.

@@ -54,10 +54,12 @@ fn listing<'a>(matches: &ArgMatches<'a>) -> Option<Request<'a>>
     let file = text_given(matches, "file")?;
     let conflicts = number_or(matches, CONFLICTS, CONFLICTS.high)?;
     let limit = number_or(matches, LIMIT, LIMIT.high)?;
+    let evidence = text_given(matches, "evidence");
     Some(Request::List(Listing {
         file,
         conflicts,
         limit,
+        evidence,
     }))
 }
 

@@ -9,6 +9,8 @@ pub struct Listing<'a> {
     pub conflicts: u64,
     /// How many sets may be recorded before the listing ends.
     pub limit: u64,
+    /// The name of the file that gets the evidence, where it is asked for.
+    pub evidence: Option<&'a str>,
 }
 
 /// What `check` is asked for.
@@ -23,7 +25,7 @@ pub struct Checking<'a> {
 /// What the words ask for.
 #[derive(Clone, Copy, Debug, PartialEq, Eq)]
 pub enum Request<'a> {
-    /// `list FILE [--conflicts B] [--limit L]`
+    /// `list FILE [--conflicts B] [--limit L] [--evidence FILE]`
     List(Listing<'a>),
     /// `check FILE EVIDENCE`
     Check(Checking<'a>),

@@ -39,6 +39,7 @@ fn a_listing_has_one_name(rt: HostRuntime) -> Result<(), Fail> {
             file,
             conflicts: u64::MAX,
             limit: 1_000_000_000,
+            evidence: None,
         };
         assert!(rt; listing == wanted, "{line}");
     }
@@ -80,6 +81,39 @@ fn numbers_are_read_before_and_behind_the_name(rt: HostRuntime) -> Result<(), Fa
             file: "f",
             conflicts,
             limit,
+            evidence: None,
+        };
+        assert!(rt; listing == wanted, "{line}");
+    }
+    Ok(())
+}
+
+#[test]
+fn evidence_is_asked_for_by_a_name(rt: HostRuntime) -> Result<(), Fail> {
+    let rows = [
+        ("list|f|--evidence|e|", "e"),
+        ("list|f|--evidence=e|", "e"),
+        ("list|--evidence|e|f|", "e"),
+        ("list|--evidence=e|--|f|", "e"),
+        ("list|f|--evidence|f|", "f"),
+        ("list|f|--evidence||", ""),
+        ("list|f|--evidence=|", ""),
+        ("list|f|--evidence|-|", "-"),
+        ("list|f|--evidence=-x|", "-x"),
+        ("list|f|--evidence=--limit=5|", "--limit=5"),
+        ("list|f|--evidence==|", "="),
+        ("list|f|--evidence|list|", "list"),
+    ];
+    for (line, evidence) in rows {
+        let words = split(rt.alloc(), line)?;
+        let Ok(Some(Request::List(listing))) = read_words(rt.alloc(), words.as_slice()) else {
+            return Err(Fail::from("no listing"));
+        };
+        let wanted = Listing {
+            file: "f",
+            conflicts: u64::MAX,
+            limit: 1_000_000_000,
+            evidence: Some(evidence),
         };
         assert!(rt; listing == wanted, "{line}");
     }
@@ -166,7 +200,7 @@ fn other_lines_are_wrong(rt: HostRuntime) -> Result<(), Fail> {
     Ok(())
 }
 
-const UNKNOWN: [&str; 8] = [
+const UNKNOWN: [&str; 10] = [
     "list|f|--conflict|1|",
     "list|f|--conflict=1|",
     "list|f|--limits|1|",
@@ -175,6 +209,8 @@ const UNKNOWN: [&str; 8] = [
     "list|f|-limit|1|",
     "list|f|--Limit|1|",
     "list|f|--=1|",
+    "list|f|--evidenc|e|",
+    "list|f|-e|e|",
 ];
 
 #[test]
@@ -213,7 +249,7 @@ fn values_that_are_no_number_in_the_range_are_wrong(rt: HostRuntime) -> Result<(
     Ok(())
 }
 
-const REPEATED: [&str; 9] = [
+const REPEATED: [&str; 15] = [
     "list|f|--conflicts|",
     "list|--conflicts|--|f|",
     "list|f|--limit|--|5|",
@@ -223,6 +259,12 @@ const REPEATED: [&str; 9] = [
     "list|f|--conflicts|1|--conflicts|1|",
     "list|f|--conflicts|1|--conflicts=1|",
     "list|--limit|5|f|--limit|5|",
+    "list|f|--evidence|",
+    "list|--evidence|--|f|",
+    "list|f|--evidence|-x|",
+    "list|f|--evidence|--limit|5|",
+    "list|f|--evidence|e|g|",
+    "list|f|--evidence=e|--evidence=e|",
 ];
 
 #[test]
