@@ -2,7 +2,7 @@
 use Rattle.std.proofs.Common.{◌≡◌, ◌≢◌, ℕ, zero, suc, ◌+◌, ◌-◌, ◌*◌, ◌/◌, ◌<◌, ◌≤◌, List, length, set, get_or, refl, sym, ◌∙◌, ap, subst, inl, inr, arith, length-set, get_or-set_same, get_or-set_other}
 use Rattle.std.specs.Prelude.{slice_index}
 use Rattle.std.proofs.lemmas.Bool.{cases_eq}
-use Rattle.trail_book.specs.Heap.{Heap, Holds, IsBelow, AreOrdered, MayRise, MaySink, Keeps, IsSwapped, IsRaised, ArePlaces, key, IsHeap}
+use Rattle.trail_book.specs.Heap.{Heap, Holds, IsBelow, AreOrdered, MayRise, Keeps, IsSwapped, IsRaised, ArePlaces, key, IsHeap}
 
 -- the keys of two places changed
 pub record AreExchanged (old new : ℕ → ℕ) (one other : ℕ) : Type 0 where
@@ -53,22 +53,34 @@ rise_step k k' count at high b within m lt x = record {
       ];
 }
 
-pub rise_done : (k : ℕ → ℕ) (count at high : ℕ) → IsBelow at high → MayRise k count at → k at ≤ k high → AreOrdered k count
-rise_done k count at high b m le = λ h l c in_heap. elim (cases_eq l at) [
+pub rise_done : (k : ℕ → ℕ) (count at high : ℕ) → IsBelow at high → MayRise k count at → k at ≤ k high → AreOrdered 0 k count
+rise_done k count at high b m le = λ h l z c in_heap. elim (cases_eq l at) [
   | inl same ↦
       let over : h ≡ high = one_above at h high (subst (λ (n : ℕ). IsBelow n h) same c) b in
       omega (arith, ap k same, ap k over, le)
   | inr other ↦ m.others h l c in_heap other
 ]
 
-pub rise_top : (k : ℕ → ℕ) (count : ℕ) → MayRise k count 0 → AreOrdered k count
-rise_top k count m = λ h l c in_heap. m.others h l c in_heap (λ e. absurd (omega (arith, e, c.0)))
+pub rise_top : (k : ℕ → ℕ) (count : ℕ) → MayRise k count 0 → AreOrdered 0 k count
+rise_top k count m = λ h l z c in_heap. m.others h l c in_heap (λ e. absurd (omega (arith, e, c.0)))
+
+-- From a place on, only the item at a place may rank below those under it, while it moves down.
+pub record MaySink (from : ℕ) (k : ℕ → ℕ) (count at : ℕ) : Type 0 where
+  pub others : (high low : ℕ) → from ≤ high → IsBelow low high → low < count → high ≢ at → k low ≤ k high
+  pub around : (high low : ℕ) → from ≤ high → IsBelow at high → IsBelow low at → low < count → k low ≤ k high
+
+-- it begins at the place itself, and nothing over that counts
+pub sink_start : (k : ℕ → ℕ) (count at : ℕ) → AreOrdered (at + 1) k count → MaySink at k count at
+sink_start k count at m = record {
+  others = λ h l f c in_heap apart. m h l (omega (arith, f, apart)) c in_heap;
+  around = λ h l f c d in_heap. absurd (omega (arith, f, c.0));
+}
 
 -- an item changes places with the greater one of those below it
-pub sink_step : (k k' : ℕ → ℕ) (count at low : ℕ) → IsBelow low at → low < count → MaySink k count at → k at < k low
-    → ((other : ℕ) → IsBelow other at → other < count → k other ≤ k low) → AreExchanged k k' low at → MaySink k' count low
-sink_step k k' count at low b within m lt greater x = record {
-  others = λ h l c in_heap not_low. elim (cases_eq h at) [
+pub sink_step : (from : ℕ) (k k' : ℕ → ℕ) (count at low : ℕ) → IsBelow low at → low < count → MaySink from k count at → k at < k low
+    → ((other : ℕ) → IsBelow other at → other < count → k other ≤ k low) → AreExchanged k k' low at → MaySink from k' count low
+sink_step from k k' count at low b within m lt greater x = record {
+  others = λ h l f c in_heap not_low. elim (cases_eq h at) [
     | inl same ↦ elim (cases_eq l low) [
       | inl is ↦ omega (arith, ap k' same, ap k' is, x.here, x.there, lt)
       | inr other ↦
@@ -80,35 +92,35 @@ sink_step k k' count at low b within m lt greater x = record {
         let kept : k' h ≡ k h = x.others h not_low beside in
         elim (cases_eq l at) [
           | inl is ↦
-              let le : k low ≤ k h = m.around h low (subst (λ (n : ℕ). IsBelow n h) is c) b within in
+              let le : k low ≤ k h = m.around h low f (subst (λ (n : ℕ). IsBelow n h) is c) b within in
               omega (arith, ap k' is, x.there, le, kept)
           | inr other ↦
-              let le : k l ≤ k h = m.others h l c in_heap beside in
+              let le : k l ≤ k h = m.others h l f c in_heap beside in
               let apart : l ≢ low = λ e. beside (one_above low h at (subst (λ (n : ℕ). IsBelow n h) e c) b) in
               omega (arith, kept, le, x.others l apart other)
         ]
   ];
-  around = λ h l c d in_heap.
+  around = λ h l f c d in_heap.
       let over : h ≡ at = one_above low h at c b in
-      let le : k l ≤ k low = m.others low l d in_heap (λ e. absurd (omega (arith, e, b.0))) in
+      let le : k l ≤ k low = m.others low l (omega (arith, f, c.0)) d in_heap (λ e. absurd (omega (arith, e, b.0))) in
       let kept : k' l ≡ k l = x.others l (λ e. absurd (omega (arith, e, d.0))) (λ e. absurd (omega (arith, e, d.0, b.0))) in
       omega (arith, ap k' over, x.there, kept, le);
 }
 
-pub sink_done : (k : ℕ → ℕ) (count at low : ℕ) → MaySink k count at → ((other : ℕ) → IsBelow other at → other < count → k other ≤ k low) → k low ≤ k at
-    → AreOrdered k count
-sink_done k count at low m greater le = λ h l c in_heap. elim (cases_eq h at) [
+pub sink_done : (from : ℕ) (k : ℕ → ℕ) (count at low : ℕ) → MaySink from k count at → ((other : ℕ) → IsBelow other at → other < count → k other ≤ k low) → k low ≤ k at
+    → AreOrdered from k count
+sink_done from k count at low m greater le = λ h l f c in_heap. elim (cases_eq h at) [
   | inl same ↦
       let below : k l ≤ k low = greater l (subst (λ (n : ℕ). IsBelow l n) same c) in_heap in
       omega (arith, ap k same, below, le)
-  | inr other ↦ m.others h l c in_heap other
+  | inr other ↦ m.others h l f c in_heap other
 ]
 
-pub sink_end : (k : ℕ → ℕ) (count at : ℕ) → MaySink k count at → count ≤ 2 * at + 1 → AreOrdered k count
-sink_end k count at m none = λ h l c in_heap. m.others h l c in_heap (λ e. absurd (omega (arith, e, c.0, in_heap, none)))
+pub sink_end : (from : ℕ) (k : ℕ → ℕ) (count at : ℕ) → MaySink from k count at → count ≤ 2 * at + 1 → AreOrdered from k count
+sink_end from k count at m none = λ h l f c in_heap. m.others h l f c in_heap (λ e. absurd (omega (arith, e, c.0, in_heap, none)))
 
 -- none ranks above the first
-pub top_is_greatest : (k : ℕ → ℕ) (count : ℕ) → AreOrdered k count → (place : ℕ) → place < count → k place ≤ k 0
+pub top_is_greatest : (k : ℕ → ℕ) (count : ℕ) → AreOrdered 0 k count → (place : ℕ) → place < count → k place ≤ k 0
 top_is_greatest k count m place = down place place (omega arith)
   where
     down : (n p : ℕ) → p ≤ n → p < count → k p ≤ k 0
@@ -119,13 +131,14 @@ top_is_greatest k count m place = down place place (omega arith)
           let low : 2 * ((p - 1) / 2) + 1 ≤ p = omega (arith, some) in
           let high : p ≤ 2 * ((p - 1) / 2) + 2 = omega (arith, some) in
           let rest : k ((p - 1) / 2) ≤ k 0 = down n ((p - 1) / 2) (omega (arith, low, le)) (omega (arith, low, in_heap)) in
-          let here : k p ≤ k ((p - 1) / 2) = m ((p - 1) / 2) p (low, high) in_heap in
+          let here : k p ≤ k ((p - 1) / 2) = m ((p - 1) / 2) p (omega arith) (low, high) in_heap in
           omega (arith, rest, here)
     ]
 
-pub first_is_greatest : (rank : ℕ → ℕ) (heap : Heap) → IsHeap rank heap → (item : ℕ) → Holds heap item → rank item ≤ rank (slice_index heap.items 0)
-first_is_greatest rank heap m item h =
-    subst (λ (n : ℕ). rank n ≤ rank (slice_index heap.items 0)) h.2 (top_is_greatest (key rank heap) heap.count m h.0 h.1)
+pub first_is_greatest : (rank : ℕ → ℕ) (heap : Heap) → IsHeap rank heap → heap.sorted ≡ heap.count → (item : ℕ) → Holds heap item
+    → rank item ≤ rank (slice_index heap.items 0)
+first_is_greatest rank heap m all item h =
+    subst (λ (n : ℕ). rank n ≤ rank (slice_index heap.items 0)) h.2 (top_is_greatest (key rank heap) heap.sorted m h.0 (omega (arith, h.1, all)))
 
 -- what is held stays so where two places within the heap change their items
 pub swap_keeps : (old new : Heap) (one other : ℕ) → one < old.count → other < old.count → new.count ≡ old.count → length new.items ≡ length old.items
@@ -245,13 +258,13 @@ places_of_numbers items places size a b f g = record {
 
 -- only what is above the raised item in the heap may be out of order
 pub raised : (rank rank' : ℕ → ℕ) (items places : List ℕ) (count item : ℕ) → ArePlaces items places → count ≤ length items → item < length items
-    → AreOrdered (λ p. rank (slice_index items p)) count → IsRaised rank rank' item → MayRise (λ p. rank' (slice_index items p)) count (slice_index places item)
+    → AreOrdered 0 (λ p. rank (slice_index items p)) count → IsRaised rank rank' item → MayRise (λ p. rank' (slice_index items p)) count (slice_index places item)
 raised rank rank' items places count item t le within m r = record {
-  others = λ h l c in_heap apart. omega (arith, m h l c in_heap, lifted h, stays l (omega (arith, in_heap, le)) apart);
+  others = λ h l c in_heap apart. omega (arith, m h l (omega arith) c in_heap, lifted h, stays l (omega (arith, in_heap, le)) apart);
   around = λ h l c d in_heap.
       let mid = slice_index places item in
-      let over = m h mid c (omega (arith, d.0, in_heap)) in
-      let under = m mid l d in_heap in
+      let over = m h mid (omega arith) c (omega (arith, d.0, in_heap)) in
+      let under = m mid l (omega arith) d in_heap in
       omega (arith, over, under, lifted h, stays l (omega (arith, in_heap, le)) (λ e. absurd (omega (arith, e, d.0))));
 }
   where
@@ -266,10 +279,10 @@ raised rank rank' items places count item t le within m r = record {
 
 -- an item that the heap does not hold is at no place of it
 pub raised_outside : (rank rank' : ℕ → ℕ) (items places : List ℕ) (count item : ℕ) → ArePlaces items places → count ≤ length items
-    → count ≤ slice_index places item → AreOrdered (λ p. rank (slice_index items p)) count → IsRaised rank rank' item
-    → AreOrdered (λ p. rank' (slice_index items p)) count
-raised_outside rank rank' items places count item t le out m r = λ h l c in_heap.
-    omega (arith, m h l c in_heap, stays h (omega (arith, in_heap, c.0)), stays l in_heap)
+    → count ≤ slice_index places item → AreOrdered 0 (λ p. rank (slice_index items p)) count → IsRaised rank rank' item
+    → AreOrdered 0 (λ p. rank' (slice_index items p)) count
+raised_outside rank rank' items places count item t le out m r = λ h l z c in_heap.
+    omega (arith, m h l z c in_heap, stays h (omega (arith, in_heap, c.0)), stays l in_heap)
   where
     stays : (p : ℕ) → p < count → rank' (slice_index items p) ≡ rank (slice_index items p)
     stays p h =

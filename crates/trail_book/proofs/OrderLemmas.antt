@@ -2,14 +2,13 @@
 use Rattle.std.proofs.Common.{◌≡◌, ◌≢◌, ℕ, ◌+◌, ◌-◌, ◌*◌, ◌<◌, ◌≤◌, List, length, set, suc, refl, sym, ◌∙◌, ap, subst, inl, inr, arith, length-set, get_or-set_same, get_or-set_other}
 use Rattle.std.specs.Prelude.{ℤ, pos, negsuc, slice_index, slice_index_or}
 use Rattle.std.proofs.lemmas.Bool.{cases_lt}
-use Rattle.std.proofs.lemmas.List.{length-replicate, get_or-replicate}
 use Rattle.std.proofs.Math.Nat.{mul-le-mul_left}
 use Rattle.sat_base.specs.Literals.{var_of, IsLiteral}
 use Rattle.sat_base.specs.Units.{HasValue, IsValue, IsUnset}
 use Rattle.trail_book.specs.declared.value.Value.{Value}
 use Rattle.trail_book.specs.declared.value.Value.TheVariants.{Unset, True, False}
 use Rattle.trail_book.specs.Values.{truth_of, AreValues}
-use Rattle.trail_book.specs.Order.{Ranking, activity_of, position_of, ComesFirst, rank, unranked, grown}
+use Rattle.trail_book.specs.Order.{Ranking, activity_of, position_of, ComesFirst, rank, grown}
 use Rattle.trail_book.specs.Heap.{Heap, IsHeap}
 
 pub position_in_range : (start index vars : ℕ) → start ≤ vars → index < vars → position_of start index vars < vars
@@ -135,22 +134,3 @@ all_have_values vars values trues are none l is_lit =
 pub heap_grown : (r : Ranking) (heap : Heap) → IsHeap (rank r) heap → IsHeap (rank (grown r)) heap
 unfolding rank
 heap_grown r heap m = m
-
-position_new : (index vars : ℕ) → position_of 0 index vars ≡ index
-position_new index vars = grind arith
-
--- at first it is that of the variables
-rank_new : (vars index : ℕ) → index < vars → rank (unranked vars) index ≡ vars - 1 - index
-unfolding rank
-rank_new vars index h =
-    let none : activity_of (unranked vars) index ≡ 0 = get_or-replicate vars index 0 0 h in
-    let len : length (unranked vars).activities ≡ vars = length-replicate vars 0 in
-    let times : activity_of (unranked vars) index * length (unranked vars).activities ≡ 0 =
-    ap (λ (n : ℕ). n * length (unranked vars).activities) none ∙ omega arith in
-    omega (arith, times, len, position_new index (length (unranked vars).activities))
-
-pub heap_new : (vars : ℕ) (heap : Heap) → heap.count ≡ vars → ((place : ℕ) → place < vars → slice_index heap.items place ≡ place) → IsHeap (rank (unranked vars)) heap
-heap_new vars heap count items = λ high low b in_heap.
-    let l : low < vars = omega (arith, in_heap, count) in
-    let h : high < vars = omega (arith, b.0, l) in
-    omega (arith, ap (rank (unranked vars)) (items low l), ap (rank (unranked vars)) (items high h), rank_new vars low l, rank_new vars high h, b.0)

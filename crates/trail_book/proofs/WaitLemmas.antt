@@ -1,16 +1,18 @@
--- Variables that wait for a decision, and the literals that were last true, as variables get and lose their values.
+-- Variables that wait for a decision, and the literals as they were last held, as variables get and lose their values.
 use Rattle.std.proofs.Common.{◌≡◌, ◌≢◌, ℕ, ◌+◌, ◌-◌, ◌<◌, zero, suc, List, [], ◌∷◌, ◌++◌, append_assoc, replicate, length, set, refl, sym, ◌∙◌, ap, subst, inl, inr, arith, length-set, get_or-set_same, get_or-set_other}
 use Rattle.std.specs.Prelude.{ℤ, pos, negsuc, slice_index_or}
 use Rattle.std.proofs.lemmas.Bool.{cases_eq}
 use Rattle.std.proofs.lemmas.List.{get_or-replicate}
-use Rattle.sat_base.specs.Literals.{var_of}
+use Rattle.sat_base.specs.Literals.{var_of, IsLiteral}
 use Rattle.sat_base.specs.Units.{IsUnset, IsValue}
 use Rattle.trail_book.specs.declared.value.Value.{Value}
 use Rattle.trail_book.specs.declared.value.Value.TheVariants.{Unset}
 use Rattle.trail_book.specs.Values.{value_by, truth_of, AreValues}
 use Rattle.trail_book.specs.Heap.{Heap, Holds}
-use Rattle.trail_book.specs.Tables.{AreWaiting, AreOfVars}
-use Rattle.trail_book.specs.Trail.{positive_from}
+use Rattle.trail_book.specs.Tables.{AreWaiting, AreOfVars, holding}
+use Rattle.trail_book.specs.declared.entry.Entry.{Entry}
+use Rattle.trail_book.specs.Trail.{trues, IsTrail, positive_from}
+use Rattle.trail_book.proofs.PlaceLemmas.{unset_differs}
 
 by_is_set : (lit : ℤ) → value_by lit ≢ Unset
 by_is_set (pos n) = λ same. cc
@@ -52,15 +54,42 @@ pub waiting_all : (values : List Value) (heap : Heap) (vars : ℕ) → length va
 waiting_all values heap vars len all = λ i h gone. all i (omega (arith, h, len))
 
 -- the literal of a variable takes the place of the one before
-pub held_push : (vars : ℕ) (held : List ℤ) (lit : ℤ) (index : ℕ) → index ≡ var_of lit - 1 → 0 < var_of lit → index < length held → AreOfVars vars held
-    → AreOfVars vars (set held index lit)
-held_push vars held lit index is low within are = λ i h. elim (cases_eq i index) [
+pub held_note : (vars : ℕ) (held : List ℤ) (lit : ℤ) → IsLiteral vars lit → length held ≡ vars → AreOfVars vars held
+    → AreOfVars vars (set held (var_of lit - 1) lit)
+held_note vars held lit is len are = λ i h. elim (cases_eq i (var_of lit - 1)) [
   | inl same ↦
-      ap (λ (k : ℕ). var_of (slice_index_or (set held index lit) k (pos 0))) same
-      ∙ ap var_of (get_or-set_same held index lit (pos 0) within)
-      ∙ omega (arith, is, low, same)
-  | inr other ↦ ap var_of (get_or-set_other held index i lit (pos 0) other) ∙ are i h
+      ap (λ (k : ℕ). var_of (slice_index_or (set held (var_of lit - 1) lit) k (pos 0))) same
+      ∙ ap var_of (get_or-set_same held (var_of lit - 1) lit (pos 0) (omega (arith, len, is.not_zero, is.in_range)))
+      ∙ omega (arith, same, is.not_zero)
+  | inr other ↦ ap var_of (get_or-set_other held (var_of lit - 1) i lit (pos 0) other) ∙ are i h
 ]
+
+set_apart : (held : List ℤ) (i j : ℕ) (a b : ℤ) → i ≢ j → set (set held i a) j b ≡ set (set held j b) i a
+set_apart [] i j a b apart = refl
+set_apart (x ∷ held) zero zero a b apart = absurd (apart refl)
+set_apart (x ∷ held) zero (suc j) a b apart = refl
+set_apart (x ∷ held) (suc i) zero a b apart = refl
+set_apart (x ∷ held) (suc i) (suc j) a b apart = ap (λ (low : List ℤ). x ∷ low) (set_apart held i j a b (λ same. apart (ap suc same)))
+
+-- a literal that is noted as it is taken back counted as held before
+pub holding_note : (vars : ℕ) (held : List ℤ) (es : List Entry) (lit : ℤ) → IsTrail vars es → IsUnset (trues es) lit → IsLiteral vars lit
+    → holding (set held (var_of lit - 1) lit) (trues es) ≡ set (holding held (trues es)) (var_of lit - 1) lit
+holding_note vars held [] lit t u is = refl
+holding_note vars held (e ∷ es) lit t u is =
+    let differ : var_of lit - 1 ≢ var_of e.lit - 1 =
+    λ same. unset_differs (trues (e ∷ es)) lit e.lit u (inl refl) (omega (arith, same, t.1.not_zero, is.not_zero)) in
+    let rest = holding_note vars held es lit t.2 (record { not_true = λ i. u.not_true (inr i); not_false = λ i. u.not_false (inr i) }) is in
+    ap (λ (low : List ℤ). set low (var_of e.lit - 1) e.lit) rest ∙ set_apart (holding held (trues es)) (var_of lit - 1) (var_of e.lit - 1) lit e.lit differ
+
+-- a variable without value is as it was noted
+pub holding_unset : (vars : ℕ) (held : List ℤ) (es : List Entry) (index : ℕ) → IsTrail vars es → IsUnset (trues es) (pos (index + 1))
+    → slice_index_or (holding held (trues es)) index (pos 0) ≡ slice_index_or held index (pos 0)
+holding_unset vars held [] index t u = refl
+holding_unset vars held (e ∷ es) index t u =
+    let differ : index ≢ var_of e.lit - 1 =
+    λ same. unset_differs (trues (e ∷ es)) (pos (index + 1)) e.lit u (inl refl) (omega (arith, same, t.1.not_zero)) in
+    get_or-set_other (holding held (trues es)) (var_of e.lit - 1) index e.lit (pos 0) differ
+    ∙ holding_unset vars held es index t.2 (record { not_true = λ i. u.not_true (inr i); not_false = λ i. u.not_false (inr i) })
 
 -- at first each literal is its variable
 pub held_new : (first vars index : ℕ) → index < vars → slice_index_or (positive_from first vars) index (pos 0) ≡ pos (first + index)

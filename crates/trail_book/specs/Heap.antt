@@ -1,11 +1,14 @@
 -- A binary heap, the greatest item first (Williams 1964), of numbered items that have a rank. All items stand in one list.
--- The heap holds those before a place in it, and the others stand behind.
+-- The heap holds the first ones, of these the first are in order, and the others wait to be put in order.
 use Rattle.std.specs.Prelude.{◌≡◌, ◌≢◌, ℕ, ◌+◌, ◌*◌, ◌<◌, ◌≤◌, ◌^◌, List, length, slice_index}
 use Rattle.trail_book.specs.declared.heap.Heap.TheInside.{Inside}
 
 pub record Heap : Type 0 where
   pub items : List ℕ
+  -- how many it holds
   pub count : ℕ
+  -- how many of those are in order
+  pub sorted : ℕ
 
 -- the heap holds an item
 abbrev pub Holds : Heap → ℕ → Type 0
@@ -19,26 +22,19 @@ IsBelow low high = (2 * high + 1 ≤ low) × (low ≤ 2 * high + 2)
 abbrev pub key : (ℕ → ℕ) → Heap → ℕ → ℕ
 key rank heap place = rank (slice_index heap.items place)
 
--- no item of the heap ranks above the one over it
-abbrev pub AreOrdered : (ℕ → ℕ) → ℕ → Type 0
-AreOrdered key count = (high low : ℕ) → IsBelow low high → low < count → key low ≤ key high
+-- from a place on, no item ranks above the one over it
+abbrev pub AreOrdered : ℕ → (ℕ → ℕ) → ℕ → Type 0
+AreOrdered from key count = (high low : ℕ) → from ≤ high → IsBelow low high → low < count → key low ≤ key high
 
+-- the items that are in order are a heap
 abbrev pub IsHeap : (ℕ → ℕ) → Heap → Type 0
-IsHeap rank heap = AreOrdered (key rank heap) heap.count
-
--- leaving out one place, what is below it does not rank above what is over it
-abbrev pub AreAround : (ℕ → ℕ) → ℕ → ℕ → Type 0
-AreAround key count at = (high low : ℕ) → IsBelow at high → IsBelow low at → low < count → key low ≤ key high
+IsHeap rank heap = AreOrdered 0 (key rank heap) heap.sorted
 
 -- only the item at this place may rank above the one over it
 pub record MayRise (key : ℕ → ℕ) (count at : ℕ) : Type 0 where
   pub others : (high low : ℕ) → IsBelow low high → low < count → low ≢ at → key low ≤ key high
-  pub around : AreAround key count at
-
--- only those below this place may rank above the item there
-pub record MaySink (key : ℕ → ℕ) (count at : ℕ) : Type 0 where
-  pub others : (high low : ℕ) → IsBelow low high → low < count → high ≢ at → key low ≤ key high
-  pub around : AreAround key count at
+  -- what is below it does not rank above what is over it
+  pub around : (high low : ℕ) → IsBelow at high → IsBelow low at → low < count → key low ≤ key high
 
 -- the heap holds the same items, maybe in another order
 pub record Keeps (old new : Heap) : Type 0 where
@@ -59,7 +55,7 @@ pub record IsRaised (old new : ℕ → ℕ) (item : ℕ) : Type 0 where
 
 -- what callers see of the tables
 abbrev pub heap_of : Inside → Heap
-heap_of inside = record { items = inside.items.items; count = inside.count }
+heap_of inside = record { items = inside.items.items; count = inside.count; sorted = inside.sorted }
 
 -- each item stands at its place, and at no other
 pub record ArePlaces (items places : List ℕ) : Type 0 where
@@ -71,5 +67,6 @@ pub record ArePlaces (items places : List ℕ) : Type 0 where
 
 pub record IsTable (inside : Inside) : Type 0 where
   pub places : ArePlaces inside.items.items inside.places.items
+  pub sorted : inside.sorted ≤ inside.count
   pub count : inside.count ≤ length inside.items.items
   pub small : length inside.items.items < 2 ^ 31

@@ -1,5 +1,5 @@
 -- How the tables of a trail are seen, and what is always true of them.
-use Rattle.std.specs.Prelude.{◌≡◌, ◌≤◌, ◌<◌, ◌+◌, ◌^◌, ℕ, ℤ, List, length, reverse, vec_capacity, pos, slice_index_or}
+use Rattle.std.specs.Prelude.{◌≡◌, ◌≤◌, ◌<◌, ◌+◌, ◌-◌, ◌^◌, ℕ, ℤ, List, [], ◌∷◌, length, reverse, vec_capacity, pos, slice_index_or, slice_set}
 use Rattle.sat_base.specs.Literals.{var_of}
 use Rattle.trail_book.specs.declared.trail.Trail.TheInside.{Inside}
 use Rattle.trail_book.specs.declared.order.Ranking.TheInside as ranking
@@ -27,10 +27,20 @@ AreWaiting values heap = (index : ℕ) → index < length values → slice_index
 abbrev pub AreOfVars : ℕ → List ℤ → Type 0
 AreOfVars vars lits = (index : ℕ) → index < vars → var_of (slice_index_or lits index (pos 0)) ≡ index + 1
 
--- what callers see of the tables
+-- the literals of variables, where each of these takes its variable's place
+abbrev pub holding : List ℤ → List ℤ → List ℤ
+holding held [] = held
+holding held (lit ∷ lits) = slice_set (holding held lits) (var_of lit - 1) lit
+
+-- what callers see of the tables: what is true counts as held, and is noted as held when it is taken back
 abbrev pub trail_of : Inside → Trail
-trail_of inside =
-    record { vars = inside.vars; entries = entries_of (reverse inside.slots.items); done = inside.done; ranking = inside.ranking; held = inside.held.items }
+trail_of inside = record {
+  vars = inside.vars;
+  entries = entries_of (reverse inside.slots.items);
+  done = inside.done;
+  ranking = inside.ranking;
+  held = holding inside.held.items (trues (entries_of (reverse inside.slots.items)));
+}
 
 -- the tables are those of a trail: slots, values and places agree, there is room, and decisions find the first in their order
 pub record AreTables (inside : Inside) : Type 0 where

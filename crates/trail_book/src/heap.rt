@@ -4,13 +4,19 @@
 //! `2p + 2`, and come after it. All variables stand in one list, of which the heap holds the first `count`, and a second
 //! list has the place of each. So an item is found by index, moved by changes of two places, and all memory is taken at
 //! the start. Variables are named by their index in the tables, from 0.
+//!
+//! What is taken in waits behind the first `sorted`, which are in order, until order is asked for. Then either each moves up
+//! or, where many came, the whole is ordered from its last inner place to the top, which takes linear time (Floyd 1964).
 ghost use Rattle.std.specs.Prelude.{◌≡◌, ◌≢◌, ℕ, ◌+◌, ◌*◌, ◌<◌, ◌≤◌, ◌^◌, length, true, false, IfOk, IfSome, IfNone, slice_index};
 ghost use Rattle.trail_book.specs.Order.{Ranking, rank};
-ghost use Rattle.trail_book.specs.Heap.{Holds, IsBelow, key, IsHeap, MayRise, MaySink, Keeps, IsSwapped, IsRaised};
+ghost use Rattle.trail_book.specs.Heap.{Holds, IsBelow, key, AreOrdered, IsHeap, MayRise, Keeps, IsSwapped, IsRaised};
 
 use crate::order::Ranking;
 use std::alloc::{AllocError, Global};
 use std::marker::Model;
+
+// Where one in so many is out of order, each moves up by itself.
+const FEW: u32 = 4;
 
 #[derive(Drop)]
 pub(crate) struct Heap {
@@ -18,6 +24,8 @@ pub(crate) struct Heap {
     // By item.
     places: Vec<u32>,
     count: u32,
+    // So many of the items that are held, the first ones, are in order.
+    sorted: u32,
 }
 
 impl Model for Heap {
@@ -33,21 +41,22 @@ impl Model for Heap {
 }
 
 impl Heap {
-    /// A heap that holds so many items, in their order.
+    /// A heap that holds so many items.
     pub fn new(alloc: Global, size: u32) -> Result<Heap, AllocError>
         requires { size < 2 ^ 31 }
         ensures size { IfOk result (λ heap. length heap.items ≡ size) }
-        ensures count { IfOk result (λ heap. heap.count ≡ size) }
-        ensures items { IfOk result (λ heap. (place : ℕ) → place < size → slice_index heap.items place ≡ place) }
+        ensures sorted { IfOk result (λ heap. heap.sorted ≡ 0) }
+        ensures holds { IfOk result (λ heap. (item : ℕ) → item < size → Holds heap item) }
     {
         Ok(Heap {
             items: numbers(alloc, size)?,
             places: numbers(alloc, size)?,
             count: size,
+            sorted: 0,
         })
     }
 
-    /// The item of greatest rank.
+    /// The first item, which is that of greatest rank where all are in order.
     pub fn first(&self) -> Option<u32>
         ensures some { IfSome result (λ item. (item ≡ slice_index self.now.items 0) × (0 < self.now.count) × (item < length self.now.items)) }
         ensures none { IfNone result (self.now.count ≡ 0) }
@@ -63,35 +72,34 @@ impl Heap {
     pub fn drop_first(&mut self, ranking: &Ranking)
         requires size { length ranking.now.activities ≡ length self.old.items }
         requires heap { IsHeap (rank ranking.now) self.old }
+        requires sorted { self.old.sorted ≡ self.old.count }
         requires some { 0 < self.old.count }
         ensures size { length self.new.items ≡ length self.old.items }
         ensures heap { IsHeap (rank ranking.now) self.new }
+        ensures sorted { self.new.sorted ≡ self.new.count }
         ensures count { self.new.count + 1 ≡ self.old.count }
         ensures holds { (item : ℕ) → Holds self.old item → item ≢ slice_index self.old.items 0 → Holds self.new item }
     {
-        self.swap(0, self.count - 1);
-        self.count -= 1;
+        let last = self.count - 1;
+        self.swap(0, last);
+        self.count = last;
+        self.sorted = last;
         self.sink(ranking, 0);
     }
 
     /// Takes an item in, if the heap does not hold it.
-    pub fn insert(&mut self, ranking: &Ranking, item: u32)
-        requires size { length ranking.now.activities ≡ length self.old.items }
-        requires heap { IsHeap (rank ranking.now) self.old }
+    pub fn insert(&mut self, item: u32)
         requires item { item < length self.old.items }
         ensures size { length self.new.items ≡ length self.old.items }
-        ensures heap { IsHeap (rank ranking.now) self.new }
+        ensures heap { (rank : ℕ → ℕ) → IsHeap rank self.old → IsHeap rank self.new }
         ensures item { Holds self.new item }
         ensures holds { (other : ℕ) → Holds self.old other → Holds self.new other }
     {
         let place = self.places[item as usize];
-        if place < self.count {
-            return;
+        if place >= self.count {
+            self.swap(place, self.count);
+            self.count += 1;
         }
-        let last = self.count;
-        self.swap(place, last);
-        self.count += 1;
-        self.rise(ranking, last);
     }
 
     /// Orders the heap where one item may rank higher than before.
@@ -103,25 +111,67 @@ impl Heap {
         ensures keeps { Keeps self.old self.new }
     {
         let place = self.places[item as usize];
-        if place < self.count {
+        if place < self.sorted {
             self.rise(ranking, place);
         }
     }
 
-    /// Takes all items in, and orders the heap anew.
-    pub fn fill(&mut self, ranking: &Ranking)
-        requires { length ranking.now.activities ≡ length self.old.items }
+    /// Takes all items in, of which none counts as being in order.
+    pub fn fill(&mut self)
         ensures size { length self.new.items ≡ length self.old.items }
-        ensures heap { IsHeap (rank ranking.now) self.new }
+        ensures sorted { self.new.sorted ≡ 0 }
         ensures holds { (item : ℕ) → item < length self.new.items → Holds self.new item }
     {
-        let size = self.size();
-        self.count = 0;
-        for place in 0..size {
-            self.count = place + 1;
+        self.count = self.size();
+        self.sorted = 0;
+    }
+
+    /// Puts all that the heap holds in order.
+    pub fn order(&mut self, ranking: &Ranking)
+        requires size { length ranking.now.activities ≡ length self.old.items }
+        requires heap { IsHeap (rank ranking.now) self.old }
+        ensures heap { IsHeap (rank ranking.now) self.new }
+        ensures sorted { self.new.sorted ≡ self.new.count }
+        ensures keeps { Keeps self.old self.new }
+    {
+        let _size = self.size(); // All that is in order is held.
+        if self.count - self.sorted > self.sorted / FEW {
+            self.order_whole(ranking);
+        } else {
+            self.order_each(ranking);
+        }
+    }
+
+    // Lets each item that waits move up.
+    fn order_each(&mut self, ranking: &Ranking)
+        requires size { length ranking.now.activities ≡ length self.old.items }
+        requires heap { IsHeap (rank ranking.now) self.old }
+        ensures heap { IsHeap (rank ranking.now) self.new }
+        ensures sorted { self.new.sorted ≡ self.new.count }
+        ensures keeps { Keeps self.old self.new }
+    {
+        let _size = self.size(); // All that is in order is held.
+        while self.sorted < self.count {
+            let place = self.sorted;
+            self.sorted += 1;
             self.rise(ranking, place);
         }
-        let _size = self.size(); // Each item stands in the list.
+    }
+
+    // Orders the heap below each inner place, from the last one to the top.
+    fn order_whole(&mut self, ranking: &Ranking)
+        requires size { length ranking.now.activities ≡ length self.old.items }
+        ensures heap { IsHeap (rank ranking.now) self.new }
+        ensures sorted { self.new.sorted ≡ self.new.count }
+        ensures keeps { Keeps self.old self.new }
+    {
+        let _size = self.size(); // All that the heap holds stands in the list.
+        self.sorted = self.count;
+        let mut place = self.count / 2;
+        while place > 0 {
+            place -= 1;
+            self.sink(ranking, place);
+        }
     }
 
     // How many items there are, held ones and others.
@@ -129,6 +179,7 @@ impl Heap {
         ensures size { result ≡ length self.now.items }
         ensures small { result < 2 ^ 31 }
         ensures room { self.now.count ≤ result }
+        ensures sorted { self.now.sorted ≤ self.now.count }
         ensures all { (item : ℕ) → item < result → (place : ℕ) × (place < result) × (slice_index self.now.items place ≡ item) }
     {
         self.items.len() as u32
@@ -151,6 +202,7 @@ impl Heap {
         requires other { other < length self.old.items }
         ensures size { length self.new.items ≡ length self.old.items }
         ensures count { self.new.count ≡ self.old.count }
+        ensures sorted { self.new.sorted ≡ self.old.sorted }
         ensures swapped { IsSwapped self.old.items self.new.items one other }
     {
         let item = self.items[one as usize];
@@ -164,9 +216,10 @@ impl Heap {
     // Moves an item up to where none over it ranks below it.
     fn rise(&mut self, ranking: &Ranking, place: u32)
         requires size { length ranking.now.activities ≡ length self.old.items }
-        requires place { place < self.old.count }
-        requires heap { MayRise (key (rank ranking.now) self.old) self.old.count place }
+        requires place { place < self.old.sorted }
+        requires heap { MayRise (key (rank ranking.now) self.old) self.old.sorted place }
         ensures heap { IsHeap (rank ranking.now) self.new }
+        ensures sorted { self.new.sorted ≡ self.old.sorted }
         ensures keeps { Keeps self.old self.new }
     {
         let _size = self.size(); // All that the heap holds stands in the list.
@@ -185,29 +238,30 @@ impl Heap {
     fn greater_below(&self, ranking: &Ranking, high: u32) -> Option<u32>
         requires size { length ranking.now.activities ≡ length self.now.items }
         requires high { high < length self.now.items }
-        ensures some { IfSome result (λ low. IsBelow low high × (low < self.now.count)) }
-        ensures greater { IfSome result (λ low. (other : ℕ) → IsBelow other high → other < self.now.count → key (rank ranking.now) self.now other ≤ key (rank ranking.now) self.now low) }
-        ensures none { IfNone result (self.now.count ≤ 2 * high + 1) }
+        ensures some { IfSome result (λ low. IsBelow low high × (low < self.now.sorted)) }
+        ensures greater { IfSome result (λ low. (other : ℕ) → IsBelow other high → other < self.now.sorted → key (rank ranking.now) self.now other ≤ key (rank ranking.now) self.now low) }
+        ensures none { IfNone result (self.now.sorted ≤ 2 * high + 1) }
     {
         let _size = self.size(); // So the places below can be numbered.
         let left = 2 * high + 1;
-        if left >= self.count {
+        if left >= self.sorted {
             return None;
         }
         let right = left + 1;
-        if right < self.count && self.is_above(ranking, right, left) {
+        if right < self.sorted && self.is_above(ranking, right, left) {
             Some(right)
         } else {
             Some(left)
         }
     }
 
-    // Moves an item down to where none below it ranks above it.
+    // Moves an item down to where none below it ranks above it. The rest below its place is in order.
     fn sink(&mut self, ranking: &Ranking, place: u32)
         requires size { length ranking.now.activities ≡ length self.old.items }
         requires place { place < length self.old.items }
-        requires heap { MaySink (key (rank ranking.now) self.old) self.old.count place }
-        ensures heap { IsHeap (rank ranking.now) self.new }
+        requires heap { AreOrdered (place + 1) (key (rank ranking.now) self.old) self.old.sorted }
+        ensures heap { AreOrdered place (key (rank ranking.now) self.new) self.new.sorted }
+        ensures sorted { self.new.sorted ≡ self.old.sorted }
         ensures keeps { Keeps self.old self.new }
     {
         let _size = self.size(); // All that the heap holds stands in the list.

@@ -7,8 +7,12 @@
 //! start, and no variable stands twice, so nothing that comes later can want memory.
 //!
 //! Each variable without value waits in a heap, the first in the order of decisions at its top. A variable that gets a
-//! value stays there until it comes to the top, since most lose their value again before that.
-ghost use Rattle.std.specs.Prelude.{◌≡◌, ℕ, ◌+◌, ◌-◌, ◌<◌, ◌≤◌, ◌^◌, ◌∷◌, [], length, map, drop, ℤ, pos, IfOk, Some, None, IfSome, IfNone, neg_ℤ, min, slice_index_or, slice_set};
+//! value stays there until it comes to the top, since most lose their value again before that. One that loses its value is
+//! taken in without order, and only a decision asks for order.
+//!
+//! What was last true is noted where a value is taken back, and not where it comes: for a variable with a value that is
+//! the literal on the trail.
+ghost use Rattle.std.specs.Prelude.{◌≡◌, ℕ, ◌+◌, ◌-◌, ◌<◌, ◌≤◌, ◌^◌, ◌∷◌, [], length, map, drop, ℤ, pos, true, IfOk, Some, None, IfSome, IfNone, neg_ℤ, min, slice_index_or, slice_set};
 ghost use Rattle.sat_base.specs.Literals.{var_of, IsLiteral};
 ghost use Rattle.sat_base.specs.Members.{In};
 ghost use Rattle.sat_base.specs.Units.{IsUnset, HasValue, IsValue};
@@ -37,7 +41,7 @@ pub struct Trail {
     places: Vec<u32>,
     // How many of the values, the oldest ones, have been propagated.
     done: u32,
-    // By variable: the literal that was last true.
+    // By variable: the literal that was last taken back, at first the positive one.
     held: Vec<Lit>,
     ranking: Ranking,
     // Each variable without value is in it, and maybe others.
@@ -284,7 +288,7 @@ impl Trail {
     {
         let index = var - 1;
         if self.ranking.bump(index) {
-            self.heap.fill(&self.ranking);
+            self.heap.fill();
         } else {
             self.heap.raise(&self.ranking, index);
         }
@@ -297,7 +301,7 @@ impl Trail {
         ensures reordered { IsReordered self.old self.new }
     {
         if self.ranking.grow() {
-            self.heap.fill(&self.ranking);
+            self.heap.fill();
         }
     }
 
@@ -306,7 +310,7 @@ impl Trail {
         ensures { self.new ≡ record self.old { ranking = turned turn self.old.ranking } }
     {
         if self.ranking.start_at(turn) {
-            self.heap.fill(&self.ranking);
+            self.heap.fill();
         }
     }
 
@@ -336,6 +340,13 @@ impl Trail {
         Some(Lit::new((index + 1) as i32))
     }
 
+    // Whether each variable has a value.
+    fn is_full(&self) -> bool
+        ensures { result ≡ true → (lit : ℤ) → IsLiteral self.now.vars lit → HasValue (trues self.now.entries) lit }
+    {
+        self.len() == self.vars()
+    }
+
     // The index of the variable without value that comes first. Those that are taken off the heap have a value.
     fn first_unset(&mut self) -> Option<u32>
         ensures some { IfSome result (λ index. IsUnset (trues self.old.entries) (pos (index + 1)) × (index < self.old.vars)) }
@@ -344,6 +355,10 @@ impl Trail {
         ensures same { self.new ≡ self.old }
     {
         let _vars = self.ranking.vars(); // The circle begins within the variables.
+        if self.is_full() {
+            return None;
+        }
+        self.heap.order(&self.ranking);
         while let Some(index) = self.heap.first() {
             if self.values[index as usize] == Value::Unset {
                 return Some(index);
@@ -368,7 +383,6 @@ impl Trail {
         let index = (slot.lit.var() - 1) as usize;
         self.values[index] = Value::by(slot.lit);
         self.places[index] = self.slots.len() as u32;
-        self.held[index] = slot.lit;
         self.slots.push_reserved(slot);
     }
 
@@ -385,7 +399,8 @@ impl Trail {
         let slot = self.slots.take_last();
         let index = slot.lit.var() - 1;
         self.values[index as usize] = Value::Unset;
-        self.heap.insert(&self.ranking, index);
+        self.held[index as usize] = slot.lit;
+        self.heap.insert(index);
     }
 }
 

@@ -1,8 +1,11 @@
-use Rattle.std.proofs.Common.{arith}
+use Rattle.std.proofs.Common.{length, sym, subst, ap, ◌∙◌, ◌<◌, arith}
+use Rattle.std.specs.Prelude.{slice_index}
+use Rattle.trail_book.specs.Heap.{Heap}
 use Rattle.trail_book.proofs.heap.Heap.fill.Goals as goal
 
 -- the heap has all places, and each item stands at one
 pub returns-clause-holds : goal.returns-clause-holds
 returns-clause-holds c = λ item h.
-    let (place, within, is) = c.size-size-2.ensures.all item (omega (arith, h, c.size-size-2.ensures.size)) in
-    (place, omega (arith, within, c.size-size-2.ensures.size, c.loop-place-test.false, c.loop-place.invariant.so_far, c.loop-place.invariant.same, c.loop-place.invariant.size), is)
+    let within = subst (λ (heap : Heap). item < length heap.items) c.self.view_is h in
+    let (place, low, is) = c.size-self-inside.ensures.all item (omega (arith, within, c.size-self-inside.ensures.size)) in
+    (place, low, ap (λ (heap : Heap). slice_index heap.items place) c.self.view_is ∙ is)

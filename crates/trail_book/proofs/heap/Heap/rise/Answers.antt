@@ -14,13 +14,15 @@ loop-at-preserved c =
     let high = (at - 1) / 2 in
     let inv = c.loop-at.invariant in
     let below : IsBelow at high = (omega (arith, c.loop-at-test.true), omega (arith, c.loop-at-test.true)) in
-    let higher : high < old.count = omega (arith, below.0, inv.within) in
-    let step = rise_step (key r old) (key r new) old.count at high below inv.within inv.heap (c.is_above.ensures.yes c.if-not-is_above.false)
+    let higher : high < old.sorted = omega (arith, below.0, inv.within) in
+    let step = rise_step (key r old) (key r new) old.sorted at high below inv.within inv.heap (c.is_above.ensures.yes c.if-not-is_above.false)
     (keys_exchanged r old.items new.items at high c.swap.ensures.swapped) in
     record {
-      within = omega (arith, higher, c.swap.ensures.count);
-      heap = subst (λ (n : ℕ). MayRise (key r new) n high) (sym c.swap.ensures.count) step;
+      within = omega (arith, higher, c.swap.ensures.sorted);
+      heap = subst (λ (n : ℕ). MayRise (key r new) n high) (sym c.swap.ensures.sorted) step;
+      sorted = c.swap.ensures.sorted ∙ inv.sorted;
       size = inv.size ∙ sym c.swap.ensures.size;
-      room = omega (arith, inv.room, c.swap.ensures.count, c.swap.ensures.size);
-      keeps = keeps_more c.args.self.now old new inv.keeps (swap_keeps old new at high inv.within higher c.swap.ensures.count c.swap.ensures.size c.swap.ensures.swapped);
+      room = omega (arith, inv.room, c.swap.ensures.sorted, c.swap.ensures.size);
+      held = omega (arith, inv.held, c.swap.ensures.sorted, c.swap.ensures.count);
+      keeps = keeps_more c.args.self.now old new inv.keeps (swap_keeps old new at high (omega (arith, inv.within, inv.held)) (omega (arith, higher, inv.held)) c.swap.ensures.count c.swap.ensures.size c.swap.ensures.swapped);
     }

@@ -6,10 +6,12 @@ use Rattle.trail_book.proofs.heap.Heap.rise.Given as goal
 -- only the item that moves may be out of order
 abbrev pub invariant-loop-at : goal.invariant-loop-at
 invariant-loop-at l = record {
-  within : l.at < l.self.count;
-  heap : MayRise (key (rank l.ranking) l.self) l.self.count l.at;
+  within : l.at < l.self.sorted;
+  heap : MayRise (key (rank l.ranking) l.self) l.self.sorted l.at;
+  sorted : l.self.sorted ≡ l.fn.self.sorted;
   size : length l.ranking.activities ≡ length l.self.items;
-  room : l.self.count ≤ length l.self.items;
+  room : l.self.sorted ≤ length l.self.items;
+  held : l.self.sorted ≤ l.self.count;
   keeps : Keeps l.fn.self l.self;
 }
 

@@ -1,7 +1,7 @@
 use Rattle.std.proofs.Common.{◌<◌, ◌∙◌, ℕ, sym, subst, arith}
 use Rattle.trail_book.specs.Order.{rank}
-use Rattle.trail_book.specs.Heap.{key, MaySink, IsBelow}
-use Rattle.trail_book.proofs.HeapLemmas.{keys_exchanged, sink_step, swap_keeps, keeps_more}
+use Rattle.trail_book.specs.Heap.{key, IsBelow}
+use Rattle.trail_book.proofs.HeapLemmas.{MaySink, keys_exchanged, sink_step, swap_keeps, keeps_more}
 use Rattle.trail_book.proofs.heap.Heap.sink.Goals as goal
 
 -- the item is one level lower, and it alone may still be out of order
@@ -15,14 +15,16 @@ loop-low-preserved c =
     let inv = c.loop-low.invariant in
     let told = c.in-Some.ensures in
     let below : IsBelow low at = told.some.0 in
-    let within : low < old.count = told.some.1 in
-    let step = sink_step (key r old) (key r new) old.count at low below within inv.heap (c.is_above.ensures.yes c.if-not-is_above.false) told.greater
+    let within : low < old.sorted = told.some.1 in
+    let step = sink_step c.args.place (key r old) (key r new) old.sorted at low below within inv.heap (c.is_above.ensures.yes c.if-not-is_above.false) told.greater
     (keys_exchanged r old.items new.items low at c.swap.ensures.swapped) in
-    let upper : at < old.count = omega (arith, below.0, within) in
+    let upper : at < old.sorted = omega (arith, below.0, within) in
     record {
       within = omega (arith, within, inv.room, c.swap.ensures.size);
-      heap = subst (λ (n : ℕ). MaySink (key r new) n low) (sym c.swap.ensures.count) step;
+      heap = subst (λ (n : ℕ). MaySink c.args.place (key r new) n low) (sym c.swap.ensures.sorted) step;
+      sorted = c.swap.ensures.sorted ∙ inv.sorted;
       size = inv.size ∙ sym c.swap.ensures.size;
-      room = omega (arith, inv.room, c.swap.ensures.count, c.swap.ensures.size);
-      keeps = keeps_more c.args.self.now old new inv.keeps (swap_keeps old new low at within upper c.swap.ensures.count c.swap.ensures.size c.swap.ensures.swapped);
+      room = omega (arith, inv.room, c.swap.ensures.sorted, c.swap.ensures.size);
+      held = omega (arith, inv.held, c.swap.ensures.sorted, c.swap.ensures.count);
+      keeps = keeps_more c.args.self.now old new inv.keeps (swap_keeps old new low at (omega (arith, within, inv.held)) (omega (arith, upper, inv.held)) c.swap.ensures.count c.swap.ensures.size c.swap.ensures.swapped);
     }

@@ -18,6 +18,7 @@ invariant_of-self c =
     length-set (set items c.args.one c.index-next.result.now) c.args.other c.index-item.result.now ∙ length-set items c.args.one c.index-next.result.now in
     record {
       places = rw (item, next) t;
+      sorted = c.self.invariant.sorted;
       count = omega (arith, len, c.self.invariant.count);
       small = omega (arith, len, c.self.invariant.small);
     }

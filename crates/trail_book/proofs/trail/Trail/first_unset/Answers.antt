@@ -24,7 +24,7 @@ returns-then-eq-clause-first c =
     let within : o < a.vars = omega (arith, is_lit.not_zero, is_lit.in_range) in
     let gone = unset_value a.vars a.values.items (trues (trail_of a).entries) o inv.values within (unset_var (trues (trail_of a).entries) other o of_var unset) in
     let waits = inv.waiting o (omega (arith, within, inv.one_value_each)) gone in
-    let le = first_is_greatest (rank a.ranking) a.heap inv.heap o waits in
+    let le = first_is_greatest (rank a.ranking) a.heap inv.heap c.loop-index.invariant.2 o waits in
     let ranking : a.ranking ≡ c.self.inside.ranking = ap (λ (t : Trail). t.ranking) (c.loop-index.invariant.1 ∙ sym c.self.view_is) in
     let start : a.ranking.start ≤ length a.ranking.activities =
     subst (λ (r : Ranking). r.start ≤ length r.activities) (sym ranking) (omega (arith, c.vars-vars.ensures.start, c.vars-vars.ensures.vars)) in

@@ -6,13 +6,11 @@ use Rattle.trail_book.specs.declared.slot.Slot.{Slot}
 use Rattle.trail_book.specs.declared.value.Value.TheVariants.{Unset}
 use Rattle.trail_book.specs.Trail.{trues, IsTrail}
 use Rattle.trail_book.specs.Slots.{entries_of, AreKept}
-use Rattle.trail_book.specs.Order.{Ranking, rank}
-use Rattle.trail_book.specs.Heap.{IsHeap}
-use Rattle.trail_book.proofs.OrderLemmas.{heap_new}
+use Rattle.trail_book.specs.Order.{Ranking}
 use Rattle.trail_book.proofs.WaitLemmas.{held_of_vars, length-positive_from, values_new}
 use Rattle.trail_book.proofs.trail.Trail.new.Goals as goal
 
--- nothing is true, and all variables wait in their order
+-- nothing is true, and all variables wait, none of them in order yet
 pub invariant_of-result : goal.invariant_of-result
 invariant_of-result c =
     let vars = c.args.vars in
@@ -34,8 +32,8 @@ invariant_of-result c =
       of_vars = held_of_vars vars c.in_ok-positive.field-0.items c.in_ok-positive.ensures;
       ranked = subst (λ (r : Ranking). length r.activities ≡ vars) ranking (length-replicate vars 0);
       sized = heap.size;
-      heap = subst (λ (r : Ranking). IsHeap (rank r) c.in_ok-new-2.field-0) ranking (heap_new vars c.in_ok-new-2.field-0 heap.count heap.items);
+      heap = λ high low f b in_heap. absurd (omega (arith, in_heap, heap.sorted));
       waiting = λ index h gone.
           let within : index < vars = omega (arith, h, ap length values, length-replicate vars Unset) in
-          (index, omega (arith, within, heap.count), heap.items index within);
+          heap.holds index within;
     }

@@ -10,7 +10,7 @@ use Rattle.trail_book.specs.Values.{value_by, AreValues}
 use Rattle.trail_book.specs.Tables.{AreWaiting}
 use Rattle.trail_book.proofs.SlotLemmas.{push_seen, push_room, slots_room, kept_push}
 use Rattle.trail_book.proofs.ValueLemmas.{values_push}
-use Rattle.trail_book.proofs.WaitLemmas.{waiting_push, held_push}
+use Rattle.trail_book.proofs.WaitLemmas.{waiting_push}
 use Rattle.trail_book.proofs.trail.Trail.push.Goals as goal
 
 -- no variable stands twice, so there are at most as many slots as variables
@@ -56,8 +56,8 @@ invariant_of-self c =
       one_place_each = length-set a.places.items (c.var.result - 1) c.len.result ∙ inv.one_place_each;
       small = inv.small;
       room = omega (arith, inv.room, c.push_reserved.ensures.capacity);
-      one_held_each = length-set a.held.items (c.var.result - 1) slot.lit ∙ inv.one_held_each;
-      of_vars = held_push a.vars a.held.items slot.lit (c.var.result - 1) index is_lit.not_zero (omega (arith, inv.one_held_each, index, is_lit.not_zero, is_lit.in_range)) inv.of_vars;
+      one_held_each = inv.one_held_each;
+      of_vars = inv.of_vars;
       ranked = inv.ranked;
       sized = inv.sized;
       heap = inv.heap;

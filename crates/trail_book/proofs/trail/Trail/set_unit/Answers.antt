@@ -1,10 +1,10 @@
-use Rattle.std.proofs.Common.{◌≡◌, ◌<◌, ◌∙◌, length, map, arith, ap, subst, sym}
+use Rattle.std.proofs.Common.{◌≡◌, ◌<◌, ◌∙◌, List, length, map, arith, ap, subst, sym}
 use Rattle.sat_base.specs.Literals.{var_of}
 use Rattle.trail_book.specs.declared.entry.Entry.{Entry}
 use Rattle.trail_book.specs.Trail.{Trail, trues, IsTrail, IsPlace, with_unit}
 use Rattle.trail_book.specs.Slots.{entry_of}
 use Rattle.trail_book.specs.Values.{AreValues}
-use Rattle.trail_book.specs.Tables.{trail_of}
+use Rattle.trail_book.specs.Tables.{trail_of, holding}
 use Rattle.trail_book.proofs.TrailLemmas.{IsTrail-with_unit, trues-with_unit}
 use Rattle.trail_book.proofs.PlaceLemmas.{place_one}
 use Rattle.trail_book.proofs.SlotLemmas.{length-entries, place_reads, unit_entries, unit_slots}
@@ -53,3 +53,19 @@ returns-clause-entries c =
     let of_var : var_of slot.lit ≡ c.args.var = ap (λ (e : Entry). var_of e.lit) here ∙ is.of_var in
     unit_entries c.self.inside.vars slots c.place-place.result slot c.args.var c.args.id c.self.invariant.trail within read of_var c.requires.id
     ∙ ap (λ (t : Trail). map (with_unit c.args.var c.args.id) t.entries) c.self.view_is
+
+-- what is true stays
+pub returns-clause-held : goal.returns-clause-held
+returns-clause-held c =
+    let slots = c.self.inside.slots.items in
+    let es = (trail_of c.self.inside).entries in
+    let is = subst (λ (t : Trail). IsPlace t.entries c.args.var c.place-place.result) (sym c.self.view_is) c.place-place.ensures in
+    let within : c.place-place.result < length slots = omega (arith, is.within, length-entries slots) in
+    let slot = c.index_mut.result.now in
+    let read = c.index_mut.ensures.value in
+    let here : entry_of slot ≡ is.entry = place_one es (entry_of slot) is.entry c.place-place.result (place_reads slots c.place-place.result slot within read) is.at in
+    let of_var : var_of slot.lit ≡ c.args.var = ap (λ (e : Entry). var_of e.lit) here ∙ is.of_var in
+    let entries = unit_entries c.self.inside.vars slots c.place-place.result slot c.args.var c.args.id c.self.invariant.trail within read of_var c.requires.id in
+    ap (λ (es : List Entry). holding c.self.inside.held.items (trues es)) entries
+    ∙ ap (holding c.self.inside.held.items) (trues-with_unit c.args.var c.args.id es)
+    ∙ ap (λ (t : Trail). t.held) c.self.view_is

@@ -1,14 +1,16 @@
-use Rattle.std.proofs.Common.{◌≡◌, ◌<◌, ◌-◌, ◌∷◌, ◌∙◌, ℕ, List, length, set, arith, ap, subst, sym, length-set}
+use Rattle.std.proofs.Common.{◌≡◌, ◌<◌, ◌-◌, ◌∷◌, ◌∙◌, ℕ, List, length, set, refl, arith, ap, subst, sym, length-set}
 use Rattle.std.specs.Prelude.{reverse}
 use Rattle.sat_base.specs.Literals.{var_of}
 use Rattle.trail_book.specs.declared.slot.Slot.{Slot}
 use Rattle.trail_book.specs.declared.value.Value.TheVariants.{Unset}
-use Rattle.trail_book.specs.Trail.{trues, IsTrail}
+use Rattle.trail_book.specs.Trail.{Trail, trues, IsTrail}
 use Rattle.trail_book.specs.Slots.{entries_of, AreKept}
 use Rattle.trail_book.specs.Values.{AreValues}
+use Rattle.trail_book.specs.Order.{rank}
+use Rattle.trail_book.specs.Tables.{AreOfVars, holding}
 use Rattle.trail_book.proofs.SlotLemmas.{push_seen}
 use Rattle.trail_book.proofs.ValueLemmas.{values_undo}
-use Rattle.trail_book.proofs.WaitLemmas.{waiting_undo}
+use Rattle.trail_book.proofs.WaitLemmas.{waiting_undo, held_note, holding_note}
 use Rattle.trail_book.proofs.trail.Trail.undo.Goals as goal
 
 -- the slots below the newest stay, its variable has no value any more and waits
@@ -33,10 +35,24 @@ invariant_of-self c =
       one_place_each = inv.one_place_each;
       small = inv.small;
       room = omega (arith, inv.room, c.take_last-slot.ensures.capacity);
-      one_held_each = inv.one_held_each;
-      of_vars = inv.of_vars;
+      one_held_each = length-set a.held.items (c.var-index.result - 1) slot.lit ∙ inv.one_held_each;
+      of_vars = subst (λ (i : ℕ). AreOfVars a.vars (set a.held.items i slot.lit)) (sym index) (held_note a.vars a.held.items slot.lit trail.1 inv.one_held_each inv.of_vars);
       ranked = inv.ranked;
       sized = c.insert.ensures.size ∙ inv.sized;
-      heap = c.insert.ensures.heap;
+      heap = c.insert.ensures.heap (rank a.ranking) inv.heap;
       waiting = waiting_undo a.values.items a.heap c.insert.new.self (c.var-index.result - 1) within c.insert.ensures.item c.insert.ensures.holds inv.waiting;
     }
+
+-- it counted as held already
+pub returns-clause-held : goal.returns-clause-held
+returns-clause-held c =
+    let a = c.self.inside in
+    let low = c.take_last-slot.new.self.items in
+    let slot = c.take_last-slot.result in
+    let seen : reverse a.slots.items ≡ slot ∷ reverse low = ap reverse c.take_last-slot.ensures.items ∙ push_seen low slot in
+    let trail = subst (λ (ss : List Slot). IsTrail a.vars (entries_of ss)) seen c.self.invariant.trail in
+    let index : c.var-index.result - 1 ≡ var_of slot.lit - 1 = omega (arith, c.var-index.ensures.same) in
+    ap (λ (i : ℕ). holding (set a.held.items i slot.lit) (trues (entries_of (reverse low)))) index
+    ∙ holding_note a.vars a.held.items (entries_of (reverse low)) slot.lit trail.2 trail.0 trail.1
+    ∙ ap (λ (ss : List Slot). holding a.held.items (trues (entries_of ss))) (sym seen)
+    ∙ ap (λ (t : Trail). t.held) c.self.view_is
