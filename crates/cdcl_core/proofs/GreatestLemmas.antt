@@ -15,7 +15,7 @@ use Rattle.trail_book.proofs.TrailLemmas.{trail_vars}
 use Rattle.lrat_steps.specs.Log.{LogStep, db_of, inputs_of}
 use Rattle.lrat_steps.proofs.LogLemmas.{input_in}
 use Rattle.lrat_steps.proofs.SoundLemmas.{all_hold}
-use Rattle.cdcl_core.specs.State.{IsSoundEntry, IsSound, IsState}
+use Rattle.cdcl_core.specs.State.{IsSoundEntry, IsSound, IsPositiveAbove, ArePositive, IsState}
 use Rattle.cdcl_core.specs.Answers.{IsBelow, IsGreatestModel}
 use Rattle.cdcl_core.proofs.StateLemmas.{literal_at}
 
@@ -37,17 +37,17 @@ not_both true h k = false≢true k
 not_both false h k = false≢true h
 
 -- where the positive literals of the trail are true, so is each that was forced
-pub agrees : (db : List StoredClause) (count : ℕ) (other : List Bool) (es : List Entry) → IsSound db [] count es
+pub agrees : (db : List StoredClause) (count : ℕ) (other : List Bool) (es : List Entry) → IsSound db [] count es → ArePositive count es
     → LiveHold other db → ((l : ℤ) → In l (trues es) → IsPositive l → literal_true other l ≡ true) → MakesTrue other (trues es)
-agrees db count other [] s hold above l i = absurd i
-agrees db count other (e ∷ es) s hold above l (inr i) = agrees db count other es s.2 hold (λ m j. above m (inr j)) l i
-agrees db count other (e ∷ es) s hold above l (inl same) =
-    subst (λ (m : ℤ). literal_true other m ≡ true) (sym same) (go (agrees db count other es s.2 hold (λ m j. above m (inr j))) e.reason s.0)
+agrees db count other [] s ps hold above l i = absurd i
+agrees db count other (e ∷ es) s ps hold above l (inr i) = agrees db count other es s.2 ps.1 hold (λ m j. above m (inr j)) l i
+agrees db count other (e ∷ es) s ps hold above l (inl same) =
+    subst (λ (m : ℤ). literal_true other m ≡ true) (sym same) (go (agrees db count other es s.2 ps.1 hold (λ m j. above m (inr j))) e.reason s.0 ps.0)
   where
-    go : MakesTrue other (trues es) → (r : Option ℕ) → IsSoundEntry db [] count es e.lit r → literal_true other e.lit ≡ true
-    go earlier None (inl d, f) = absurd d.1
-    go earlier None (inr d, f) = above e.lit (inl refl) d.2
-    go earlier (Some id) h =
+    go : MakesTrue other (trues es) → (r : Option ℕ) → IsSoundEntry db [] count es e.lit r → IsPositiveAbove count (top es + 1) e.lit r → literal_true other e.lit ≡ true
+    go earlier None (inl d, f) p = absurd d.1
+    go earlier None (inr d, f) p = above e.lit (inl refl) (p d.0)
+    go earlier (Some id) h p =
         let k = h.1 in
         let holds = hold k.clause k.live in
         let (m, j, t) = any_from (literal_true other) k.clause holds.is_true in
@@ -75,11 +75,11 @@ value_of : (assign : List Bool) (index : ℕ) → literal_true assign (pos (inde
 value_of assign index = let same : index + 1 - 1 ≡ index = omega arith in ap (λ (i : ℕ). slice_index_or assign i false) same
 
 pub greatest_of : (vars : ℕ) (db : List StoredClause) (log : List LogStep) (es : List Entry) (assumed : List ℤ) (count : ℕ) (assign : List Bool)
-    → IsState vars db log es assumed count → assumed ≡ [] → ((l : ℤ) → IsLiteral vars l → HasValue (trues es) l) → MakesTrue assign (trues es)
+    → IsState vars db log es assumed count → ArePositive count es → assumed ≡ [] → ((l : ℤ) → IsLiteral vars l → HasValue (trues es) l) → MakesTrue assign (trues es)
     → IsGreatestModel vars (inputs_of log) assign
-greatest_of vars db log es assumed count assign state none full made other len inputs below index on =
+greatest_of vars db log es assumed count assign state positive none full made other len inputs below index on =
     let s : IsState vars db log es [] count = subst (λ (a : List ℤ). IsState vars db log es a count) none state in
-    let agree : MakesTrue other (trues es) = agrees db count other es s.sound (live_hold vars db log es count other s inputs) (λ l i p. above l i p) in
+    let agree : MakesTrue other (trues es) = agrees db count other es s.sound positive (live_hold vars db log es count other s inputs) (λ l i p. above l i p) in
     elim (full (pos (index + 1)) (record { not_zero = omega arith; in_range = within })) [
       | inl t ↦ sym (value_of assign index) ∙ made (pos (index + 1)) t
       | inr f ↦ absurd (not_both (literal_true other (pos (index + 1))) (value_of other index ∙ on)

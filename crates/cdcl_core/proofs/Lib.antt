@@ -7,6 +7,7 @@ pub mod RoundLemmas
 pub mod TestLemmas
 pub mod EntranceLemmas
 mod GreatestLemmas
+mod PositiveLemmas
 pub mod ForgetLemmas
 pub mod ActivityLemmas
 pub mod RestartLemmas

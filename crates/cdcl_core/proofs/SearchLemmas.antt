@@ -60,7 +60,7 @@ sound_recount db assumed count new (e ∷ es) le same s =
     entry : (r : Option ℕ) → ((n : ℕ) → n ≤ level_after r (top es) → n ≤ count → n ≤ new) → IsSoundEntry db assumed count es e.lit r → IsSoundEntry db assumed new es e.lit r
     entry (Some id) k h = h
     entry None k (inl d, f) = (inl (k (top es + 1) (omega arith) d.0, d.1), f)
-    entry None k (inr d, f) = let d0 = d.0 in (inr (omega (arith, le, d0), d.1, d.2), f)
+    entry None k (inr d, f) = let d0 = d.0 in (inr (omega (arith, le, d0), d.1), f)
 
 -- at level 0 the assumptions and the count do not matter
 pub sound_root : (db : List StoredClause) (assumed new : List ℤ) (count other : ℕ) (es : List Entry) → top es ≡ 0 → IsSound db assumed count es → IsSound db new other es

@@ -13,7 +13,6 @@ use Rattle.sat_base.specs.Units.{IsUnset, HasValue, AllTrue, AllFalse, IsLoose, 
 use Rattle.sat_base.proofs.Members.{In-append_right, In-append_cases, any_at}
 use Rattle.trail_book.specs.declared.entry.Entry.{Entry}
 use Rattle.trail_book.specs.Trail.{trues, level_after, top, keep, IsTrail}
-use Rattle.trail_book.specs.Order.{IsPositive}
 use Rattle.trail_book.proofs.TrailLemmas.{keep-whole, keep-skip, top-keep_exact, lit-keep_more, IsTrail-keep, trail_consistent, level_after-at_least}
 use Rattle.lrat_steps.specs.Log.{LogStep, Learned, Core, steps_of, db_of, inputs_of}
 use Rattle.lrat_steps.specs.Honest.{HasVar, IsHonest}
@@ -311,13 +310,13 @@ assumed_state vars db log es assumed count a s fix i unset lit =
 
 -- a variable is chosen
 pub chosen_state : (vars : ℕ) (db : List StoredClause) (log : List LogStep) (es : List Entry) (assumed : List ℤ) (count : ℕ) (l : ℤ) → IsState vars db log es assumed count → IsFixpoint db (trues es)
-    → AllTrue (trues es) assumed → IsUnset (trues es) l → IsLiteral vars l → IsPositive l → IsState vars db log (record { lit = l; reason = None; unit = None } ∷ es) assumed count
-chosen_state vars db log es assumed count l s fix all unset lit positive =
+    → AllTrue (trues es) assumed → IsUnset (trues es) l → IsLiteral vars l → IsState vars db log (record { lit = l; reason = None; unit = None } ∷ es) assumed count
+chosen_state vars db log es assumed count l s fix all unset lit =
     let levels = s.levels in
     record {
       recorded = s.recorded;
       trail = (unset, lit, s.trail);
-      sound = ((inr (omega arith, all, positive), fix), tt, s.sound);
+      sound = ((inr (omega arith, all), fix), tt, s.sound);
       levels = omega arith;
     }
 

@@ -6,7 +6,7 @@ use Rattle.cdcl_core.specs.Search.{IsAtRoot}
 use Rattle.cdcl_core.specs.declared.solver.Solver.TheInside.{Inside}
 
 abbrev pub view_of : Inside → Solver
-view_of a = record { vars = a.search.trail.vars; log = a.search.log; true_first = a.true_first; broken = a.broken }
+view_of a = record { vars = a.search.trail.vars; log = a.search.log; true_first = a.search.true_first; broken = a.broken }
 
 -- the log is honest, and the trail is at level 0, but where memory was wanting
 pub record IsSolver (a : Inside) : Type 0 where

@@ -1,5 +1,5 @@
 -- What the steps of a search keep, and what each leads to.
-use Rattle.std.specs.Prelude.{◌≡◌, ◌⊎◌, ℕ, ◌<◌, false, List, [], ◌∷◌, ◌++◌, ℤ, neg_ℤ, length, take, Option, Some, None}
+use Rattle.std.specs.Prelude.{◌≡◌, ◌⊎◌, ℕ, ◌<◌, Bool, true, false, List, [], ◌∷◌, ◌++◌, ℤ, neg_ℤ, length, take, Option, Some, None}
 use Rattle.sat_base.specs.Members.{In}
 use Rattle.sat_base.specs.Literals.{IsLiteral}
 use Rattle.sat_base.specs.Database.{StoredClause}
@@ -17,7 +17,7 @@ use Rattle.cdcl_core.specs.declared.solved.Solved.{Solved}
 use Rattle.cdcl_core.specs.declared.decisions.Next.{Next}
 use Rattle.cdcl_core.specs.declared.decisions.Next.TheVariants as next
 use Rattle.cdcl_core.specs.Answers.{Tells, IsGreatest}
-use Rattle.cdcl_core.specs.State.{IsState, IsRoot}
+use Rattle.cdcl_core.specs.State.{IsState, ArePositive, IsRoot}
 
 -- the state of a search under assumed literals, of which the first ones, so many, are true
 pub record IsSearch (s : Search) (assumed : List ℤ) : Type 0 where
@@ -25,6 +25,7 @@ pub record IsSearch (s : Search) (assumed : List ℤ) : Type 0 where
   pub kept : IsKept s.store s.trail
   pub state : IsState s.trail.vars s.store.clauses s.log s.trail.entries assumed s.assumed_levels
   pub reached : AllTrue (trues s.trail.entries) (take s.assumed_true assumed)
+  pub positive : s.true_first ≡ true → ArePositive s.assumed_levels s.trail.entries
 
 -- the state at level 0, whatever is assumed
 pub record IsAtRoot (s : Search) : Type 0 where
@@ -49,12 +50,12 @@ pub record KeepsValues (old new : Search) : Type 0 where
   pub tells : (p : Propagated) → propagation.Tells old.store.clauses (trues old.trail.entries) p → propagation.Tells new.store.clauses (trues new.trail.entries) p
   pub all_done : (p : Propagated) → propagation.IsDone old.store old.trail p → propagation.IsDone new.store new.trail p
 
--- what is to be done where nothing is left to propagate
-abbrev pub IsNext : ℕ → List ℤ → List ℤ → Next → Type 0
-IsNext vars assumed trues (next.Assume lit) = In lit assumed × IsUnset trues lit
-IsNext vars assumed trues (next.Failed lit) = In lit assumed × In (neg_ℤ lit) trues
-IsNext vars assumed trues (next.Choose lit) = AllTrue trues assumed × IsUnset trues lit × IsLiteral vars lit × IsPositive lit
-IsNext vars assumed trues next.Full = AllTrue trues assumed × ((lit : ℤ) → IsLiteral vars lit → HasValue trues lit)
+-- what is to be done where nothing is left to propagate; a literal is chosen positive where that is asked for
+abbrev pub IsNext : Bool → ℕ → List ℤ → List ℤ → Next → Type 0
+IsNext true_first vars assumed trues (next.Assume lit) = In lit assumed × IsUnset trues lit
+IsNext true_first vars assumed trues (next.Failed lit) = In lit assumed × In (neg_ℤ lit) trues
+IsNext true_first vars assumed trues (next.Choose lit) = AllTrue trues assumed × IsUnset trues lit × IsLiteral vars lit × (true_first ≡ true → IsPositive lit)
+IsNext true_first vars assumed trues next.Full = AllTrue trues assumed × ((lit : ℤ) → IsLiteral vars lit → HasValue trues lit)
 
 -- a round that goes on has paid a unit, or one more variable has a value
 pub record GoesOn (old new : Search) (assumed : List ℤ) (before left : ℕ) : Type 0 where
@@ -65,7 +66,7 @@ pub record GoesOn (old new : Search) (assumed : List ℤ) (before left : ℕ) : 
 pub record Ends (new : Search) (assumed : List ℤ) (left : ℕ) (answer : Solved) : Type 0 where
   pub search : IsSearch new assumed
   pub says : Tells new.trail.vars new.log assumed left answer
-  pub greatest : assumed ≡ [] → IsGreatest new.trail.vars new.log answer
+  pub greatest : new.true_first ≡ true → assumed ≡ [] → IsGreatest new.trail.vars new.log answer
 
 abbrev pub IsRound : Search → Search → List ℤ → ℕ → ℕ → Option Solved → Type 0
 IsRound old new assumed before left None = GoesOn old new assumed before left

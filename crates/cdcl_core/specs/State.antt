@@ -11,10 +11,10 @@ use Rattle.learn_step.specs.Reasons.{HasUnit}
 use Rattle.lrat_steps.specs.Log.{LogStep, db_of}
 use Rattle.lrat_steps.specs.Honest.{IsHonest}
 
--- how a literal may be decided at a level: up to level `count` it is an assumed one, and above it any positive one, where
--- all assumed literals are true
+-- how a literal may be decided at a level: up to level `count` it is an assumed one, and above it any one, where all
+-- assumed literals are true
 abbrev pub IsDecided : List ℤ → ℕ → ℕ → List ℤ → ℤ → Type 0
-IsDecided assumed count level trues lit = ((level ≤ count) × In lit assumed) ⊎ ((count < level) × AllTrue trues assumed × IsPositive lit)
+IsDecided assumed count level trues lit = ((level ≤ count) × In lit assumed) ⊎ ((count < level) × AllTrue trues assumed)
 
 -- before a decision nothing was left to propagate; any other literal is forced by the clause of its reason, and by a live one
 abbrev pub IsSoundEntry : List StoredClause → List ℤ → ℕ → List Entry → ℤ → Option ℕ → Type 0
@@ -25,6 +25,16 @@ IsSoundEntry db assumed count es lit (Some id) = IsReason db (trues es) lit id �
 abbrev pub IsSound : List StoredClause → List ℤ → ℕ → List Entry → Type 0
 IsSound db assumed count [] = Unit {0}
 IsSound db assumed count (e ∷ es) = IsSoundEntry db assumed count es e.lit e.reason × HasUnit db e.lit e.unit × IsSound db assumed count es
+
+-- a literal that is decided above level `count` is positive
+abbrev pub IsPositiveAbove : ℕ → ℕ → ℤ → Option ℕ → Type 0
+IsPositiveAbove count level lit None = count < level → IsPositive lit
+IsPositiveAbove count level lit (Some id) = Unit {0}
+
+-- each choice, which is a decision above level `count`, is a positive literal
+abbrev pub ArePositive : ℕ → List Entry → Type 0
+ArePositive count [] = Unit {0}
+ArePositive count (e ∷ es) = IsPositiveAbove count (top es + 1) e.lit e.reason × ArePositive count es
 
 -- the clauses of the store are those of the steps of an honest log
 pub record IsRecorded (vars : ℕ) (db : List StoredClause) (log : List LogStep) : Type 0 where

@@ -43,6 +43,7 @@ impl Search {
         ensures round { IfOk result (λ answer. IsRound self.old self.new assumed.now purse.old.left purse.new.left answer) }
         ensures paid { IsHonestlyPaid self.old.log self.new.log purse.old.left purse.new.left }
         ensures vars { self.new.trail.vars ≡ self.old.trail.vars }
+        ensures true_first { self.new.true_first ≡ self.old.true_first }
     {
         if self.trail.top() <= self.assumed_levels {
             let core = self.refute(alloc, assumed, Origin::Conflict(id))?;
@@ -72,6 +73,7 @@ impl Search {
         ensures unit { OnOk result (purse.new.left + 1 ≡ purse.old.left) }
         ensures paid { IsHonestlyPaid self.old.log self.new.log purse.old.left purse.new.left }
         ensures vars { self.new.trail.vars ≡ self.old.trail.vars }
+        ensures true_first { self.new.true_first ≡ self.old.true_first }
     {
         let learnt = learn(alloc, &self.store, &self.trail, id)?;
         let lits: &[Lit] = &learnt.lits;
@@ -109,6 +111,7 @@ impl Search {
         ensures search { OnOk result (IsSearch self.new assumed.now) }
         ensures paid { (left : ℕ) → IsHonestlyPaid self.old.log self.new.log left left }
         ensures vars { self.new.trail.vars ≡ self.old.trail.vars }
+        ensures true_first { self.new.true_first ≡ self.old.true_first }
     {
         let id = log_core(alloc, &mut self.log, &mut self.store, &self.trail, origin)?;
         Ok(id)

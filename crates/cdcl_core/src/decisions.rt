@@ -1,13 +1,15 @@
 //! Decisions.
 //!
 //! Where nothing is left to propagate, the assumed literals are decided in their order, and then variables without
-//! value, in the order that the turn began. Which assumed literals are true is not asked again for each decision: the
+//! value, in the order that the turn began: as each was last held (Pipatsrisawat and Darwiche 2007), or positive where that
+//! is asked for. Which assumed literals are true is not asked again for each decision: the
 //! search remembers how far they all are, and forgets it only where it goes back below them.
-ghost use Rattle.std.specs.Prelude.{◌≡◌, ℕ, ℤ, length, take, true, IfOk, IfSome};
+ghost use Rattle.std.specs.Prelude.{◌≡◌, ℕ, ℤ, length, take, true, IfOk, IfSome, IfNone};
 ghost use Rattle.sat_base.specs.Members.{In};
 ghost use Rattle.sat_base.specs.Literals.{AreLiterals, IsLiteral, literal_true};
-ghost use Rattle.sat_base.specs.Units.{AllTrue, IsFixpoint, HasValue};
+ghost use Rattle.sat_base.specs.Units.{AllTrue, IsFixpoint, IsUnset, HasValue};
 ghost use Rattle.trail_book.specs.Trail.{trues};
+ghost use Rattle.trail_book.specs.Order.{IsPositive};
 ghost use Rattle.cdcl_core.specs.Answers.{IsConsistent, IsHonestlyPaid};
 ghost use Rattle.cdcl_core.specs.Search.{IsSearch, IsRound, IsNext};
 
@@ -31,11 +33,25 @@ pub enum Next {
     Full,
 }
 
+// A literal without value, positive or as it was last held.
+fn choice(trail: &mut Trail, true_first: bool) -> Option<Lit>
+    ensures some { IfSome result (λ lit. IsUnset (trues trail.old.entries) lit × IsLiteral trail.old.vars lit) }
+    ensures positive { IfSome result (λ lit. true_first ≡ true → IsPositive lit) }
+    ensures none { IfNone result ((lit : ℤ) → IsLiteral trail.old.vars lit → HasValue (trues trail.old.entries) lit) }
+    ensures same { trail.new ≡ trail.old }
+{
+    if true_first {
+        trail.pick_true()
+    } else {
+        trail.pick()
+    }
+}
+
 // Moves over the assumed literals that are true, from place `reached` on.
-fn next_decision(trail: &mut Trail, assumed: &[Lit], reached: &mut usize) -> Next
+fn next_decision(trail: &mut Trail, assumed: &[Lit], reached: &mut usize, true_first: bool) -> Next
     requires literals { AreLiterals trail.old.vars assumed.now }
     requires reached { AllTrue (trues trail.old.entries) (take reached.old assumed.now) }
-    ensures next { IsNext trail.old.vars assumed.now (trues trail.old.entries) result }
+    ensures next { IsNext true_first trail.old.vars assumed.now (trues trail.old.entries) result }
     ensures reached { AllTrue (trues trail.old.entries) (take reached.new assumed.now) }
     ensures same { trail.new ≡ trail.old }
 {
@@ -53,7 +69,7 @@ fn next_decision(trail: &mut Trail, assumed: &[Lit], reached: &mut usize) -> Nex
             }
         }
     }
-    match trail.pick_true() {
+    match choice(trail, true_first) {
         Some(lit) => Next::Choose(lit),
         None => Next::Full,
     }
@@ -88,8 +104,14 @@ impl Search {
         ensures round { IfOk result (λ answer. (left : ℕ) → IsRound self.old self.new assumed.now left left answer) }
         ensures paid { (left : ℕ) → IsHonestlyPaid self.old.log self.new.log left left }
         ensures vars { self.new.trail.vars ≡ self.old.trail.vars }
+        ensures true_first { self.new.true_first ≡ self.old.true_first }
     {
-        match next_decision(&mut self.trail, assumed, &mut self.assumed_true) {
+        match next_decision(
+            &mut self.trail,
+            assumed,
+            &mut self.assumed_true,
+            self.true_first,
+        ) {
             Next::Assume(lit) => {
                 self.trail.decide(lit);
                 self.assumed_levels = self.trail.top();

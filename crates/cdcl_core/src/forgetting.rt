@@ -32,6 +32,7 @@ pub fn forget(search: &mut Search) -> Result<(), AllocError>
     ensures at_root { OnOk result (IsAtRoot search.new) }
     ensures paid { (left : ℕ) → IsHonestlyPaid search.old.log search.new.log left left }
     ensures vars { search.new.trail.vars ≡ search.old.trail.vars }
+    ensures true_first { search.new.true_first ≡ search.old.true_first }
 {
     let live = search.log.live_learned();
     if live < EXCESS || !may_forget(live - EXCESS, search.log.learned()) {
@@ -64,6 +65,7 @@ fn forget_long(search: &mut Search, longest: u64) -> Result<(), AllocError>
     ensures stale { OnOk result (IsStaleAtRoot search.new) }
     ensures paid { (left : ℕ) → IsHonestlyPaid search.old.log search.new.log left left }
     ensures vars { search.new.trail.vars ≡ search.old.trail.vars }
+    ensures true_first { search.new.true_first ≡ search.old.true_first }
 {
     let mut id = 0;
     while id < search.store.len() {
@@ -82,6 +84,7 @@ fn forget_one(search: &mut Search, id: u64) -> Result<(), AllocError>
     ensures stale { OnOk result (IsStaleAtRoot search.new) }
     ensures paid { (left : ℕ) → IsHonestlyPaid search.old.log search.new.log left left }
     ensures vars { search.new.trail.vars ≡ search.old.trail.vars }
+    ensures true_first { search.new.true_first ≡ search.old.true_first }
     ensures len { length search.new.store.clauses ≡ length search.old.store.clauses }
 {
     search.log.forget(id)?;

@@ -17,6 +17,7 @@ impl Search {
         ensures search { (assumed : List ℤ) → IsSearch self.old assumed → IsSearch self.new assumed }
         ensures log { self.new.log ≡ self.old.log }
         ensures vars { self.new.trail.vars ≡ self.old.trail.vars }
+        ensures true_first { self.new.true_first ≡ self.old.true_first }
     {
         if self.conflicts < CONFLICTS - 1 {
             self.conflicts += 1;

@@ -8,8 +8,8 @@
 //! - A literal of the trail was decided, or the clause of its reason and a live clause force it.
 //! - **Before each decision nothing was left to propagate:** no live clause was falsified or unit.
 //! - What propagation keeps of the watched literals (`propagate/specs/Watches.antt`): it is from there that nothing is left.
-//! - A decision up to level `assumed_levels` is an assumed literal. Any other one is a positive literal, and before it all
-//!   assumed ones were true.
+//! - A decision up to level `assumed_levels` is an assumed literal. Any other one is a choice: before it all assumed ones were
+//!   true, and it is a positive literal where that is asked for.
 //!
 //! Why each learnt clause is new, so that no unit of the purse is spent on one that is known: it has one literal of the
 //! top level, so all its others were false before the last decision. A live clause within it would have been falsified
@@ -19,11 +19,11 @@
 //! Why a core follows: while no level is a choice, what is falsified is so by propagation from assumed literals alone.
 //! Where a choice stands and no unit is left, the trail itself shows that the clauses are undecided.
 //!
-//! Why a model under no assumed literals is greatest: a true literal of it was decided, and is positive, or is forced by
-//! earlier ones. So a model with all of its true variables agrees with it, literal by literal along the trail.
+//! Why a model under no assumed literals is greatest where choices are positive: a true literal of it was decided, and is
+//! positive, or is forced by earlier ones. So a model with all of its true variables agrees with it, literal by literal along the trail.
 //!
 //! It ends, since each round pays a unit or gives one more variable a value. A restart is part of a round that pays.
-ghost use Rattle.std.specs.Prelude.{◌≡◌, ℕ, ◌≤◌, [], length, IfOk, OnOk};
+ghost use Rattle.std.specs.Prelude.{◌≡◌, ℕ, ◌≤◌, [], length, true, IfOk, OnOk};
 ghost use Rattle.sat_base.specs.Literals.{AreLiterals};
 ghost use Rattle.trail_book.specs.Trail.{trues};
 ghost use Rattle.propagate.specs.Propagation as propagation;
@@ -52,6 +52,8 @@ pub struct Search {
     pub assumed_true: usize,
     /// How many conflicts stood since the search began, or since the last restart.
     pub conflicts: u32,
+    /// Whether choices are positive literals only.
+    pub true_first: bool,
 }
 
 impl Search {
@@ -67,10 +69,11 @@ impl Search {
         requires literals { AreLiterals self.old.trail.vars assumed.now }
         requires consistent { IsConsistent assumed.now }
         ensures answer { IfOk result (λ answer. Tells self.new.trail.vars self.new.log assumed.now purse.new.left answer) }
-        ensures greatest { assumed.now ≡ [] → IfOk result (λ answer. IsGreatest self.new.trail.vars self.new.log answer) }
+        ensures greatest { self.old.true_first ≡ true → assumed.now ≡ [] → IfOk result (λ answer. IsGreatest self.new.trail.vars self.new.log answer) }
         ensures at_root { OnOk result (IsAtRoot self.new) }
         ensures paid { IsHonestlyPaid self.old.log self.new.log purse.old.left purse.new.left }
         ensures vars { self.new.trail.vars ≡ self.old.trail.vars }
+        ensures true_first { self.new.true_first ≡ self.old.true_first }
     {
         self.trail.start_at(turn);
         self.assumed_levels = 0;
@@ -93,6 +96,7 @@ impl Search {
         ensures ends { IfOk result (λ answer. Ends self.new assumed.now purse.new.left answer) }
         ensures paid { IsHonestlyPaid self.old.log self.new.log purse.old.left purse.new.left }
         ensures vars { self.new.trail.vars ≡ self.old.trail.vars }
+        ensures true_first { self.new.true_first ≡ self.old.true_first }
     {
         loop {
             if let Some(answer) = self.round(alloc, assumed, purse)? {
@@ -114,6 +118,7 @@ impl Search {
         ensures round { IfOk result (λ answer. IsRound self.old self.new assumed.now purse.old.left purse.new.left answer) }
         ensures paid { IsHonestlyPaid self.old.log self.new.log purse.old.left purse.new.left }
         ensures vars { self.new.trail.vars ≡ self.old.trail.vars }
+        ensures true_first { self.new.true_first ≡ self.old.true_first }
     {
         match self.spread(alloc, assumed)? {
             Propagated::Conflict(id) => self.on_conflict(alloc, assumed, purse, id),
@@ -130,6 +135,7 @@ impl Search {
         ensures grows { OnOk result (length self.old.trail.entries ≤ length self.new.trail.entries) }
         ensures paid { (left : ℕ) → IsHonestlyPaid self.old.log self.new.log left left }
         ensures vars { self.new.trail.vars ≡ self.old.trail.vars }
+        ensures true_first { self.new.true_first ≡ self.old.true_first }
     {
         let told = propagate(&mut self.store, &mut self.trail);
         if self.trail.top() == 0 {

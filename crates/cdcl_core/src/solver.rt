@@ -24,8 +24,6 @@ use trail_book::Trail;
 #[derive(Drop)]
 pub struct Solver {
     search: Search,
-    // Told to callers only: decisions are positive literals in either case.
-    true_first: bool,
     broken: bool,
 }
 
@@ -42,7 +40,7 @@ impl Model for Solver {
 }
 
 impl Solver {
-    /// A solver without clauses, for literals over the variables 1 to `vars`.
+    /// A solver without clauses, for literals over the variables 1 to `vars`. It decides a variable as it was last held.
     pub fn new(alloc: Global, vars: u32) -> Result<Solver, AllocError>
         requires { vars < 2 ^ 31 }
         ensures { IfOk result (λ solver. solver ≡ record { vars = vars; log = []; true_first = false; broken = false }) }
@@ -71,10 +69,10 @@ impl Solver {
             assumed_levels: 0,
             assumed_true: 0,
             conflicts: 0,
+            true_first,
         };
         Ok(Solver {
             search,
-            true_first,
             broken: false,
         })
     }

@@ -36,6 +36,6 @@ returns-in-Some-clause-next c =
     let picked = c.in-Some.ensures.some in
     (subst (AllTrue (trues c.args.trail.now.entries)) (take_all c.loop-reached.reached c.args.assumed.now (omega arith)) c.loop-reached.invariant, picked.0, picked.1, c.in-Some.ensures.positive)
 
-pub returns-in-None-pick_true-clause-next : goal.returns-in-None-pick_true-clause-next
-returns-in-None-pick_true-clause-next c =
-    (subst (AllTrue (trues c.args.trail.now.entries)) (take_all c.loop-reached.reached c.args.assumed.now (omega arith)) c.loop-reached.invariant, c.in-None-pick_true.ensures.none)
+pub returns-in-None-choice-clause-next : goal.returns-in-None-choice-clause-next
+returns-in-None-choice-clause-next c =
+    (subst (AllTrue (trues c.args.trail.now.entries)) (take_all c.loop-reached.reached c.args.assumed.now (omega arith)) c.loop-reached.invariant, c.in-None-choice.ensures.none)

@@ -12,4 +12,5 @@ loop-id-preserved-then-may_go c = record {
   stale = c.in_ok-forget_one.ensures.stale;
   paid = λ left. paid_join c.args.search.now.log c.loop-id.search.log c.forget_one.new.search.log left left left (c.loop-id.invariant.paid left) (c.forget_one.ensures.paid left);
   vars = c.forget_one.ensures.vars ∙ c.loop-id.invariant.vars;
+  true_first = c.forget_one.ensures.true_first ∙ c.loop-id.invariant.true_first;
 }

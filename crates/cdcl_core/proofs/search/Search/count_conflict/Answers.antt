@@ -5,6 +5,8 @@ use Rattle.trail_book.specs.Trail.{trues, keep}
 use Rattle.propagate.proofs.KeptLemmas.{kept_back}
 use Rattle.cdcl_core.proofs.StateLemmas.{state_is}
 use Rattle.cdcl_core.proofs.RestartLemmas.{state_restart, reached_restart}
+use Rattle.cdcl_core.specs.State.{ArePositive}
+use Rattle.cdcl_core.proofs.PositiveLemmas.{positive_keep}
 use Rattle.cdcl_core.proofs.search.Search.count_conflict.Goals as goal
 
 -- the choices are taken back, and what holds up to the assumed levels still does
@@ -23,4 +25,5 @@ returns-clause-search c = λ assumed search.
           (state_restart s.trail.vars db s.log es assumed count search.state);
       reached = subst (λ (xs : List Entry). AllTrue (trues xs) (take s.assumed_true assumed)) (sym back.entries)
           (reached_restart db assumed count s.assumed_true es search.state.sound search.reached);
+      positive = λ asked. subst (ArePositive count) (sym back.entries) (positive_keep count count es (search.positive asked));
     }

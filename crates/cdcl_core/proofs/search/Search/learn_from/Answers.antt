@@ -12,6 +12,9 @@ use Rattle.cdcl_core.specs.Entrance.{IsAsserting}
 use Rattle.propagate.proofs.NewLemmas.{new_kept, new_clause}
 use Rattle.cdcl_core.proofs.ActivityLemmas.{hint_is_id}
 use Rattle.cdcl_core.proofs.EntranceLemmas.{asserts}
+use Rattle.trail_book.proofs.TrailLemmas.{top-keep}
+use Rattle.cdcl_core.specs.State.{ArePositive}
+use Rattle.cdcl_core.proofs.PositiveLemmas.{positive_keep, positive_recount}
 use Rattle.cdcl_core.proofs.SearchLemmas.{sound_reasoned}
 use Rattle.cdcl_core.proofs.StateLemmas.{conflict_of, learned_state, learned_recorded, learned_first, reached_below, paid_learned, state_is, first_is, literals_from, used_literal}
 use Rattle.cdcl_core.proofs.search.Search.learn_from.Goals as goal
@@ -144,6 +147,11 @@ returns-clause-search c =
           (record { lit = r.first; reason = Some id; unit = None } ∷ keep back es) c.enter_learnt.new.trail.entries assumed vars (c.enter_learnt.ensures.clauses ∙ stored) logged entries
           (learned_state s.trail.vars db s.log es assumed count id back c.min-self.result lits hints c.requires.search.state r c.requires.choice id_is c.min-self.ensures);
       reached = λ l i. subst (λ (xs : List Entry). In l (trues xs)) (sym entries) (inr (reached l i));
+      positive = λ asked.
+          let most = top-keep back es in
+          let new = c.min-self.result in
+          subst (ArePositive new) (sym entries)
+          (tt, positive_recount count new (keep back es) (λ n low above. omega (arith, most, low, above, c.min-self.ensures)) (positive_keep count back es (c.requires.search.positive asked)));
     }
 
 pub returns-clause-paid : goal.returns-clause-paid

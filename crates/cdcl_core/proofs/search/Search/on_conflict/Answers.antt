@@ -12,7 +12,7 @@ returns-then-purse-eq0-clause-round c =
         c.if-purse-eq0.true,
         dry_of s.trail.vars s.store.clauses s.log s.trail.entries c.args.assumed.now s.assumed_levels c.args.id c.requires.search.state c.requires.falsified (omega (arith, c.top.ensures, c.if-top-self.false)),
       );
-      greatest = λ none. tt;
+      greatest = λ asked none. tt;
     }
 
 -- the unit is paid, and a restart keeps what the search needs

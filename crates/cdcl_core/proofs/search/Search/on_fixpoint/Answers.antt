@@ -6,12 +6,13 @@ use Rattle.trail_book.specs.Trail.{Trail, trues, top}
 use Rattle.propagate.specs.Watches.{IsKept}
 use Rattle.propagate.proofs.KeptLemmas.{kept_decide}
 use Rattle.learn_step.specs.Reasons.{IsDecision}
-use Rattle.cdcl_core.specs.State.{IsState}
+use Rattle.cdcl_core.specs.State.{IsState, ArePositive}
 use Rattle.lrat_steps.specs.Log.{inputs_of}
 use Rattle.cdcl_core.specs.Answers.{IsModel}
 use Rattle.cdcl_core.proofs.StateLemmas.{literal_at, state_is, assumed_state, chosen_state, model_of, failed_levels, failed_reason, all_levels_assumed}
 use Rattle.cdcl_core.specs.Answers.{IsGreatestModel}
 use Rattle.cdcl_core.proofs.GreatestLemmas.{greatest_of}
+use Rattle.cdcl_core.proofs.PositiveLemmas.{positive_recount}
 use Rattle.cdcl_core.proofs.search.Search.on_fixpoint.Goals as goal
 
 pub decide-requires-clause-lit : goal.decide-requires-clause-lit
@@ -29,6 +30,7 @@ refute-requires-clause-search c =
       kept = subst (λ (t : Trail). IsKept s.store t) (sym same) c.requires.search.kept;
       state = subst (λ (t : Trail). IsState t.vars s.store.clauses s.log t.entries assumed s.assumed_levels) (sym same) c.requires.search.state;
       reached = λ l i. subst (λ (t : Trail). In l (trues t.entries)) (sym same) (c.next_decision.ensures.reached l i);
+      positive = λ asked. subst (λ (t : Trail). ArePositive s.assumed_levels t.entries) (sym same) (c.requires.search.positive asked);
     }
 
 pub refute-requires-clause-levels : goal.refute-requires-clause-levels
@@ -76,6 +78,10 @@ returns-in-Assume-clause-round c =
             subst (λ (n : ℕ). IsState c.decide.new.self.vars db s.log c.decide.new.self.entries assumed n) (sym count)
             (state_is s.trail.vars c.decide.new.self.vars (s.assumed_levels + 1) db db s.log s.log (record { lit = lit; reason = None; unit = None } ∷ es) c.decide.new.self.entries assumed vars refl refl entries state);
         reached = λ l j. subst (In l) (sym (ap trues entries)) (inr (c.next_decision.ensures.reached l j));
+        positive = λ asked.
+            subst (λ (n : ℕ). ArePositive n c.decide.new.self.entries) (sym count)
+            (subst (ArePositive (s.assumed_levels + 1)) (sym entries)
+            (λ above. absurd (omega (arith, above, all)), positive_recount s.assumed_levels (s.assumed_levels + 1) es (λ n low above. omega (arith, above)) (c.requires.search.positive asked)));
       };
       progress = inr (refl, omega (arith, len));
     }
@@ -90,7 +96,7 @@ returns-in-Choose-clause-round c =
     let h = c.in-Choose.ensures.next in
     let same = c.next_decision.ensures.same in
     let decided = c.decide-in-Choose.new.self in
-    let state = chosen_state s.trail.vars db s.log es assumed s.assumed_levels lit c.requires.search.state c.requires.fixpoint h.0 h.1 h.2 h.3 in
+    let state = chosen_state s.trail.vars db s.log es assumed s.assumed_levels lit c.requires.search.state c.requires.fixpoint h.0 h.1 h.2 in
     let vars : decided.vars ≡ s.trail.vars = c.decide-in-Choose.ensures.vars ∙ ap (λ (t : Trail). t.vars) same in
     let entries : decided.entries ≡ record { lit = lit; reason = None; unit = None } ∷ es =
     c.decide-in-Choose.ensures.entries ∙ ap (λ (t : Trail). record { lit = lit; reason = None; unit = None } ∷ t.entries) same in
@@ -101,6 +107,7 @@ returns-in-Choose-clause-round c =
         kept = kept_decide s.store s.trail decided 0 lit entries vars (c.decide-in-Choose.ensures.done ∙ ap (λ (t : Trail). t.done) same) c.requires.all_done c.requires.search.kept;
         state = state_is s.trail.vars decided.vars s.assumed_levels db db s.log s.log (record { lit = lit; reason = None; unit = None } ∷ es) decided.entries assumed vars refl refl entries state;
         reached = λ l j. subst (In l) (sym (ap trues entries)) (inr (c.next_decision.ensures.reached l j));
+        positive = λ asked. subst (ArePositive s.assumed_levels) (sym entries) (λ above. h.3 asked, c.requires.search.positive asked);
       };
       progress = inr (refl, omega (arith, len));
     }
@@ -121,13 +128,14 @@ returns-in_ok-assign-in-Full-clause-round c =
         kept = subst (λ (t : Trail). IsKept s.store t) (sym same) c.requires.search.kept;
         state = subst (λ (t : Trail). IsState t.vars s.store.clauses s.log t.entries assumed s.assumed_levels) (sym same) c.requires.search.state;
         reached = λ l i. subst (λ (t : Trail). In l (trues t.entries)) (sym same) (c.next_decision.ensures.reached l i);
+        positive = λ asked. subst (λ (t : Trail). ArePositive s.assumed_levels t.entries) (sym same) (c.requires.search.positive asked);
       };
       says =
           subst (λ (t : Trail). IsModel t.vars (inputs_of s.log) assumed a) (sym same)
           (model_of s.trail.vars s.store.clauses s.log s.trail.entries assumed s.assumed_levels a c.requires.search.state c.requires.fixpoint h.0 h.1 total
           (λ l i. values.values l (subst (λ (t : Trail). In l (trues t.entries)) (sym same) i)));
-      greatest = λ none.
+      greatest = λ asked none.
           subst (λ (t : Trail). IsGreatestModel t.vars (inputs_of s.log) a) (sym same)
-          (greatest_of s.trail.vars s.store.clauses s.log s.trail.entries assumed s.assumed_levels a c.requires.search.state none h.1
+          (greatest_of s.trail.vars s.store.clauses s.log s.trail.entries assumed s.assumed_levels a c.requires.search.state (c.requires.search.positive asked) none h.1
           (λ l i. values.values l (subst (λ (t : Trail). In l (trues t.entries)) (sym same) i)));
     }

@@ -25,4 +25,5 @@ returns-clause-search c =
           core_state s.trail.vars s.store.clauses c.log_core.new.store.clauses s.log c.log_core.new.log s.trail.entries c.args.assumed.now (start_of c.args.origin) s.assumed_levels c.in_ok-id.id
           c.requires.search.state c.in_ok-id.ensures.added;
       reached = c.requires.search.reached;
+      positive = c.requires.search.positive;
     }

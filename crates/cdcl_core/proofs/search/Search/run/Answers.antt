@@ -1,8 +1,9 @@
 use Rattle.std.proofs.Common.{◌∙◌, ap, refl, sym, subst}
-use Rattle.trail_book.specs.Trail.{Trail, keep}
+use Rattle.trail_book.specs.Trail.{Trail, top, keep}
 use Rattle.propagate.proofs.KeptLemmas.{kept_back, kept_same}
 use Rattle.cdcl_core.specs.State.{IsState}
 use Rattle.cdcl_core.proofs.RootLemmas.{root_start, root_end, root_is}
+use Rattle.cdcl_core.proofs.PositiveLemmas.{positive_root}
 use Rattle.cdcl_core.proofs.search.Search.run.Goals as goal
 
 pub search-requires-clause-search : goal.search-requires-clause-search
@@ -16,6 +17,7 @@ search-requires-clause-search c =
           (ap (λ (t : Trail). t.done) c.start_at.ensures) at.kept;
       state = subst (λ (t : Trail). IsState t.vars s.store.clauses s.log t.entries assumed 0) (sym c.start_at.ensures) (root_start s.trail.vars s.store.clauses s.log s.trail.entries assumed at.root);
       reached = λ l i. absurd i;
+      positive = λ asked. positive_root 0 c.start_at.new.self.entries (ap (λ (t : Trail). top t.entries) c.start_at.ensures ∙ at.root.level);
     }
 
 pub returns-clause-at_root : goal.returns-clause-at_root

@@ -7,6 +7,7 @@ use Rattle.propagate.proofs.GrowsLemmas.{top_grows}
 use Rattle.cdcl_core.proofs.SearchLemmas.{length_grows, in_grows}
 use Rattle.cdcl_core.proofs.StateLemmas.{grown_state}
 use Rattle.cdcl_core.proofs.RootLemmas.{root_of, root_start}
+use Rattle.cdcl_core.proofs.PositiveLemmas.{positive_root, positive_grows}
 use Rattle.cdcl_core.proofs.UnitLemmas.{same_length}
 use Rattle.cdcl_core.proofs.search.Search.spread.Goals as goal
 
@@ -44,6 +45,7 @@ returns-in_ok-log_units-clause-search c =
       reached = λ l i.
           subst (In l) (sym r.keeps.trues_are)
           (in_grows s.store.clauses s.trail.entries es l told.grows (c.requires.reached l (subst (λ (n : ℕ). In l (take n c.args.assumed.now)) r.keeps.reached_is i)));
+      positive = λ asked. positive_root new.assumed_levels new.trail.entries r.at_root.root.level;
     }
 
 pub returns-in_ok-log_units-clause-grows : goal.returns-in_ok-log_units-clause-grows
@@ -66,6 +68,7 @@ returns-else-top-eq0-clause-search c =
       state = subst (λ (db : List StoredClause). IsState c.propagate-told.new.trail.vars db s.log es c.args.assumed.now s.assumed_levels) (sym told.clauses.clauses)
           (subst (λ (n : ℕ). IsState n s.store.clauses s.log es c.args.assumed.now s.assumed_levels) (sym told.vars) state);
       reached = λ l i. in_grows s.store.clauses s.trail.entries es l told.grows (c.requires.reached l i);
+      positive = λ asked. positive_grows s.store.clauses s.assumed_levels s.trail.entries es told.grows (c.requires.positive asked);
     }
 
 pub returns-else-top-eq0-clause-grows : goal.returns-else-top-eq0-clause-grows
