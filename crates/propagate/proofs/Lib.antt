@@ -10,5 +10,6 @@ pub mod LengthLemmas
 pub mod FixpointLemmas
 pub mod EntranceLemmas
 pub mod OpenLemmas
+pub mod EnterLemmas
 pub mod NewLemmas
 pub mod RebuildLemmas

@@ -1,21 +1,23 @@
 //! How a clause comes to be watched.
 //!
-//! A new clause looks at nothing but itself. Where two different literals of it are not false it watches them, and
-//! otherwise it is settled: it forces its last literal that is not false, or all are false and propagation answers it
-//! next. So its watches are in order before the next step, at the cost of the clause.
+//! A new clause looks at nothing but itself, at any level. Where two different literals of it are not false it watches
+//! them. Otherwise the trail goes back as far as the clause asks, and no further. Where all its literals are false, it goes
+//! below the level at which the last of them became so; what is false at level 0 is answered by propagation next. Where
+//! one alone is not false, it goes to the level at which the last of the others became false, unless the one is true there
+//! already: the clause forces it there, and watches both. A clause of one literal is settled at level 0.
 //!
-//! What is settled stays so at level 0 only. Above it a clause may watch two literals that show that they guard each
-//! other, as one that is learnt does.
-ghost use Rattle.std.specs.Prelude.{◌≡◌, ◌≢◌, true, false, None, neg_ℤ, IfSome, IfNone};
+//! So below the levels that stay the clause was neither falsified nor unit, and a trail that was a fixpoint before each
+//! decision is so with the new clause too. All that costs the clause and what is taken back.
+ghost use Rattle.std.specs.Prelude.{◌≡◌, ◌≢◌, ◌⊎◌, ℕ, ℤ, ◌<◌, ◌≤◌, true, false, None, Some, neg_ℤ, IfSome, IfNone};
 ghost use Rattle.sat_base.specs.Literals.{AreLiterals, IsLiteral};
 ghost use Rattle.sat_base.specs.Members.{In};
-ghost use Rattle.sat_base.specs.Units.{AllFalse};
-ghost use Rattle.clause_store.specs.Clauses.{clause_at, IsId};
+ghost use Rattle.sat_base.specs.Units.{AllFalse, AllFalseBut};
+ghost use Rattle.clause_store.specs.Clauses.{Clauses, clause_at, IsId};
 ghost use Rattle.clause_store.specs.Links.{watched_at};
-ghost use Rattle.trail_book.specs.Trail.{trues, top, IsTrail};
+ghost use Rattle.trail_book.specs.Trail.{trues, top, keep, IsTrail};
 ghost use Rattle.propagate.specs.Propagation.{Grows};
 ghost use Rattle.propagate.specs.Watches.{IsGuarded, IsKeptBut, IsKept, KeepsClauses};
-ghost use Rattle.propagate.specs.Entrance.{IsUnwatched};
+ghost use Rattle.propagate.specs.Entrance.{IsUnwatched, IsLooseBelow, StaysWhereOpen, IsLast, IsForcedAt};
 
 use crate::lists::append;
 use crate::visit::other_open;
@@ -43,49 +45,204 @@ pub fn watch(store: &mut Store, trail: &Trail, id: u64, first: Lit, second: Lit)
     store.set_watched(id, Some((first, second)));
 }
 
-/// Has a new clause be watched or settled, at level 0.
+/// Has a new clause be watched or settled, at whatever level. The trail goes back where the clause asks for it: below its
+/// new top level the clause was neither falsified nor unit, and what is lower than two different literals of it that are
+/// not false stays.
 pub fn enter(store: &mut Store, trail: &mut Trail, id: u64, lits: &[Lit])
     requires kept { IsKeptBut store.old trail.old id }
     requires unwatched { IsUnwatched store.old id lits.now }
     requires literals { AreLiterals trail.old.vars lits.now }
-    requires root { top trail.old.entries ≡ 0 }
     ensures kept { IsKept store.new trail.new }
     ensures clauses { store.new.clauses ≡ store.old.clauses }
     ensures store_vars { store.new.vars ≡ store.old.vars }
-    ensures grows { Grows store.old.clauses trail.old.entries trail.new.entries }
+    ensures grows { Grows store.old.clauses (keep (top trail.new.entries) trail.old.entries) trail.new.entries }
+    ensures loose { IsLooseBelow trail.old.entries (top trail.new.entries) lits.now }
+    ensures stays { StaysWhereOpen trail.old.entries trail.new.entries lits.now }
     ensures vars { trail.new.vars ≡ trail.old.vars }
     ensures trail { IsTrail trail.new.vars trail.new.entries }
 {
-    let _vars = trail.vars(); // It is a trail, also where nothing is forced.
-    match first_open(trail, lits) {
+    match reopen(trail, lits) {
         None => store.set_false_id(Some(id)),
         Some(first) => enter_open(store, trail, id, lits, first),
     }
 }
 
-// The same where this literal of it is not false.
+// A literal of the clause that is not false. Where all are, it goes back below the level at which the last became so.
+fn reopen(trail: &mut Trail, lits: &[Lit]) -> Option<Lit>
+    requires { AreLiterals trail.old.vars lits.now }
+    ensures some { IfSome result (λ lit. In lit lits.now × (¬ In (neg_ℤ lit) (trues trail.new.entries))) }
+    ensures none { IfNone result ((top trail.new.entries ≡ 0) × AllFalse (trues trail.new.entries) lits.now) }
+    ensures entries { trail.new.entries ≡ keep (top trail.new.entries) trail.old.entries }
+    ensures kept { (store : Clauses) → (but : ℕ) → IsKeptBut store trail.old but → IsKeptBut store trail.new but }
+    ensures stays { StaysWhereOpen trail.old.entries trail.new.entries lits.now }
+    ensures vars { trail.new.vars ≡ trail.old.vars }
+    ensures trail { IsTrail trail.new.vars trail.new.entries }
+{
+    let _vars = trail.vars(); // It is a trail, also where nothing is taken back.
+    if let Some(first) = first_open(trail, lits) {
+        return Some(first);
+    }
+    match last_false(trail, lits, None) {
+        None => {
+            trail.back_to(0);
+            None
+        }
+        Some(last) => below(trail, lits, last),
+    }
+}
+
+// Goes back below the level at which the last literal became false, and gives it; at level 0 there is nothing below.
+fn below(trail: &mut Trail, lits: &[Lit], last: Lit) -> Option<Lit>
+    requires last { IsLast trail.old.entries lits.now None last }
+    ensures some { IfSome result (λ lit. In lit lits.now × (¬ In (neg_ℤ lit) (trues trail.new.entries))) }
+    ensures none { IfNone result ((top trail.new.entries ≡ 0) × AllFalse (trues trail.new.entries) lits.now) }
+    ensures entries { trail.new.entries ≡ keep (top trail.new.entries) trail.old.entries }
+    ensures kept { (store : Clauses) → (but : ℕ) → IsKeptBut store trail.old but → IsKeptBut store trail.new but }
+    ensures stays { StaysWhereOpen trail.old.entries trail.new.entries lits.now }
+    ensures vars { trail.new.vars ≡ trail.old.vars }
+    ensures trail { IsTrail trail.new.vars trail.new.entries }
+{
+    let level = level_of(trail, last.negated());
+    if level == 0 {
+        trail.back_to(0);
+        return None;
+    }
+    trail.back_to(level - 1);
+    Some(last)
+}
+
+// Enters a clause of which this literal is not false.
 fn enter_open(store: &mut Store, trail: &mut Trail, id: u64, lits: &[Lit], first: Lit)
     requires kept { IsKeptBut store.old trail.old id }
     requires unwatched { IsUnwatched store.old id lits.now }
     requires literals { AreLiterals trail.old.vars lits.now }
-    requires root { top trail.old.entries ≡ 0 }
     requires has { In first lits.now }
     requires not_false { ¬ In (neg_ℤ first) (trues trail.old.entries) }
     ensures kept { IsKept store.new trail.new }
     ensures clauses { store.new.clauses ≡ store.old.clauses }
     ensures store_vars { store.new.vars ≡ store.old.vars }
-    ensures grows { Grows store.old.clauses trail.old.entries trail.new.entries }
+    ensures grows { Grows store.old.clauses (keep (top trail.new.entries) trail.old.entries) trail.new.entries }
+    ensures loose { IsLooseBelow trail.old.entries (top trail.new.entries) lits.now }
+    ensures stays { StaysWhereOpen trail.old.entries trail.new.entries lits.now }
     ensures vars { trail.new.vars ≡ trail.old.vars }
     ensures trail { IsTrail trail.new.vars trail.new.entries }
 {
     let _vars = trail.vars(); // It is a trail, also where nothing is forced.
     match other_open(trail, lits, first) {
         Some(second) => watch(store, trail, id, first, second),
-        None => {
-            if trail.value(first).is_none() {
-                trail.assign(first, id);
-            }
+        None => enter_forcing(store, trail, id, lits, first),
+    }
+}
+
+// Enters a clause of which all other literals are false.
+fn enter_forcing(store: &mut Store, trail: &mut Trail, id: u64, lits: &[Lit], first: Lit)
+    requires kept { IsKeptBut store.old trail.old id }
+    requires unwatched { IsUnwatched store.old id lits.now }
+    requires literals { AreLiterals trail.old.vars lits.now }
+    requires has { In first lits.now }
+    requires not_false { ¬ In (neg_ℤ first) (trues trail.old.entries) }
+    requires others { AllFalseBut (trues trail.old.entries) lits.now first }
+    ensures kept { IsKept store.new trail.new }
+    ensures clauses { store.new.clauses ≡ store.old.clauses }
+    ensures store_vars { store.new.vars ≡ store.old.vars }
+    ensures grows { Grows store.old.clauses (keep (top trail.new.entries) trail.old.entries) trail.new.entries }
+    ensures loose { IsLooseBelow trail.old.entries (top trail.new.entries) lits.now }
+    ensures stays { StaysWhereOpen trail.old.entries trail.new.entries lits.now }
+    ensures vars { trail.new.vars ≡ trail.old.vars }
+    ensures trail { IsTrail trail.new.vars trail.new.entries }
+{
+    match last_false(trail, lits, Some(first)) {
+        Some(second) => {
+            let level = level_of(trail, second.negated());
+            force(trail, first, level, id);
+            watch(store, trail, id, first, second);
         }
+        None => force(trail, first, 0, id),
+    }
+}
+
+// Has the clause force this literal at this level, unless it is true up to it already.
+fn force(trail: &mut Trail, lit: Lit, level: u32, id: u64)
+    requires literal { IsLiteral trail.old.vars lit }
+    requires not_false { ¬ In (neg_ℤ lit) (trues trail.old.entries) }
+    requires id { 0 < id }
+    ensures forced { IsForcedAt trail.old.entries trail.new.entries lit level id }
+    ensures kept { (store : Clauses) → (but : ℕ) → IsKeptBut store trail.old but → IsKeptBut store trail.new but }
+    ensures vars { trail.new.vars ≡ trail.old.vars }
+    ensures trail { IsTrail trail.new.vars trail.new.entries }
+{
+    let _vars = trail.vars(); // It is a trail, also where nothing is forced.
+    if !is_true_at(trail, lit, level) {
+        trail.back_to(level);
+        trail.assign(lit, id);
+    }
+}
+
+// Whether the literal is true up to this level.
+fn is_true_at(trail: &Trail, lit: Lit, level: u32) -> bool
+    requires { IsLiteral trail.now.vars lit }
+    ensures yes { result ≡ true → In lit (trues (keep level trail.now.entries)) }
+    ensures no { result ≡ false → ¬ In lit (trues (keep level trail.now.entries)) }
+{
+    let _vars = trail.vars(); // No literal is both true and false.
+    match trail.value(lit) {
+        None => false,
+        Some(true) => level_of(trail, lit) <= level,
+        Some(false) => false,
+    }
+}
+
+/// The level at which a literal became true.
+pub fn level_of(trail: &Trail, lit: Lit) -> u32
+    requires { In lit (trues trail.now.entries) }
+    ensures there { (level : ℕ) → result ≤ level → In lit (trues (keep level trail.now.entries)) }
+    ensures first { (level : ℕ) → In lit (trues (keep level trail.now.entries)) → result ≤ level }
+    ensures within { result ≤ top trail.now.entries }
+{
+    let _vars = trail.vars(); // A variable has one place on a trail.
+    trail.level(lit.var())
+}
+
+// Of the literals other than `but`, which are all false, the one that became so last.
+fn last_false(trail: &Trail, clause: &[Lit], but: Option<Lit>) -> Option<Lit>
+    requires { (lit : ℤ) → In lit clause.now → (but ≡ Some lit) ⊎ In (neg_ℤ lit) (trues trail.now.entries) }
+    ensures some { IfSome result (λ lit. IsLast trail.now.entries clause.now but lit) }
+    ensures none { IfNone result ((lit : ℤ) → In lit clause.now → but ≡ Some lit) }
+{
+    let mut last = None;
+    for lit in clause {
+        if !is_that(&but, *lit) {
+            last = Some(later(trail, last, *lit));
+        }
+    }
+    last
+}
+
+fn is_that(one: &Option<Lit>, lit: Lit) -> bool
+    ensures yes { result ≡ true → one.now ≡ Some lit }
+    ensures no { result ≡ false → one.now ≢ Some lit }
+{
+    match one {
+        None => false,
+        Some(that) => *that == lit,
+    }
+}
+
+// The one of two literals that became false later.
+fn later(trail: &Trail, last: Option<Lit>, lit: Lit) -> Lit
+    requires last { IfSome last (λ m. In (neg_ℤ m) (trues trail.now.entries)) }
+    requires lit { In (neg_ℤ lit) (trues trail.now.entries) }
+    ensures one { (result ≡ lit) ⊎ (last ≡ Some result) }
+    ensures over_lit { (level : ℕ) → In (neg_ℤ result) (trues (keep level trail.now.entries)) → In (neg_ℤ lit) (trues (keep level trail.now.entries)) }
+    ensures over_last { IfSome last (λ m. (level : ℕ) → In (neg_ℤ result) (trues (keep level trail.now.entries)) → In (neg_ℤ m) (trues (keep level trail.now.entries))) }
+{
+    let Some(other) = last else {
+        return lit;
+    };
+    if level_of(trail, other.negated()) < level_of(trail, lit.negated()) {
+        lit
+    } else {
+        other
     }
 }
 

@@ -2,7 +2,7 @@
 ghost use Rattle.std.specs.Prelude.{◌≡◌, ◌<◌, ◌^◌, IfOk, OnOk, length};
 ghost use Rattle.sat_base.specs.Literals.{AreLiterals, IsLiteral};
 ghost use Rattle.sat_base.specs.Units.{IsUnset};
-ghost use Rattle.trail_book.specs.Trail.{trues, top};
+ghost use Rattle.trail_book.specs.Trail.{trues};
 ghost use Rattle.propagate.specs.Watches.{IsKept};
 
 use crate::{Propagated, enter, propagate};
@@ -31,7 +31,6 @@ impl Bench {
         requires { vars < 2 ^ 31 }
         ensures kept { IfOk result (λ bench. IsKept bench.store bench.trail) }
         ensures vars { IfOk result (λ bench. bench.store.vars ≡ vars) }
-        ensures root { IfOk result (λ bench. top bench.trail.entries ≡ 0) }
     {
         Ok(Bench {
             store: Store::new(alloc, vars)?,
@@ -39,14 +38,12 @@ impl Bench {
         })
     }
 
-    // Adds a clause at level 0.
+    // Adds a clause.
     fn add(&mut self, lits: &[Lit]) -> Result<(), AllocError>
         requires kept { IsKept self.old.store self.old.trail }
-        requires root { top self.old.trail.entries ≡ 0 }
         requires literals { AreLiterals self.old.store.vars lits.now }
         ensures kept { OnOk result (IsKept self.new.store self.new.trail) }
         ensures vars { OnOk result (self.new.store.vars ≡ self.old.store.vars) }
-        ensures root { OnOk result (top self.new.trail.entries ≡ 0) }
     {
         let id = self.store.add(lits, true)?;
         enter(&mut self.store, &mut self.trail, id, lits);
@@ -151,5 +148,74 @@ fn clause_that_is_false_at_level_0_is_answered(rt: HostRuntime) -> Result<(), Al
     bench.add(&[Lit::new(1)])?;
     bench.add(&[Lit::new(-1), Lit::new(-1)])?;
     assert!(rt; bench.propagate() == 2);
+    Ok(())
+}
+
+// The literal of a number from -6 to 6, and that of 1 for any other.
+fn literal(number: i32) -> Lit
+    ensures { IsLiteral 6 result }
+{
+    if number == 0 || number.unsigned_abs() > 6 {
+        return Lit::new(1);
+    }
+    Lit::new(number)
+}
+
+// The literals 1 to 4 are decided, each at a level of its own.
+fn four_levels(alloc: Global) -> Result<Bench, AllocError>
+    ensures kept { IfOk result (λ bench. IsKept bench.store bench.trail) }
+    ensures vars { IfOk result (λ bench. bench.store.vars ≡ 6) }
+{
+    let mut bench = Bench::new(alloc, 6)?;
+    bench.decide(Lit::new(1));
+    bench.decide(Lit::new(2));
+    bench.decide(Lit::new(3));
+    bench.decide(Lit::new(4));
+    Ok(bench)
+}
+
+#[test]
+fn trail_goes_back_as_far_as_a_new_clause_asks(rt: HostRuntime) -> Result<(), AllocError> {
+    // three literals, the level that is left, how many values are, and the newest one
+    let rows: [(i32, i32, i32, u32, u32, i32); 12] = [
+        (-4, 5, 6, 4, 4, 4),
+        (2, -4, -4, 4, 4, 4),
+        (-1, -4, 5, 4, 5, 5),
+        (-3, -4, -4, 3, 4, -4),
+        (-1, -2, -4, 2, 3, -4),
+        (-2, 4, 4, 2, 3, 4),
+        (-1, 5, 5, 1, 2, 5),
+        (-1, 1, 1, 4, 4, 4),
+        (-3, -3, -3, 0, 1, -3),
+        (5, 5, 5, 0, 1, 5),
+        (1, 1, 1, 0, 1, 1),
+        (-1, -1, 3, 1, 2, 3),
+    ];
+    for (one, two, three, top, len, newest) in rows {
+        let mut bench = four_levels(rt.alloc())?;
+        bench.add(&[literal(one), literal(two), literal(three)])?;
+        assert!(rt; bench.trail.top() == top, "{one} {two} {three}");
+        assert!(rt; bench.trail.len() == len, "{one} {two} {three}");
+        assert!(rt; len > 0);
+        assert!(rt;
+            bench.trail.at(len - 1).number() == newest,
+            "{one} {two} {three}"
+        );
+    }
+    Ok(())
+}
+
+#[test]
+fn clause_that_became_false_at_one_level_is_watched_below_it(
+    rt: HostRuntime,
+) -> Result<(), AllocError> {
+    let mut bench = four_levels(rt.alloc())?;
+    bench.add(&[Lit::new(-4), Lit::new(6)])?;
+    assert!(rt; bench.trail.len() == 5);
+    bench.add(&[Lit::new(-4), Lit::new(-6)])?;
+    assert!(rt; bench.trail.top() == 3);
+    assert!(rt; bench.trail.len() == 3);
+    assert!(rt; bench.store.head(Lit::new(-6)) == Some(2));
+    assert!(rt; bench.decide(Lit::new(4)) == 2);
     Ok(())
 }

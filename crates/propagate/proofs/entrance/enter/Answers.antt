@@ -1,11 +1,14 @@
-use Rattle.std.proofs.Common.{List, subst, sym}
+use Rattle.std.proofs.Common.{List, subst, sym, refl, arith}
 use Rattle.std.specs.Prelude.{ℤ, neg_ℤ}
+use Rattle.sat_base.specs.Literals.{AreLiterals}
 use Rattle.sat_base.specs.Members.{In}
 use Rattle.trail_book.specs.declared.entry.Entry.{Entry}
-use Rattle.trail_book.specs.Trail.{trues}
-use Rattle.propagate.proofs.GrowsLemmas.{grows-refl}
+use Rattle.trail_book.specs.Trail.{trues, top, keep}
+use Rattle.trail_book.proofs.TrailLemmas.{keep-whole, IsTrail-keep}
+use Rattle.propagate.proofs.GrowsLemmas.{grows-from}
 use Rattle.propagate.proofs.KeptLemmas.{kept_false}
 use Rattle.propagate.proofs.OpenLemmas.{at_root}
+use Rattle.propagate.proofs.EnterLemmas.{joined_grows, joined_loose, joined_stays}
 use Rattle.propagate.proofs.entrance.enter.Goals as goal
 
 -- all its literals are false, at level 0
@@ -13,13 +16,33 @@ pub returns-in-None-clause-kept : goal.returns-in-None-clause-kept
 returns-in-None-clause-kept c =
     let r = c.requires in
     let s = c.args.store.now in
-    let t = c.args.trail.now in
+    let t = c.reopen.new.trail in
     let n = r.unwatched in
+    let f = c.in-None.ensures.none in
     kept_false s c.set_false_id.new.self t c.args.id c.set_false_id.ensures (record {
       is_id = n.is_id;
       live = n.live;
-      is_false = λ l i. subst (λ (es : List Entry). In (neg_ℤ l) (trues es)) (sym (at_root t.entries r.root)) (c.in-None.ensures.none l (subst (λ (ls : List ℤ). In l ls) n.lits_are i));
-    }) r.kept
+      is_false = λ l i. subst (λ (es : List Entry). In (neg_ℤ l) (trues es)) (sym (at_root t.entries f.0)) (f.1 l (subst (λ (ls : List ℤ). In l ls) n.lits_are i));
+    }) (c.reopen.ensures.kept s c.args.id r.kept)
 
 pub returns-in-None-clause-grows : goal.returns-in-None-clause-grows
-returns-in-None-clause-grows c = grows-refl c.args.store.now.clauses c.args.trail.now.entries
+returns-in-None-clause-grows c = grows-from c.args.store.now.clauses (keep (top c.reopen.new.trail.entries) c.args.trail.now.entries) c.reopen.new.trail.entries c.reopen.ensures.entries
+
+pub returns-in-None-clause-loose : goal.returns-in-None-clause-loose
+returns-in-None-clause-loose c = λ k below. let zero = c.in-None.ensures.none.0 in absurd (omega (arith, below, zero))
+
+pub enter_open-requires-clause-kept : goal.enter_open-requires-clause-kept
+enter_open-requires-clause-kept c = c.reopen.ensures.kept c.args.store.now c.args.id c.requires.kept
+
+pub returns-in-Some-clause-grows : goal.returns-in-Some-clause-grows
+returns-in-Some-clause-grows c =
+    joined_grows c.args.store.now.clauses c.args.trail.now.entries c.reopen.new.trail.entries c.enter_open.new.trail.entries c.args.lits.now c.reopen.ensures.entries c.enter_open.ensures.grows
+
+pub returns-in-Some-clause-loose : goal.returns-in-Some-clause-loose
+returns-in-Some-clause-loose c =
+    joined_loose c.args.store.now.clauses c.args.trail.now.entries c.reopen.new.trail.entries c.enter_open.new.trail.entries c.args.lits.now c.reopen.ensures.entries c.enter_open.ensures.grows c.enter_open.ensures.loose
+
+pub returns-in-Some-clause-stays : goal.returns-in-Some-clause-stays
+returns-in-Some-clause-stays c =
+    joined_stays c.args.store.now.clauses c.args.trail.now.entries c.reopen.new.trail.entries c.enter_open.new.trail.entries c.args.lits.now c.reopen.ensures.entries c.enter_open.ensures.grows c.reopen.ensures.stays
+    c.enter_open.ensures.stays

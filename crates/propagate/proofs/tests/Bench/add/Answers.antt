@@ -1,5 +1,3 @@
-use Rattle.std.proofs.Common.{◌∙◌}
-use Rattle.propagate.proofs.GrowsLemmas.{top_grows}
 use Rattle.propagate.proofs.NewLemmas.{new_clause, new_kept}
 use Rattle.propagate.proofs.tests.Bench.add.Goals as goal
 
@@ -14,6 +12,3 @@ enter-requires-clause-unwatched c =
     let b = c.args.self.now in
     let e = c.in_ok-id.ensures in
     new_clause b.store c.add.new.self b.trail c.in_ok-id.id c.args.lits.now c.requires.kept c.add.ensures.links e.added e.id
-
-pub returns-clause-root : goal.returns-clause-root
-returns-clause-root c = let b = c.args.self.now in top_grows c.add.new.self.clauses b.trail.entries c.enter.new.trail.entries c.enter.ensures.grows ∙ c.requires.root
