@@ -202,14 +202,13 @@ correction_text out first second cs =
     append_assoc (out ++ line_text first) (line_text second) (text_of cs) ∙ append_assoc out (line_text first) (line_text second ++ text_of cs)
 
 pub closing_text : (out : List ℕ) (goal : ℕ) (d : Derivation) → goal ≡ d.goal
-    → (((out ++ text_of (map step_line d.steps)) ++ codes "x") ++ (codes " " ++ decimal goal)) ++ codes "\ne complete\n" ≡ out ++ end_text (Some d)
+    → ((out ++ text_of (map step_line d.steps)) ++ line_text (exhaustion_line goal)) ++ line_text (end_line (codes "complete")) ≡ out ++ end_text (Some d)
 closing_text out goal d same =
     let steps : List ℕ = text_of (map step_line d.steps) in
-    let b : List ℕ = codes " " ++ decimal goal in
-    let last : codes "x" ++ (b ++ codes "\ne complete\n") ≡ text_of (exhaustion_line goal ∷ end_line (codes "complete") ∷ []) =
-    ap (λ t. codes "x" ++ t)
-    (ap (λ t. t ++ codes "\ne complete\n") (sym (append-nil b)) ∙ sym (append_assoc (b ++ []) (codes "\n") (codes "e complete\n"))) in
-    chain_of_five out steps (codes "x") b (codes "\ne complete\n")
+    let exhaustion : List ℕ = line_text (exhaustion_line goal) in
+    let last : List ℕ = line_text (end_line (codes "complete")) in
+    append_assoc (out ++ steps) exhaustion last ∙ append_assoc out steps (exhaustion ++ last)
     ∙ ap (λ t. out ++ t)
-    (ap (λ t. steps ++ t) last ∙ sym (text_of-append (map step_line d.steps) (exhaustion_line goal ∷ end_line (codes "complete") ∷ []))
+    (ap (λ t. steps ++ (exhaustion ++ t)) (sym (append-nil last))
+    ∙ sym (text_of-append (map step_line d.steps) (exhaustion_line goal ∷ end_line (codes "complete") ∷ []))
     ∙ ap (λ n. text_of (map step_line d.steps ++ exhaustion_line n ∷ end_line (codes "complete") ∷ [])) same)

@@ -6,6 +6,8 @@ use Rattle.std.specs.List.{flat_map}
 use Rattle.std.specs.Fmt.{decimal, signed_decimal}
 use Rattle.sat_base.specs.Derivation.{Step, Derivation}
 use Rattle.gm_base.specs.Problem.{Problem}
+use Rattle.gm_base.specs.declared.kind.Kind.{Kind}
+use Rattle.gm_base.specs.declared.kind.Kind.TheVariants.{Conflict, Correction}
 use Rattle.evidence_rec.specs.declared.record.Record.{Record}
 use Rattle.evidence_rec.specs.declared.record.Record.TheVariants as record_of
 
@@ -35,6 +37,11 @@ text_of ls = flat_map line_text ls
 -- `p gmev 1`, and how many variables, clauses and groups the problem has
 abbrev pub head_line : Problem → Line
 head_line p = codes "p" ∷ codes "gmev" ∷ codes "1" ∷ decimal p.vars ∷ decimal (length p.clauses) ∷ decimal p.groups ∷ []
+
+-- the letter of a kind
+abbrev pub set_letter : Kind → Word
+set_letter Conflict = codes "u"
+set_letter Correction = codes "m"
 
 -- a letter, the groups of a set, and 0
 abbrev pub set_line : Word → List ℕ → Line

@@ -16,8 +16,9 @@
 //! e complete
 //! ```
 //!
-//! [`write_head`], [`write_record`] and [`write_end`] append to a text. An [`EvidenceReader`] goes over a text once, and
-//! answers a record at a time:
+//! [`write_head`], [`write_record`] and [`write_end`] append to a text; for who has no room for a whole record there is a
+//! call for each of its lines, as [`write_set`] and [`write_step`]. An [`EvidenceReader`] goes over a text once, and answers
+//! a record at a time:
 //!
 //! ```text
 //! let mut reader = EvidenceReader::new(&problem, text);
@@ -55,4 +56,7 @@ mod writing;
 pub use answer::Answer;
 pub use offence::Offence;
 pub use reader::EvidenceReader;
-pub use writing::{write_end, write_head, write_record};
+pub use writing::{
+    write_complete, write_end, write_exhaustion, write_goal, write_head, write_partial,
+    write_record, write_set, write_step, write_witness,
+};

@@ -1,12 +1,15 @@
 //! What is written.
+//!
+//! A record and an end can be written whole, or line by line into a buffer that is emptied between two lines: the lines of
+//! a record are those of `record_lines` in `specs/Text.antt`, and those of an end of `end_lines`.
 ghost use Rattle.std.specs.Prelude.{◌≡◌, ◌+◌, ◌<◌, [], ◌∷◌, ◌++◌, false, codes, if◌then◌else◌, length, map, slice_index_or, OnOk};
 ghost use Rattle.std.specs.List.{flat_map};
 ghost use Rattle.std.specs.Fmt.{decimal, signed_decimal};
 ghost use Rattle.std.specs.Option.{option_map};
-ghost use Rattle.evidence_text.specs.Text.{line_text, head_text, record_text, end_text, set_line, step_line, goal_line, witness_line, text_of, refutation_lines, refutations_lines, witnesses_lines, trues_from};
+ghost use Rattle.evidence_text.specs.Text.{line_text, head_text, record_text, end_text, set_line, step_line, goal_line, witness_line, exhaustion_line, end_line, set_letter, text_of, refutation_lines, refutations_lines, witnesses_lines, trues_from};
 
 use evidence_rec::{Proofs, Record, Witnesses};
-use gm_base::{Assign, Derivation, GroupSet, Lit, Problem, Step};
+use gm_base::{Assign, Derivation, GroupSet, Kind, Lit, Problem, Step};
 use std::alloc::AllocError;
 use token_text::put_number;
 
@@ -80,8 +83,18 @@ fn push_if_true(out: &mut Vec<u8>, witness: &Assign, at: usize) -> Result<(), Al
     }
 }
 
-/// The line of a set.
-pub(crate) fn write_set(letter: &str, set: &GroupSet, out: &mut Vec<u8>) -> Result<(), AllocError>
+/// The letter of a kind.
+fn letter_of(kind: Kind) -> &'static str
+    ensures { result.now ≡ set_letter kind }
+{
+    match kind {
+        Kind::Conflict => "u",
+        Kind::Correction => "m",
+    }
+}
+
+/// The line of a set behind this letter.
+fn write_groups(letter: &str, set: &GroupSet, out: &mut Vec<u8>) -> Result<(), AllocError>
     ensures { OnOk result (out.new.items ≡ out.old.items ++ line_text (set_line letter.now set.now)) }
 {
     push_text(out, letter)?;
@@ -90,8 +103,15 @@ pub(crate) fn write_set(letter: &str, set: &GroupSet, out: &mut Vec<u8>) -> Resu
     Ok(())
 }
 
-/// The line of a step.
-pub(crate) fn write_step(step: Step<'_>, out: &mut Vec<u8>) -> Result<(), AllocError>
+/// Appends the line that begins a record: its kind and its set.
+pub fn write_set(kind: Kind, set: &GroupSet, out: &mut Vec<u8>) -> Result<(), AllocError>
+    ensures { OnOk result (out.new.items ≡ out.old.items ++ line_text (set_line (set_letter kind) set.now)) }
+{
+    write_groups(letter_of(kind), set, out)
+}
+
+/// Appends the line of a step of a derivation.
+pub fn write_step(step: Step<'_>, out: &mut Vec<u8>) -> Result<(), AllocError>
     ensures { OnOk result (out.new.items ≡ out.old.items ++ line_text (step_line (record { id = step.entry.id; lits = step.entry.lits.now; hints = step.entry.hints.now }))) }
 {
     push_text(out, "d")?;
@@ -103,8 +123,8 @@ pub(crate) fn write_step(step: Step<'_>, out: &mut Vec<u8>) -> Result<(), AllocE
     Ok(())
 }
 
-/// The line of a refutation's goal.
-pub(crate) fn write_goal(group: u32, goal: u64, out: &mut Vec<u8>) -> Result<(), AllocError>
+/// Appends the line behind the steps of a refutation: the group it is for, 0 in a conflict, and the id of its goal.
+pub fn write_goal(group: u32, goal: u64, out: &mut Vec<u8>) -> Result<(), AllocError>
     ensures { OnOk result (out.new.items ≡ out.old.items ++ line_text (goal_line group goal)) }
 {
     push_text(out, "r")?;
@@ -114,12 +134,8 @@ pub(crate) fn write_goal(group: u32, goal: u64, out: &mut Vec<u8>) -> Result<(),
     Ok(())
 }
 
-/// The line of a witness.
-pub(crate) fn write_witness(
-    group: u32,
-    witness: &Assign,
-    out: &mut Vec<u8>,
-) -> Result<(), AllocError>
+/// Appends the line of a witness: the group it is for, 0 in a correction, and the variables that it makes true.
+pub fn write_witness(group: u32, witness: &Assign, out: &mut Vec<u8>) -> Result<(), AllocError>
     ensures { OnOk result (out.new.items ≡ out.old.items ++ line_text (witness_line group witness.now)) }
 {
     push_text(out, "w")?;
@@ -127,6 +143,30 @@ pub(crate) fn write_witness(
     push_trues(out, witness)?;
     push_text(out, " 0\n")?;
     Ok(())
+}
+
+/// Appends the line behind the steps of the closing part: the id of the empty clause.
+pub fn write_exhaustion(id: u64, out: &mut Vec<u8>) -> Result<(), AllocError>
+    ensures { OnOk result (out.new.items ≡ out.old.items ++ line_text (exhaustion_line id)) }
+{
+    push_text(out, "x")?;
+    push_number(out, id)?;
+    push_text(out, "\n")?;
+    Ok(())
+}
+
+/// Appends the last line of a text whose closing part is written.
+pub fn write_complete(out: &mut Vec<u8>) -> Result<(), AllocError>
+    ensures { OnOk result (out.new.items ≡ out.old.items ++ line_text (end_line (codes "complete"))) }
+{
+    push_text(out, "e complete\n")
+}
+
+/// Appends the last line of a text without a closing part.
+pub fn write_partial(out: &mut Vec<u8>) -> Result<(), AllocError>
+    ensures { OnOk result (out.new.items ≡ out.old.items ++ line_text (end_line (codes "partial"))) }
+{
+    push_text(out, "e partial\n")
 }
 
 /// The lines of steps.
@@ -169,7 +209,7 @@ pub fn write_record(r: &Record, out: &mut Vec<u8>) -> Result<(), AllocError>
             proof,
             witnesses,
         } => {
-            write_set("u", set, out)?;
+            write_set(Kind::Conflict, set, out)?;
             write_refutation(0, proof, out)?;
             write_witnesses(set.as_slice(), witnesses, out)?;
             Ok(())
@@ -179,7 +219,7 @@ pub fn write_record(r: &Record, out: &mut Vec<u8>) -> Result<(), AllocError>
             witness,
             proofs,
         } => {
-            write_set("m", set, out)?;
+            write_set(Kind::Correction, set, out)?;
             write_witness(0, witness, out)?;
             write_refutations(set.as_slice(), proofs, out)?;
             Ok(())
@@ -216,11 +256,10 @@ pub fn write_end(closing: Option<&Derivation>, out: &mut Vec<u8>) -> Result<(), 
     ensures { OnOk result (out.new.items ≡ out.old.items ++ end_text (option_map (λ d. d.now) closing.entry)) }
 {
     let Some(closing) = closing else {
-        return push_text(out, "e partial\n");
+        return write_partial(out);
     };
     write_steps(closing, out)?;
-    push_text(out, "x")?;
-    push_number(out, closing.goal())?;
-    push_text(out, "\ne complete\n")?;
+    write_exhaustion(closing.goal(), out)?;
+    write_complete(out)?;
     Ok(())
 }

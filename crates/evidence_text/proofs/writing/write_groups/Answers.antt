@@ -3,7 +3,7 @@ use Rattle.std.specs.Prelude.{codes}
 use Rattle.std.specs.List.{flat_map}
 use Rattle.std.specs.Fmt.{decimal}
 use Rattle.evidence_text.proofs.TextLemmas.{set_text}
-use Rattle.evidence_text.proofs.writing.write_set.Goals as goal
+use Rattle.evidence_text.proofs.writing.write_groups.Goals as goal
 
 pub returns : goal.returns
 returns c =
