@@ -10,3 +10,8 @@ pub mod GroupLemmas
 pub mod TextLemmas
 pub mod WordsLemmas
 pub mod StandsLemmas
+pub mod WordsBackLemmas
+pub mod LinesBackLemmas
+pub mod PlainLemmas
+pub mod WholeLemmas
+pub mod AcceptedLemmas

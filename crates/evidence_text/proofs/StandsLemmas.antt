@@ -1,5 +1,5 @@
 -- Lines of which a piece of evidence can be read are just those that write it.
-use Rattle.std.proofs.Common.{◌≡◌, ℕ, ◌+◌, ◌^◌, ◌<◌, ◌≤◌, ◌-◌, ◌&&◌, Bool, true, false, eqb, List, [], ◌∷◌, ◌++◌, map, length, Option, Some, None, refl, sym, ◌∙◌, ap, ap₂, subst, inl, inr, arith, append_assoc}
+use Rattle.std.proofs.Common.{◌≡◌, ℕ, ◌+◌, ◌^◌, ◌<◌, ◌≤◌, ◌-◌, ◌&&◌, Bool, true, eqb, List, [], ◌∷◌, ◌++◌, map, length, Option, Some, None, refl, sym, ◌∙◌, ap, ap₂, subst, inl, inr, arith, append_assoc}
 use Rattle.std.specs.Prelude.{codes, Result, Ok, Err}
 use Rattle.std.specs.List.{AllByRecursion}
 use Rattle.std.specs.Fmt.{decimal}
@@ -15,8 +15,8 @@ use Rattle.evidence_text.specs.declared.goal.Goal.TheVariants.{Refutes, Exhausts
 use Rattle.evidence_text.specs.declared.offence.Offence.{Offence}
 use Rattle.evidence_text.specs.declared.answer.Answer.{Answer}
 use Rattle.evidence_text.specs.declared.answer.Answer.TheVariants as answer
-use Rattle.evidence_text.specs.Text.{Word, Line, head_line, set_line, step_line, goal_line, witness_line, exhaustion_line, end_line, refutation_lines, refutations_lines, witnesses_lines, record_lines, end_lines}
-use Rattle.evidence_text.specs.Reading.{Below, below, at_line, behind, letter_of, is_letter, goal_letter, with_step, word_at, number_at, line_end, counts_at, set_at, step_at, witness_at, goal_at, last_word_at, proof_at, witness_line_at, witnesses_at, refutations_at, conflict_at, correction_at, complete_at, closing_at, is_nothing, nothing_behind, piece_at, counts_of, same_counts, head_words_at, head_at}
+use Rattle.evidence_text.specs.Text.{Word, Line, head_line, set_line, step_line, goal_line, witness_line, exhaustion_line, end_line, refutations_lines, witnesses_lines, record_lines, end_lines}
+use Rattle.evidence_text.specs.Reading.{Below, below, at_line, behind, is_letter, goal_letter, with_step, word_at, number_at, counts_at, set_at, step_at, witness_at, goal_at, last_word_at, proof_at, witness_line_at, witnesses_at, refutations_at, conflict_at, correction_at, complete_at, closing_at, is_nothing, nothing_behind, piece_at, counts_of, same_counts, head_words_at, head_at}
 use Rattle.evidence_text.specs.Readable.{IsReadableProof, IsSetUpTo, IsReadable, IsReadableEnd}
 use Rattle.evidence_text.specs.Laws.{PieceStands}
 use Rattle.evidence_text.proofs.NumberLemmas.{decimal-number}
@@ -34,7 +34,7 @@ letter-ok byte ((b ∷ c ∷ bs) ∷ ws) some h = absurd (let e = eqb-true 0 byt
 
 -- ---- a derivation
 
-abbrev goal_text : Goal → ℕ → Line
+abbrev pub goal_text : Goal → ℕ → Line
 goal_text (Refutes g) id = goal_line g id
 goal_text Exhausts id = exhaustion_line id
 
@@ -136,7 +136,7 @@ refutations-ok vars (g ∷ gs) at ls ds b small few h =
 
 -- ---- records
 
-few_groups : (p : Problem) (set : List ℕ) → p.vars + p.groups < 2 ^ 64 → IsSetUpTo p.groups set → AllByRecursion (λ g. g < 2 ^ 64) set
+pub few_groups : (p : Problem) (set : List ℕ) → p.vars + p.groups < 2 ^ 64 → IsSetUpTo p.groups set → AllByRecursion (λ g. g < 2 ^ 64) set
 few_groups p set small ok = all-then (λ g. g ≤ p.groups) (λ g. g < 2 ^ 64) set (λ g le. omega arith) ok.in_range
 
 conflict-ok : (p : Problem) (set : List ℕ) (at : ℕ) (ls : List Line) (r : Record) (b : Below) → p.vars + p.groups < 2 ^ 64

@@ -1,22 +1,21 @@
 -- Words that can be read are just those that write what is read.
-use Rattle.std.proofs.Common.{◌≡◌, ◌≢◌, ◌⊎◌, ℕ, zero, suc, ◌+◌, ◌-◌, ◌^◌, ◌<◌, ◌≤◌, Bool, true, false, cond, eqb, List, [], ◌∷◌, ◌++◌, map, length, Option, Some, None, refl, sym, ◌∙◌, ap, ap₂, subst, inl, inr, arith}
-use Rattle.std.specs.Prelude.{ℤ, pos, negsuc, neg_ℤ, codes, replicate, slice_set, Result, Ok, Err}
+use Rattle.std.proofs.Common.{◌≡◌, ◌⊎◌, ℕ, zero, suc, ◌+◌, ◌-◌, ◌^◌, ◌<◌, ◌≤◌, Bool, true, false, cond, eqb, List, [], ◌∷◌, ◌++◌, map, length, Option, Some, None, refl, sym, ◌∙◌, ap, ap₂, subst, inl, inr, arith}
+use Rattle.std.specs.Prelude.{ℤ, pos, neg_ℤ, codes, replicate, slice_set, Result, Ok, Err}
 use Rattle.std.specs.Option.{option_map, option_map_or}
 use Rattle.std.specs.List.{fold, AllByRecursion}
 use Rattle.std.specs.Fmt.{decimal, signed_decimal}
 use Rattle.std.specs.Str.{bytes_eq}
-use Rattle.std.proofs.lemmas.Bool.{cases_Bool, cases_eq, eqb-true, true≢false}
+use Rattle.std.proofs.lemmas.Bool.{cases_eq, eqb-true}
 use Rattle.std.proofs.lemmas.List.{length-set, length-replicate}
 use Rattle.std.proofs.lemmas.Slice.Eq.{bytes_eq-Decides}
-use Rattle.sat_base.specs.Literals.{IsLiteral, AreLiterals}
+use Rattle.sat_base.specs.Literals.{IsLiteral}
 use Rattle.sat_base.specs.Derivation.{Step, max_id}
 use Rattle.gm_base.specs.Sets.{AscendsAbove}
-use Rattle.lrat_check.specs.declared.why.Why.{Why}
 use Rattle.lrat_check.specs.declared.why.Why.TheVariants.{BadLine, BadNumber}
 use Rattle.evidence_text.specs.declared.goal.Goal.{Goal}
 use Rattle.evidence_text.specs.declared.goal.Goal.TheVariants.{Refutes, Exhausts}
-use Rattle.evidence_text.specs.Text.{Word, Line, step_line, goal_line, witness_line, exhaustion_line, trues_from}
-use Rattle.evidence_text.specs.Reading.{◌>>=◌, number_in, literal_in, word_at, number_at, items_at, ascending_at, line_end, set_at, step_at, with_trues, values_of, witness_at, goal_at, last_word_at}
+use Rattle.evidence_text.specs.Text.{Word, step_line, witness_line, trues_from}
+use Rattle.evidence_text.specs.Reading.{◌>>=◌, number_in, literal_in, word_at, number_at, items_at, ascending_at, line_end, set_at, step_at, values_of, witness_at, goal_at, last_word_at}
 use Rattle.evidence_text.specs.Readable.{IsId, IsReadableStep, IsSetUpTo}
 use Rattle.evidence_text.proofs.NumberLemmas.{decimal-number, number_in-parts_of}
 
@@ -200,10 +199,10 @@ IsSmallGoal Exhausts = Unit {0}
 
 -- ---- witnesses
 
-abbrev set-at : ℕ → List Bool → ℕ → List Bool
+abbrev pub set-at : ℕ → List Bool → ℕ → List Bool
 set-at v values t = slice_set values (t - (v + 1)) true
 
-fold-behind : (v : ℕ) (b : Bool) (bs : List Bool) (ts : List ℕ) → AllByRecursion (λ t. v + 1 < t) ts
+pub fold-behind : (v : ℕ) (b : Bool) (bs : List Bool) (ts : List ℕ) → AllByRecursion (λ t. v + 1 < t) ts
     → fold (set-at v) (b ∷ bs) ts ≡ b ∷ fold (set-at (v + 1)) bs ts
 fold-behind v b bs [] above = refl
 fold-behind v b bs (t ∷ ts) above =
@@ -212,7 +211,7 @@ fold-behind v b bs (t ∷ ts) above =
     ap (λ (i : ℕ). fold (set-at v) (slice_set (b ∷ bs) i true) ts) place
     ∙ fold-behind v b (slice_set bs (t - (v + 1 + 1)) true) ts above.1
 
-above-all : (v : ℕ) (ts : List ℕ) → AscendsAbove v ts → AllByRecursion (λ t. v < t) ts
+pub above-all : (v : ℕ) (ts : List ℕ) → AscendsAbove v ts → AllByRecursion (λ t. v < t) ts
 above-all v [] up = tt
 above-all v (t ∷ ts) up =
     (up.0, all-then (λ s. t < s) (λ s. v < s) ts (λ s lt. let first = up.0 in omega arith) (above-all t ts up.1))

@@ -1,12 +1,17 @@
 -- What an evidence text can hold: each number in its range, and one item of evidence for each group.
-use Rattle.std.specs.Prelude.{◌≡◌, ℕ, ◌+◌, ◌≤◌, ◌⊎◌, Bool, List, [], ◌∷◌, length, Option, Some, None}
+use Rattle.std.specs.Prelude.{◌≡◌, ℕ, ◌+◌, ◌^◌, ◌<◌, ◌≤◌, Bool, List, length, Option, Some, None}
 use Rattle.std.specs.List.{AllByRecursion}
-use Rattle.sat_base.specs.Derivation.{Step, Derivation, max_id}
+use Rattle.sat_base.specs.Derivation.{Step, Derivation, max_id, HasIds}
 use Rattle.sat_base.specs.Literals.{AreLiterals}
 use Rattle.gm_base.specs.Sets.{IsGroupSet}
 use Rattle.gm_base.specs.Problem.{Problem}
 use Rattle.evidence_rec.specs.declared.record.Record.{Record}
 use Rattle.evidence_rec.specs.declared.record.Record.TheVariants as record_of
+
+-- a problem whose numbers the head can hold
+pub record IsSmall (p : Problem) : Type 0 where
+  pub numbers : p.vars + p.groups < 2 ^ 64
+  pub clauses : length p.clauses < 2 ^ 64
 
 -- the number of a clause, from 1 to the greatest
 pub record IsId (id : ℕ) : Type 0 where
@@ -40,3 +45,8 @@ IsReadable p (record_of.Correction set witness proofs) =
 abbrev pub IsReadableEnd : Problem → Option Derivation → Type 0
 IsReadableEnd p None = Unit {0}
 IsReadableEnd p (Some d) = IsReadableProof p.groups d
+
+-- what the types of a record keep: no id is above the greatest
+abbrev pub HasRecordIds : Record → Type 0
+HasRecordIds (record_of.Conflict set proof witnesses) = HasIds proof
+HasRecordIds (record_of.Correction set witness proofs) = AllByRecursion HasIds proofs

@@ -39,6 +39,7 @@
 
 mod answer;
 mod fields;
+mod fitting;
 mod goal;
 mod head;
 pub mod laws;
@@ -54,6 +55,7 @@ mod words;
 mod writing;
 
 pub use answer::Answer;
+pub use fitting::{problem_fits, record_fits};
 pub use offence::Offence;
 pub use reader::EvidenceReader;
 pub use writing::{

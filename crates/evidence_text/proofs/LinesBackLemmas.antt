@@ -1,0 +1,225 @@
+-- Lines that write a piece of evidence are read as that piece.
+use Rattle.std.proofs.Common.{◌≡◌, ℕ, ◌+◌, ◌^◌, ◌<◌, ◌-◌, ◌&&◌, Bool, true, eqb, List, [], ◌∷◌, ◌++◌, map, length, Option, Some, None, refl, sym, ◌∙◌, ap, arith, append_assoc, length-append}
+use Rattle.std.specs.Prelude.{codes, cond, Result, Ok, Err}
+use Rattle.std.specs.List.{AllByRecursion}
+use Rattle.std.specs.Fmt.{decimal}
+use Rattle.std.proofs.lemmas.Bool.{eq-eqb, and_from}
+use Rattle.std.proofs.lemmas.Fmt.{decimal_digit}
+use Rattle.sat_base.specs.Derivation.{Step, Derivation}
+use Rattle.gm_base.specs.Problem.{Problem}
+use Rattle.lrat_check.specs.declared.why.Why.{Why}
+use Rattle.lrat_check.specs.declared.why.Why.TheVariants.{OtherProblem}
+use Rattle.lrat_check.specs.declared.why.Counts.{Counts}
+use Rattle.evidence_rec.specs.declared.record.Record.{Record}
+use Rattle.evidence_rec.specs.declared.record.Record.TheVariants as record_of
+use Rattle.evidence_text.specs.declared.goal.Goal.{Goal}
+use Rattle.evidence_text.specs.declared.goal.Goal.TheVariants.{Refutes, Exhausts}
+use Rattle.evidence_text.specs.declared.answer.Answer.TheVariants as answer
+use Rattle.evidence_text.specs.Text.{Word, Line, head_line, step_line, witness_line, exhaustion_line, end_line, refutation_lines, refutations_lines, witnesses_lines, record_lines, end_lines}
+use Rattle.evidence_text.specs.Reading.{◌>>=◌, below, at_line, behind, with_step, line_end, counts_at, counts_of, same_counts, head_words_at, head_at, proof_at, number_at, witness_line_at, witnesses_at, refutations_at, conflict_at, correction_at, complete_at, closing_at, nothing_behind, piece_at}
+use Rattle.evidence_text.specs.Readable.{IsId, IsReadableStep, IsReadableProof, IsReadable, IsReadableEnd, IsSmall}
+use Rattle.evidence_text.proofs.WordsLemmas.{IsSmallGoal}
+use Rattle.evidence_text.proofs.StandsLemmas.{goal_text, few_groups}
+use Rattle.evidence_text.proofs.WordsBackLemmas.{bind-back, number-back, word-back, set-back, step-back, goal-back, witness-back, last_word-back}
+
+-- ---- a derivation
+
+-- steps, and the line of their goal
+abbrev pub proof_lines : Goal → List Step → ℕ → List Line
+proof_lines goal steps id = map step_line steps ++ goal_text goal id ∷ []
+
+pub proof-back : (vars : ℕ) (goal : Goal) (at : ℕ) (steps : List Step) (id : ℕ) (ls : List Line) → vars < 2 ^ 64 → IsSmallGoal goal
+    → AllByRecursion (IsReadableStep vars) steps → IsId id
+    → proof_at vars goal at (proof_lines goal steps id ++ ls) ≡ Ok (record { steps = steps; goal = id }, below (at + length (proof_lines goal steps id)) ls)
+unfolding proof_at
+proof-back vars (Refutes g) at [] id ls small few all good =
+    ap (λ (r : Result ℕ Why). at_line at r >>= λ k. Ok (record { steps = []; goal = k }, below (at + 1) ls)) (goal-back (Refutes g) id few good)
+proof-back vars Exhausts at [] id ls small few all good =
+    ap (λ (r : Result ℕ Why). at_line at r >>= λ k. Ok (record { steps = []; goal = k }, below (at + 1) ls)) (goal-back Exhausts id few good)
+proof-back vars goal at (s ∷ ss) id ls small few all good =
+    let rest : List Line = proof_lines goal ss id in
+    let d : Derivation = record { steps = ss; goal = id } in
+    let next : at + 1 + length rest ≡ at + length (step_line s ∷ rest) = omega arith in
+    bind-back _ _ s _ (ap (λ r. at_line at r) (step-back vars s small all.0))
+    (bind-back _ _ (d, below (at + 1 + length rest) ls) _ (proof-back vars goal (at + 1) ss id ls small few all.1 good)
+    (ap (λ (n : ℕ). Ok (with_step s d, below n ls)) next))
+
+-- ---- witnesses and refutations of each group
+
+pub witness_line-back : (vars g at : ℕ) (w : List Bool) (ls : List Line) → vars < 2 ^ 64 → g < 2 ^ 64 → length w ≡ vars
+    → witness_line_at vars g at (witness_line g w ∷ ls) ≡ Ok (w, below (at + 1) ls)
+unfolding witness_line_at
+witness_line-back vars g at w ls small few len =
+    bind-back _ _ w _ (ap (λ r. at_line at r) (witness-back vars g w small few len)) refl
+
+pub witnesses-back : (vars : ℕ) (gs : List ℕ) (at : ℕ) (ws : List (List Bool)) (ls : List Line) → vars < 2 ^ 64
+    → AllByRecursion (λ g. g < 2 ^ 64) gs → length ws ≡ length gs → AllByRecursion (λ (w : List Bool). length w ≡ vars) ws
+    → witnesses_at vars gs at (witnesses_lines gs ws ++ ls) ≡ Ok (ws, below (at + length (witnesses_lines gs ws)) ls)
+unfolding witnesses_at
+witnesses-back vars [] at [] ls small few count each =
+    let next : at ≡ at + length (witnesses_lines [] []) = omega arith in ap (λ (n : ℕ). Ok ([], below n ls)) next
+witnesses-back vars [] at (w ∷ ws) ls small few count each = absurd (omega arith)
+witnesses-back vars (g ∷ gs) at [] ls small few count each = absurd (omega arith)
+witnesses-back vars (g ∷ gs) at (w ∷ ws) ls small few count each =
+    let rest : List Line = witnesses_lines gs ws in
+    let next : at + 1 + length rest ≡ at + length (witness_line g w ∷ rest) = omega arith in
+    bind-back _ _ (w, below (at + 1) (rest ++ ls)) _ (witness_line-back vars g at w (rest ++ ls) small few.0 each.0)
+    (bind-back _ _ (ws, below (at + 1 + length rest) ls) _ (witnesses-back vars gs (at + 1) ws ls small few.1 (omega (arith, count)) each.1)
+    (ap (λ (n : ℕ). Ok (w ∷ ws, below n ls)) next))
+
+pub refutations-back : (vars : ℕ) (gs : List ℕ) (at : ℕ) (ds : List Derivation) (ls : List Line) → vars < 2 ^ 64
+    → AllByRecursion (λ g. g < 2 ^ 64) gs → length ds ≡ length gs → AllByRecursion (IsReadableProof vars) ds
+    → refutations_at vars gs at (refutations_lines gs ds ++ ls) ≡ Ok (ds, below (at + length (refutations_lines gs ds)) ls)
+unfolding refutations_at
+refutations-back vars [] at [] ls small few count each =
+    let next : at ≡ at + length (refutations_lines [] []) = omega arith in ap (λ (n : ℕ). Ok ([], below n ls)) next
+refutations-back vars [] at (d ∷ ds) ls small few count each = absurd (omega arith)
+refutations-back vars (g ∷ gs) at [] ls small few count each = absurd (omega arith)
+refutations-back vars (g ∷ gs) at (d ∷ ds) ls small few count each =
+    let first : List Line = refutation_lines g d in
+    let rest : List Line = refutations_lines gs ds in
+    let next : at + length first + length rest ≡ at + length (first ++ rest) = omega (arith, length-append first rest) in
+    ap (λ (ks : List Line). refutations_at vars (g ∷ gs) at ks) (append_assoc first rest ls)
+    ∙ bind-back _ _ (d, below (at + length first) (rest ++ ls)) _
+    (proof-back vars (Refutes g) at d.steps d.goal (rest ++ ls) small few.0 (each.0).steps (each.0).goal)
+    (bind-back _ _ (ds, below (at + length first + length rest) ls) _
+    (refutations-back vars gs (at + length first) ds ls small few.1 (omega (arith, count)) each.1)
+    (ap (λ (n : ℕ). Ok (d ∷ ds, below n ls)) next))
+
+-- ---- records
+
+conflict-back : (p : Problem) (set : List ℕ) (d : Derivation) (ws : List (List Bool)) (at : ℕ) (ls : List Line) → p.vars + p.groups < 2 ^ 64
+    → IsReadable p (record_of.Conflict set d ws)
+    → conflict_at p set at ((refutation_lines 0 d ++ witnesses_lines set ws) ++ ls)
+    ≡ Ok (record_of.Conflict set d ws, below (at + length (refutation_lines 0 d ++ witnesses_lines set ws)) ls)
+unfolding conflict_at
+conflict-back p set d ws at ls small (ok, good, count, each) =
+    let first : List Line = refutation_lines 0 d in
+    let rest : List Line = witnesses_lines set ws in
+    let next : at + length first + length rest ≡ at + length (first ++ rest) = omega (arith, length-append first rest) in
+    ap (λ (ks : List Line). conflict_at p set at ks) (append_assoc first rest ls)
+    ∙ bind-back _ _ (d, below (at + length first) (rest ++ ls)) _
+    (proof-back (p.vars + p.groups) (Refutes 0) at d.steps d.goal (rest ++ ls) small (omega arith) good.steps good.goal)
+    (bind-back _ _ (ws, below (at + length first + length rest) ls) _
+    (witnesses-back p.vars set (at + length first) ws ls (omega arith) (few_groups p set small ok) count each)
+    (ap (λ (n : ℕ). Ok (record_of.Conflict set d ws, below n ls)) next))
+
+correction-back : (p : Problem) (set : List ℕ) (w : List Bool) (ds : List Derivation) (at : ℕ) (ls : List Line) → p.vars + p.groups < 2 ^ 64
+    → IsReadable p (record_of.Correction set w ds)
+    → correction_at p set at (witness_line 0 w ∷ (refutations_lines set ds ++ ls))
+    ≡ Ok (record_of.Correction set w ds, below (at + length (witness_line 0 w ∷ refutations_lines set ds)) ls)
+unfolding correction_at
+correction-back p set w ds at ls small (ok, len, count, each) =
+    let rest : List Line = refutations_lines set ds in
+    let next : at + 1 + length rest ≡ at + length (witness_line 0 w ∷ rest) = omega arith in
+    bind-back _ _ (w, below (at + 1) (rest ++ ls)) _ (witness_line-back p.vars 0 at w (rest ++ ls) (omega arith) (omega arith) len)
+    (bind-back _ _ (ds, below (at + 1 + length rest) ls) _
+    (refutations-back (p.vars + p.groups) set (at + 1) ds ls small (few_groups p set small ok) count each)
+    (ap (λ (n : ℕ). Ok (record_of.Correction set w ds, below n ls)) next))
+
+pub record-back : (p : Problem) (r : Record) (rest : List ℕ) (at : ℕ) (ls : List Line) → p.vars + p.groups < 2 ^ 64 → IsReadable p r
+    → piece_at p rest at (record_lines r ++ ls) ≡ Ok (answer.Record r, below (at + length (record_lines r)) ls)
+unfolding piece_at
+record-back p (record_of.Conflict set d ws) rest at ls small ok =
+    let tail : List Line = refutation_lines 0 d ++ witnesses_lines set ws in
+    let r : Record = record_of.Conflict set d ws in
+    let next : at + 1 + length tail ≡ at + length (record_lines r) = omega arith in
+    bind-back _ _ set _ (ap (λ x. at_line at x) (set-back p.groups set (omega arith) ok.0))
+    (bind-back _ _ (r, below (at + 1 + length tail) ls) _ (conflict-back p set d ws (at + 1) ls small ok)
+    (ap (λ (n : ℕ). Ok (answer.Record r, below n ls)) next))
+record-back p (record_of.Correction set w ds) rest at ls small ok =
+    let tail : List Line = witness_line 0 w ∷ refutations_lines set ds in
+    let r : Record = record_of.Correction set w ds in
+    let next : at + 1 + length tail ≡ at + length (record_lines r) = omega arith in
+    bind-back _ _ set _ (ap (λ x. at_line at x) (set-back p.groups set (omega arith) ok.0))
+    (bind-back _ _ (r, below (at + 1 + length tail) ls) _ (correction-back p set w ds (at + 1) ls small ok)
+    (ap (λ (n : ℕ). Ok (answer.Record r, below n ls)) next))
+
+-- ---- the end
+
+complete-back : (at : ℕ) (ls : List Line) → complete_at at (end_line (codes "complete") ∷ ls) ≡ Ok (below (at + 1) ls)
+unfolding complete_at
+complete-back at ls = bind-back _ _ tt _ (ap (λ r. at_line at r) (last_word-back (codes "complete"))) refl
+
+closing-back : (p : Problem) (d : Derivation) (at : ℕ) → p.vars + p.groups < 2 ^ 64 → IsReadableProof p.groups d
+    → closing_at p at (end_lines (Some d)) ≡ Ok (d, below (at + length (end_lines (Some d))) [])
+unfolding closing_at
+closing-back p d at small ok =
+    let first : List Line = proof_lines Exhausts d.steps d.goal in
+    let last : List Line = end_line (codes "complete") ∷ [] in
+    let whole : end_lines (Some d) ≡ first ++ last = sym (append_assoc (map step_line d.steps) (exhaustion_line d.goal ∷ []) last) in
+    let next : at + length first + 1 ≡ at + length (end_lines (Some d)) = omega (arith, ap length whole, length-append first last) in
+    ap (λ (ks : List Line). closing_at p at ks) whole
+    ∙ bind-back _ _ (d, below (at + length first) last) _ (proof-back p.groups Exhausts at d.steps d.goal last (omega arith) tt ok.steps ok.goal)
+    (bind-back _ _ (below (at + length first + 1) []) _ (complete-back (at + length first) [])
+    (ap (λ (n : ℕ). Ok (d, below n [])) next))
+
+-- no record begins like a closing part
+closing-first : (p : Problem) (steps : List Step) (id at : ℕ) (ls : List Line)
+    → piece_at p [] at (map step_line steps ++ exhaustion_line id ∷ ls)
+    ≡ (closing_at p at (map step_line steps ++ exhaustion_line id ∷ ls) >>= λ d. nothing_behind [] (Some d.0) d.1)
+unfolding piece_at
+closing-first p [] id at ls = refl
+closing-first p (s ∷ ss) id at ls = refl
+
+pub end-back : (p : Problem) (closing : Option Derivation) (at : ℕ) → p.vars + p.groups < 2 ^ 64 → IsReadableEnd p closing
+    → piece_at p [] at (end_lines closing) ≡ Ok (answer.End closing, below (at + length (end_lines closing)) [])
+unfolding piece_at
+end-back p None at small ok =
+    bind-back _ _ tt _ (ap (λ r. at_line at r) (last_word-back (codes "partial"))) refl
+end-back p (Some d) at small ok =
+    closing-first p d.steps d.goal at (end_line (codes "complete") ∷ [])
+    ∙ bind-back _ _ (d, below (at + length (end_lines (Some d))) []) _ (closing-back p d at small ok) refl
+
+-- ---- the head
+
+version-back : (rest : List Word) → number_at 1 1 (codes "1" ∷ rest) ≡ Ok (1, rest)
+version-back rest =
+    ap (λ (w : Word). number_at 1 1 (w ∷ rest)) (sym (decimal_digit 1 (omega arith)))
+    ∙ number-back 1 1 1 rest (omega arith) (omega arith) (omega arith)
+
+count-back : (n : ℕ) (rest : List Word) → n < 2 ^ 64 → number_at 0 (2 ^ 64 - 1) (decimal n ∷ rest) ≡ Ok (n, rest)
+count-back n rest small = number-back 0 (2 ^ 64 - 1) n rest small (omega arith) (omega arith)
+
+-- the head's numbers from the number of clauses on, from that of variables on, and from the version on
+abbrev groups_at : ℕ → ℕ → List Word → Result Counts Why
+groups_at vars clauses ws = number_at 0 (2 ^ 64 - 1) ws >>= λ g. line_end (record { vars = vars; groups = g.0; clauses = clauses }) g.1
+
+abbrev clauses_at : ℕ → List Word → Result Counts Why
+clauses_at vars ws = number_at 0 (2 ^ 64 - 1) ws >>= λ c. groups_at vars c.0 c.1
+
+abbrev vars_at : List Word → Result Counts Why
+vars_at ws = number_at 0 (2 ^ 64 - 1) ws >>= λ v. clauses_at v.0 v.1
+
+abbrev version_at : List Word → Result Counts Why
+version_at ws = number_at 1 1 ws >>= λ n. vars_at n.1
+
+counts-back : (p : Problem) → IsSmall p → counts_at (behind (head_line p)) ≡ Ok (counts_of p)
+unfolding counts_at
+counts-back p ok =
+    let few = ok.numbers in
+    let groups : List Word = decimal p.groups ∷ [] in
+    let clauses : List Word = decimal (length p.clauses) ∷ groups in
+    let vars : List Word = decimal p.vars ∷ clauses in
+    bind-back _ (λ ws. version_at ws) (codes "1" ∷ vars) _ (word-back (codes "gmev") (codes "1" ∷ vars))
+    (bind-back _ (λ n. vars_at n.1) (1, vars) _ (version-back vars)
+    (bind-back _ (λ v. clauses_at v.0 v.1) (p.vars, clauses) _ (count-back p.vars clauses (omega arith))
+    (bind-back _ (λ c. groups_at p.vars c.0 c.1) (length p.clauses, groups) _ (count-back (length p.clauses) groups ok.clauses)
+    (bind-back _ (λ g. line_end (record { vars = p.vars; groups = g.0; clauses = length p.clauses }) g.1) (p.groups, []) _ (count-back p.groups [] (omega arith))
+    refl))))
+
+same-counts : (p : Problem) → same_counts (counts_of p) (counts_of p) ≡ true
+same-counts p =
+    and_from (eqb p.vars p.vars && eqb p.groups p.groups) (eqb (length p.clauses) (length p.clauses))
+    (and_from (eqb p.vars p.vars) (eqb p.groups p.groups) (eq-eqb p.vars p.vars refl) (eq-eqb p.groups p.groups refl))
+    (eq-eqb (length p.clauses) (length p.clauses) refl)
+
+head_words-back : (p : Problem) → IsSmall p → head_words_at p (head_line p) ≡ Ok tt
+unfolding head_words_at
+head_words-back p ok =
+    bind-back _ _ (counts_of p) _ (counts-back p ok)
+    (ap (λ t. cond t (Ok tt) (Err (OtherProblem (record { text = counts_of p; problem = counts_of p })))) (same-counts p))
+
+pub head-back : (p : Problem) (at : ℕ) (ls : List Line) → IsSmall p → head_at p at (head_line p ∷ ls) ≡ Ok (below (at + 1) ls)
+unfolding head_at
+head-back p at ls ok = bind-back _ _ tt _ (ap (λ r. at_line at r) (head_words-back p ok)) refl

@@ -1,0 +1,26 @@
+use Rattle.evidence_text.proofs.LinesBackLemmas.{head-back, record-back, end-back}
+use Rattle.evidence_text.proofs.PlainLemmas.{lines_of-whole, unended-whole}
+use Rattle.evidence_text.proofs.WholeLemmas.{text-is_read, texts-differ}
+use Rattle.evidence_text.proofs.laws.written_is_read.Goals as goal
+
+pub returns-clause-heads : goal.returns-clause-heads
+returns-clause-heads c = head-back
+
+pub returns-clause-records : goal.returns-clause-records
+returns-clause-records c = λ p r rest at behind small ok. record-back p r rest at behind small.numbers ok
+
+pub returns-clause-ends : goal.returns-clause-ends
+returns-clause-ends c = λ p closing at small ok. end-back p closing at small.numbers ok
+
+pub returns-clause-lines : goal.returns-clause-lines
+returns-clause-lines c =
+    λ p records closing h. (
+      lines_of-whole p records closing h.small h.records h.closing,
+      unended-whole p records closing h.small h.records h.closing,
+    )
+
+pub returns-clause-texts : goal.returns-clause-texts
+returns-clause-texts c = text-is_read
+
+pub returns-clause-differ : goal.returns-clause-differ
+returns-clause-differ c = texts-differ
