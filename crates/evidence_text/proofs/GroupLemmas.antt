@@ -7,7 +7,6 @@ use Rattle.evidence_text.specs.declared.goal.Goal.TheVariants.{Refutes}
 use Rattle.evidence_text.specs.declared.offence.Offence.{Offence}
 use Rattle.evidence_text.specs.declared.offence.Stop.{Stop}
 use Rattle.evidence_text.specs.declared.offence.Stop.TheVariants as stop
-use Rattle.evidence_text.specs.Text.{Line}
 use Rattle.evidence_text.specs.Reading.{◌>>=◌, Below, proof_at, witness_line_at, witnesses_at, refutations_at}
 use Rattle.evidence_text.specs.Cursors.{Stops}
 

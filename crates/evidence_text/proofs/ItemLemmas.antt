@@ -1,18 +1,17 @@
 -- What is read of the next word: a number, an item of a list, or the 0 behind the items.
-use Rattle.std.proofs.Common.{◌≡◌, ◌≢◌, ℕ, suc, ◌+◌, ◌-◌, ◌^◌, ◌<◌, ◌≤◌, Bool, true, false, not, ◌&&◌, cond, eqb, List, [], ◌∷◌, length, get_or, drop, refl, sym, ◌∙◌, ap, subst, arith, inl, inr, Option, Some, None, Result, Ok, Err}
+use Rattle.std.proofs.Common.{◌≡◌, ◌≢◌, ℕ, suc, ◌+◌, ◌-◌, ◌^◌, ◌<◌, ◌≤◌, Bool, true, false, ◌&&◌, cond, eqb, List, [], ◌∷◌, length, get_or, drop, refl, sym, ◌∙◌, ap, subst, arith, inl, inr, Option, Some, None, Result, Ok, Err}
 use Rattle.std.proofs.lemmas.Bool.{ne_eqb, and_right, cases_lt}
 use Rattle.std.proofs.lemmas.List.{get_or_past}
 use Rattle.evidence_text.specs.Lines.{is_blank}
-use Rattle.std.specs.Prelude.{ℤ, pos, neg_ℤ, nat_lt, nat_le, codes}
+use Rattle.std.specs.Prelude.{ℤ, pos, neg_ℤ, nat_lt, nat_le}
 use Rattle.std.specs.Option.{option_map, option_map_or}
-use Rattle.std.specs.Str.{bytes_eq}
 use Rattle.lrat_check.specs.declared.why.Why.{Why}
-use Rattle.lrat_check.specs.declared.why.Why.TheVariants.{BadLine, BadNumber}
+use Rattle.lrat_check.specs.declared.why.Why.TheVariants.{BadNumber}
 use Rattle.evidence_text.specs.Text.{Word}
 use Rattle.evidence_text.specs.Scan.{word_from}
 use Rattle.evidence_text.specs.Items.{within, item_of, literal_item_of}
 use Rattle.evidence_text.specs.Reading.{number_in, literal_in, number_at, items_at, ascending_at}
-use Rattle.evidence_text.specs.Cursors.{words_behind, with_item, Reads, ReadsItem, ReadsAscending}
+use Rattle.evidence_text.specs.Cursors.{words_behind, with_item, ReadsItem, ReadsAscending}
 use Rattle.evidence_text.proofs.NumberLemmas.{number_in-within, word-zero, word-none}
 use Rattle.evidence_text.proofs.WordLemmas.{words_behind-first, word_from-inner, word_from-head}
 

@@ -1,8 +1,8 @@
 -- Steps and their goal, line by line.
-use Rattle.std.proofs.Common.{◌≡◌, ◌≢◌, ℕ, ◌+◌, Bool, true, false, cond, eqb, List, [], ◌∷◌, ◌++◌, Result, Ok, Err, refl, sym, ◌∙◌, ap, subst, append_assoc}
+use Rattle.std.proofs.Common.{◌≡◌, ◌≢◌, ℕ, ◌+◌, cond, List, [], ◌∷◌, ◌++◌, Result, Ok, Err, refl, sym, ◌∙◌, ap, subst, append_assoc}
 use Rattle.std.proofs.lemmas.Bool.{eq-eqb, ne_eqb}
 use Rattle.std.proofs.lemmas.List.{append-nil}
-use Rattle.sat_base.specs.Derivation.{Step, Derivation, max_id}
+use Rattle.sat_base.specs.Derivation.{Step, Derivation}
 use Rattle.lrat_check.specs.declared.why.Why.{Why}
 use Rattle.lrat_check.specs.declared.why.Why.TheVariants.{BadLine, Truncated}
 use Rattle.evidence_text.specs.declared.goal.Goal.{Goal}
@@ -11,9 +11,9 @@ use Rattle.evidence_text.specs.declared.offence.Stop.{Stop}
 use Rattle.evidence_text.specs.declared.offence.Stop.TheVariants as stop
 use Rattle.evidence_text.specs.declared.offence.Halt.{Halt}
 use Rattle.evidence_text.specs.declared.offence.Halt.TheVariants as halt
-use Rattle.evidence_text.specs.Text.{Word, Line}
+use Rattle.evidence_text.specs.Text.{Line}
 use Rattle.evidence_text.specs.Reading.{◌>>=◌, Below, below, offence, at_line, is_letter, letter_of, behind, goal_letter, goal_at, step_at, proof_at, with_step}
-use Rattle.evidence_text.specs.Cursors.{Halts, Stops, stop_on, goal_of, goal_or_any, with_steps, proof_of}
+use Rattle.evidence_text.specs.Cursors.{Halts, Stops, stop_on, goal_of, goal_or_any, with_steps}
 
 -- the offence of a line's words is that of what is read there
 pub halts-on_line : {A B : Type 0} (line : ℕ) (h : Halt) (read : Result A Why) (f : A → Result B Offence) → Halts h read → Stops (stop_on line h) (at_line line read >>= f)

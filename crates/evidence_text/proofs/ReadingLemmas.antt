@@ -1,10 +1,10 @@
 -- Items of a list, one after another, as a loop reads them.
-use Rattle.std.proofs.Common.{◌≡◌, ℕ, List, [], ◌∷◌, ◌++◌, Result, Ok, Err, refl, sym, ◌∙◌, ap, append_assoc, Option, Some, None}
+use Rattle.std.proofs.Common.{◌≡◌, List, [], ◌∷◌, ◌++◌, Result, Ok, Err, refl, sym, ◌∙◌, ap, append_assoc}
 use Rattle.std.proofs.lemmas.List.{append-nil}
 use Rattle.lrat_check.specs.declared.why.Why.{Why}
 use Rattle.evidence_text.specs.Text.{Word}
-use Rattle.evidence_text.specs.Reading.{◌>>=◌, ascending_at, items_at}
-use Rattle.evidence_text.specs.Cursors.{with_item, ReadsItem, ReadsAscending}
+use Rattle.evidence_text.specs.Reading.{◌>>=◌}
+use Rattle.evidence_text.specs.Cursors.{with_item}
 
 -- what was read before, and what is still read
 abbrev pub with_front : {X : Type 0} → List X → Result (List X × List Word) Why → Result (List X × List Word) Why

@@ -1,6 +1,6 @@
 -- What a scan of a word tells of its number.
-use Rattle.std.proofs.Common.{◌≡◌, ℕ, ◌+◌, ◌-◌, ◌^◌, ◌<◌, Bool, true, false, cond, eqb, ltb, List, [], ◌∷◌, length, get_or, refl, sym, ◌∙◌, ap, arith, inl, inr, Option, Some, None}
-use Rattle.std.proofs.lemmas.Bool.{cases_lt, cases_Bool}
+use Rattle.std.proofs.Common.{◌≡◌, ℕ, ◌+◌, ◌-◌, ◌^◌, Bool, cond, List, length, get_or, refl, sym, ◌∙◌, ap, arith, inl, inr, Option, Some, None}
+use Rattle.std.proofs.lemmas.Bool.{cases_lt}
 use Rattle.std.specs.List.{fold}
 use Rattle.evidence_text.specs.Scan.{digit_onto, form_of, word_from}
 use Rattle.evidence_text.specs.Reading.{number_in}

@@ -1,5 +1,5 @@
 -- Sets that grow at their end.
-use Rattle.std.proofs.Common.{◌≡◌, ℕ, ◌<◌, ◌≤◌, List, [], ◌∷◌, ◌++◌, arith}
+use Rattle.std.proofs.Common.{ℕ, ◌<◌, ◌≤◌, List, [], ◌∷◌, ◌++◌, arith}
 use Rattle.gm_base.specs.Sets.{AscendsAbove}
 
 -- ascending numbers above the lowest, none of them above the last

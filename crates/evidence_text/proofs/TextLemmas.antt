@@ -1,6 +1,6 @@
 -- The text of lines.
-use Rattle.std.proofs.Common.{◌≡◌, ℕ, ◌+◌, ◌<◌, Bool, true, false, cond, List, [], ◌∷◌, ◌++◌, map, length, get_or, take, drop, min, suc, refl, sym, ◌∙◌, ap, append_assoc, arith, add-one, drop-cons, length-drop, inl, inr, ◌≤◌, ◌⊎◌, Option, Some}
-use Rattle.std.specs.Prelude.{ℤ, codes, slice_get}
+use Rattle.std.proofs.Common.{◌≡◌, ℕ, ◌+◌, ◌<◌, Bool, true, false, cond, List, [], ◌∷◌, ◌++◌, map, length, get_or, take, drop, min, suc, refl, sym, ◌∙◌, ap, append_assoc, arith, add-one, drop-cons, length-drop, inl, inr, ◌≤◌, ◌⊎◌, Some}
+use Rattle.std.specs.Prelude.{codes, slice_get}
 use Rattle.std.specs.List.{flat_map}
 use Rattle.std.specs.Fmt.{decimal, signed_decimal}
 use Rattle.std.proofs.lemmas.List.{take_more, length-take, map_push, append-nil}

@@ -1,5 +1,5 @@
 -- The words of a line, one at a time.
-use Rattle.std.proofs.Common.{◌≡◌, ◌≢◌, ℕ, suc, ◌+◌, ◌<◌, ◌≤◌, Bool, true, false, not, cond, eqb, List, [], ◌∷◌, length, get_or, drop, refl, sym, ◌∙◌, ap, arith, inl, inr, drop-cons, add-one, Option, Some, Result, Ok, Err}
+use Rattle.std.proofs.Common.{◌≡◌, ◌≢◌, ℕ, suc, ◌+◌, ◌<◌, Bool, true, false, not, cond, eqb, List, [], ◌∷◌, length, get_or, drop, refl, sym, ◌∙◌, ap, arith, inl, inr, drop-cons, add-one, Option, Some, Ok, Err}
 use Rattle.std.proofs.lemmas.Bool.{cases_Bool, ne_eqb, eqb-false}
 use Rattle.std.proofs.lemmas.List.Splits.{slice_split-cons_yes, slice_split-cons_no}
 use Rattle.std.proofs.lemmas.List.Sums.{take_while-cons, prefix_len_is}
@@ -9,7 +9,6 @@ use Rattle.std.proofs.Math.Seq.{drop-length}
 use Rattle.std.specs.List.{take_while, prefix_len, fold, onto_first}
 use Rattle.std.specs.Str.{bytes_eq}
 use Rattle.lrat_check.specs.declared.why.Why.TheVariants.{BadLine}
-use Rattle.evidence_text.specs.Text.{Word}
 use Rattle.evidence_text.specs.Lines.{is_blank, words_of}
 use Rattle.evidence_text.specs.Scan.{is_inner, word_from, digit_onto}
 use Rattle.evidence_text.specs.Reading.{is_over, letter_of, behind, word_at}

@@ -1,10 +1,10 @@
 -- What a reader of evidence is to its callers, and what its answers say.
-use Rattle.std.specs.Prelude.{◌≡◌, ℕ, ◌+◌, Bool, true, false, List, [], ◌∷◌, ◌++◌, Option, Some, None, Result, Ok, Err}
+use Rattle.std.specs.Prelude.{◌≡◌, ℕ, Bool, true, false, List, [], ◌++◌, Option, Some, None, Result, Ok, Err}
 use Rattle.gm_base.specs.Problem.{Problem}
 use Rattle.evidence_text.specs.declared.offence.Offence.{Offence}
 use Rattle.evidence_text.specs.declared.answer.Answer.{Answer}
 use Rattle.evidence_text.specs.declared.answer.Answer.TheVariants as answer
-use Rattle.evidence_text.specs.Text.{Line, record_lines, end_lines}
+use Rattle.evidence_text.specs.Text.{record_lines, end_lines}
 use Rattle.evidence_text.specs.Lines.{lines_of, unended}
 use Rattle.evidence_text.specs.Reading.{Below, below, head_at, piece_at}
 use Rattle.evidence_text.specs.Readable.{IsReadable, IsReadableEnd}

@@ -1,4 +1,4 @@
-use Rattle.std.proofs.Common.{◌≡◌, ◌<◌, ◌++◌, ◌∷◌, [], arith}
+use Rattle.std.proofs.Common.{◌≡◌, ◌++◌, ◌∷◌, []}
 use Rattle.evidence_text.proofs.ReadingLemmas.{with_front-goes}
 use Rattle.evidence_text.proofs.SetLemmas.{EndsBy-push, AscendsAbove-push}
 use Rattle.evidence_text.proofs.fields.read_groups.Goals as goal

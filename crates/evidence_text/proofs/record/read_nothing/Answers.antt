@@ -1,4 +1,4 @@
-use Rattle.std.proofs.Common.{refl, ◌∙◌, sym}
+use Rattle.std.proofs.Common.{◌∙◌, sym}
 use Rattle.evidence_text.proofs.LineLemmas.{nothing_left}
 use Rattle.evidence_text.proofs.record.read_nothing.Goals as goal
 

@@ -1,7 +1,4 @@
-use Rattle.std.proofs.Common.{◌≡◌, length, sym, ◌∙◌, ap, arith}
-use Rattle.std.specs.List.{fold}
-use Rattle.evidence_text.specs.Scan.{digit_onto, word_from}
-use Rattle.evidence_text.proofs.WordLemmas.{value-step, place-step, word_from-blank, word_from-end}
+use Rattle.evidence_text.proofs.WordLemmas.{value-step, place-step}
 use Rattle.evidence_text.proofs.scan.digits.Goals as goal
 
 pub loop-at-preserved : goal.loop-at-preserved

@@ -1,4 +1,4 @@
-use Rattle.std.proofs.Common.{cond, Option, None, sym, ◌∙◌, ap}
+use Rattle.std.proofs.Common.{cond, None, sym, ◌∙◌, ap}
 use Rattle.evidence_text.proofs.ScanLemmas.{number_in-scanned}
 use Rattle.evidence_text.proofs.scan.scan.Goals as goal
 

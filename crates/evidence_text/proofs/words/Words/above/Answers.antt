@@ -1,4 +1,4 @@
-use Rattle.std.proofs.Common.{arith, sym, subst, drop, List, ℕ}
+use Rattle.std.proofs.Common.{arith, sym, subst, List, ℕ}
 use Rattle.evidence_text.specs.Reading.{number_in}
 use Rattle.evidence_text.specs.Cursors.{words_behind, ReadsItem, ReadsAscending}
 use Rattle.evidence_text.proofs.ItemLemmas.{ascending-read, items-read}

@@ -1,4 +1,4 @@
-use Rattle.std.proofs.Common.{◌<◌, length, arith, sym, ◌∙◌, subst, drop, List, ℕ}
+use Rattle.std.proofs.Common.{arith, sym, ◌∙◌, subst, List, ℕ}
 use Rattle.std.proofs.lemmas.Bool.{eqb-true, eqb-false}
 use Rattle.evidence_text.specs.Reading.{literal_in}
 use Rattle.evidence_text.specs.Cursors.{words_behind, ReadsItem}
