@@ -71,6 +71,7 @@ public:
         return found;
     }
     static void stop_all() {}
+    static std::string counts() { return ""; }    // its counts are not open to callers
 
 private:
     bool terminate() override { return time_is_up; }
@@ -106,6 +107,12 @@ public:
     }
     static void stop_all() {
         for (Minisat::Solver* each : all) each->interrupt();
+    }
+    // Of all solvers together: a start that is not the first one of its question is a restart.
+    static std::string counts() {
+        unsigned long conflicts = 0, restarts = 0;
+        for (Minisat::Solver* each : all) conflicts += each->conflicts, restarts += each->starts - each->solves;
+        return ", " + std::to_string(conflicts) + " conflicts, " + std::to_string(restarts) + " restarts";
     }
 
 private:
@@ -479,7 +486,8 @@ int main(int count, char** words) {
     text += "e " + std::to_string(conflicts) + " " + std::to_string(corrections) + "\n";
     if (std::fwrite(text.data(), 1, text.size(), stdout) != text.size() || std::fflush(stdout))
         fail(NotWritten, "write fault on report");
-    if (stats) std::fprintf(stderr, "marco: %lu questions for %zu sets\n", marco.calls, conflicts + corrections);
+    if (stats)
+        std::fprintf(stderr, "marco: %lu questions for %zu sets%s\n", marco.calls, conflicts + corrections, Solver::counts().c_str());
     if (status == AtLimit) fail(status, "limit of " + std::to_string(limit) + " records reached");
     if (status == OutOfTime) fail(status, "time is up");
     return status;
