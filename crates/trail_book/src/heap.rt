@@ -102,6 +102,44 @@ impl Heap {
         }
     }
 
+    /// How many items the heap holds.
+    pub fn count(&self) -> u32
+        ensures { result ≡ self.now.count }
+    {
+        self.count
+    }
+
+    /// How many of them, the first ones, are in order.
+    pub fn sorted(&self) -> u32
+        ensures { result ≡ self.now.sorted }
+    {
+        self.sorted
+    }
+
+    /// The item at a place.
+    pub fn at(&self, place: u32) -> u32
+        requires { place < self.now.count }
+        ensures item { result ≡ slice_index self.now.items place }
+        ensures within { result < length self.now.items }
+    {
+        self.items[place as usize]
+    }
+
+    /// Lets the item at a place go, which is not in order yet.
+    pub fn drop_at(&mut self, place: u32)
+        requires held { place < self.old.count }
+        requires waits { self.old.sorted ≤ place }
+        ensures size { length self.new.items ≡ length self.old.items }
+        ensures heap { (rank : ℕ → ℕ) → IsHeap rank self.old → IsHeap rank self.new }
+        ensures sorted { self.new.sorted ≡ self.old.sorted }
+        ensures count { self.new.count + 1 ≡ self.old.count }
+        ensures holds { (item : ℕ) → Holds self.old item → item ≢ slice_index self.old.items place → Holds self.new item }
+    {
+        let last = self.count - 1;
+        self.swap(place, last);
+        self.count = last;
+    }
+
     /// Orders the heap where one item may rank higher than before.
     pub fn raise(&mut self, ranking: &Ranking, item: u32)
         requires size { length ranking.now.activities ≡ length self.old.items }

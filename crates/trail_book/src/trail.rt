@@ -8,7 +8,7 @@
 //!
 //! Each variable without value waits in a heap, the first in the order of decisions at its top. A variable that gets a
 //! value stays there until it comes to the top, since most lose their value again before that. One that loses its value is
-//! taken in without order, and only a decision asks for order.
+//! taken in without order. Only a decision asks for order, and what has a value by then is let go before.
 //!
 //! What was last true is noted where a value is taken back, and not where it comes: for a variable with a value that is
 //! the literal on the trail.
@@ -347,6 +347,21 @@ impl Trail {
         self.len() == self.vars()
     }
 
+    // Lets variables that have a value go from the heap, of those that are not in order there.
+    fn let_go(&mut self)
+        ensures { self.new ≡ self.old }
+    {
+        let mut place = self.heap.count();
+        while place > self.heap.sorted() {
+            place -= 1;
+            let item = self.heap.at(place);
+            if self.values[item as usize] == Value::Unset {
+                continue;
+            }
+            self.heap.drop_at(place);
+        }
+    }
+
     // The index of the variable without value that comes first. Those that are taken off the heap have a value.
     fn first_unset(&mut self) -> Option<u32>
         ensures some { IfSome result (λ index. IsUnset (trues self.old.entries) (pos (index + 1)) × (index < self.old.vars)) }
@@ -358,6 +373,7 @@ impl Trail {
         if self.is_full() {
             return None;
         }
+        self.let_go();
         self.heap.order(&self.ranking);
         while let Some(index) = self.heap.first() {
             if self.values[index as usize] == Value::Unset {
