@@ -1,6 +1,6 @@
 -- A model whose decisions were all positive has none above it.
 use Rattle.std.proofs.Common.{◌≡◌, ℕ, zero, suc, ◌≤◌, ◌∷◌, ◌+◌, ◌-◌, ◌<◌, Bool, true, false, not, List, [], length, Option, Some, None, refl, sym, ◌∙◌, ap, subst, inl, inr, arith}
-use Rattle.std.specs.Prelude.{ℤ, pos, negsuc, neg_ℤ, slice_index_or}
+use Rattle.std.specs.Prelude.{ℤ, pos, neg_ℤ, slice_index_or}
 use Rattle.std.proofs.lemmas.Bool.{false≢true}
 use Rattle.sat_base.specs.Members.{In}
 use Rattle.sat_base.specs.Literals.{var_of, IsLiteral, literal_true, clause_true}
@@ -9,14 +9,14 @@ use Rattle.sat_base.specs.Units.{HasValue}
 use Rattle.sat_base.proofs.Members.{any_from}
 use Rattle.sat_base.proofs.FollowsLemmas.{Holds, literal_true-neg}
 use Rattle.trail_book.specs.declared.entry.Entry.{Entry}
-use Rattle.trail_book.specs.Trail.{trues, top, IsTrail}
+use Rattle.trail_book.specs.Trail.{trues, top}
 use Rattle.trail_book.specs.Order.{IsPositive}
 use Rattle.trail_book.proofs.TrailLemmas.{trail_vars}
 use Rattle.lrat_steps.specs.Log.{LogStep, db_of, inputs_of}
 use Rattle.lrat_steps.proofs.LogLemmas.{input_in}
 use Rattle.lrat_steps.proofs.SoundLemmas.{all_hold}
 use Rattle.cdcl_core.specs.State.{IsSoundEntry, IsSound, IsPositiveAbove, ArePositive, IsState}
-use Rattle.cdcl_core.specs.Answers.{IsBelow, IsGreatestModel}
+use Rattle.cdcl_core.specs.Answers.{IsGreatestModel}
 use Rattle.cdcl_core.proofs.StateLemmas.{literal_at}
 
 -- an assignment makes these literals true

@@ -8,6 +8,8 @@ pub mod TestLemmas
 pub mod EntranceLemmas
 mod GreatestLemmas
 mod PositiveLemmas
+mod ReadyLemmas
+mod ResumeLemmas
 pub mod ForgetLemmas
 pub mod ActivityLemmas
 pub mod RestartLemmas

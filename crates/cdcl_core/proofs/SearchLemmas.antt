@@ -229,7 +229,7 @@ two_at_all c (e ∷ es) h = go e.reason refl (λ k. two_at_all c es k)
         let level : top (e ∷ es) ≡ top es = ap (λ (r : Option ℕ). level_after r (top es)) is in
         (tt, rest (λ up. subst (λ (xs : List Entry). HasTwo (trues xs) c) (before_some e es id is up) (h (omega (arith, level, up)))))
 
-at_weaken : (P Q : List Entry → Type 0) (es : List Entry) → ((xs : List Entry) → P xs → Q xs) → AtDecisions P es → AtDecisions Q es
+pub at_weaken : (P Q : List Entry → Type 0) (es : List Entry) → ((xs : List Entry) → P xs → Q xs) → AtDecisions P es → AtDecisions Q es
 at_weaken P Q [] f h = tt
 at_weaken P Q (e ∷ es) f h = (at e.reason h.0, at_weaken P Q es f h.1)
   where

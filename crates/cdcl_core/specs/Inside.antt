@@ -2,13 +2,13 @@
 use Rattle.std.specs.Prelude.{◌≡◌, false}
 use Rattle.lrat_steps.specs.Honest.{IsHonest}
 use Rattle.cdcl_core.specs.Solver.{Solver}
-use Rattle.cdcl_core.specs.Search.{IsAtRoot}
+use Rattle.cdcl_core.specs.Search.{IsReady}
 use Rattle.cdcl_core.specs.declared.solver.Solver.TheInside.{Inside}
 
 abbrev pub view_of : Inside → Solver
 view_of a = record { vars = a.search.trail.vars; log = a.search.log; true_first = a.search.true_first; broken = a.broken }
 
--- the log is honest, and the trail is at level 0, but where memory was wanting
+-- the log is honest, and a search can go on from the trail, but where memory was wanting
 pub record IsSolver (a : Inside) : Type 0 where
   pub honest : IsHonest a.search.log
-  pub at_root : a.broken ≡ false → IsAtRoot a.search
+  pub ready : a.broken ≡ false → IsReady a.search

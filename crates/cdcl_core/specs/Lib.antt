@@ -5,3 +5,4 @@ pub mod Search
 pub mod Entrance
 pub mod Inside
 pub mod Forgetting
+pub mod Resuming

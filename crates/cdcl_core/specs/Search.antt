@@ -27,6 +27,11 @@ pub record IsSearch (s : Search) (assumed : List ℤ) : Type 0 where
   pub reached : AllTrue (trues s.trail.entries) (take s.assumed_true assumed)
   pub positive : s.true_first ≡ true → ArePositive s.assumed_levels s.trail.entries
 
+-- what is kept between calls: the state of a search under some assumed literals, at whatever level
+pub record IsReady (s : Search) : Type 0 where
+  pub assumed : List ℤ
+  pub search : IsSearch s assumed
+
 -- the state at level 0, whatever is assumed
 pub record IsAtRoot (s : Search) : Type 0 where
   pub vars : s.store.vars ≡ s.trail.vars

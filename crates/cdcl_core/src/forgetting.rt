@@ -13,7 +13,7 @@ ghost use Rattle.sat_base.specs.Members.{In};
 ghost use Rattle.clause_store.specs.Clauses.{IsId};
 ghost use Rattle.trail_book.specs.Trail.{trues};
 ghost use Rattle.cdcl_core.specs.Answers.{IsHonestlyPaid};
-ghost use Rattle.cdcl_core.specs.Search.{IsAtRoot};
+ghost use Rattle.cdcl_core.specs.Search.{IsReady};
 ghost use Rattle.cdcl_core.specs.Forgetting.{IsStaleAtRoot, IsIdle};
 
 use crate::search::Search;
@@ -26,10 +26,10 @@ use trail_book::Trail;
 // So many have to be live beyond those that stay, before the clauses are looked at.
 const EXCESS: u64 = 500;
 
-/// Forgets learnt clauses, where many more are live than have to stay.
+/// Forgets learnt clauses, where many more are live than have to stay: it goes back to level 0 then.
 pub fn forget(search: &mut Search) -> Result<(), AllocError>
-    requires at_root { IsAtRoot search.old }
-    ensures at_root { OnOk result (IsAtRoot search.new) }
+    requires ready { IsReady search.old }
+    ensures ready { OnOk result (IsReady search.new) }
     ensures paid { (left : ℕ) → IsHonestlyPaid search.old.log search.new.log left left }
     ensures vars { search.new.trail.vars ≡ search.old.trail.vars }
     ensures true_first { search.new.true_first ≡ search.old.true_first }
@@ -38,6 +38,7 @@ pub fn forget(search: &mut Search) -> Result<(), AllocError>
     if live < EXCESS || !may_forget(live - EXCESS, search.log.learned()) {
         return Ok(());
     }
+    search.to_root();
     let longest = mean_length(search);
     forget_long(search, longest)?;
     rebuild(&mut search.store, &search.trail);
@@ -65,6 +66,7 @@ fn forget_long(search: &mut Search, longest: u64) -> Result<(), AllocError>
     ensures stale { OnOk result (IsStaleAtRoot search.new) }
     ensures paid { (left : ℕ) → IsHonestlyPaid search.old.log search.new.log left left }
     ensures vars { search.new.trail.vars ≡ search.old.trail.vars }
+    ensures levels { search.new.assumed_levels ≡ search.old.assumed_levels }
     ensures true_first { search.new.true_first ≡ search.old.true_first }
 {
     let mut id = 0;
@@ -84,6 +86,7 @@ fn forget_one(search: &mut Search, id: u64) -> Result<(), AllocError>
     ensures stale { OnOk result (IsStaleAtRoot search.new) }
     ensures paid { (left : ℕ) → IsHonestlyPaid search.old.log search.new.log left left }
     ensures vars { search.new.trail.vars ≡ search.old.trail.vars }
+    ensures levels { search.new.assumed_levels ≡ search.old.assumed_levels }
     ensures true_first { search.new.true_first ≡ search.old.true_first }
     ensures len { length search.new.store.clauses ≡ length search.old.store.clauses }
 {

@@ -10,14 +10,14 @@
 //! }
 //! ```
 //!
-//! Clauses stay, and so do the learnt ones and the literals of level 0: a later search goes on from there. One call
-//! costs what it searches and, where it ends with a model, a value for each variable.
+//! Clauses stay, and so do the learnt ones and the trail: a later search goes on from there. One call costs what it searches
+//! and, where it ends with a model, a value for each variable.
 //!
 //! Start with [`Solver`], whose contracts are in the words of `specs/Answers.antt`. The loop is in `search.rt`, where
 //! the head says what holds in each round and why that suffices (`specs/State.antt`). `conflicts.rt` and `decisions.rt`
 //! are the two ways on from there, `entrance.rt` has learnt clauses be watched, `units.rt` logs what holds at level 0,
-//! and `steps.rt` keeps log and clauses in step. `activity.rt` says which variables are bumped, and `restart.rt` when the
-//! search begins anew.
+//! and `steps.rt` keeps log and clauses in step. `activity.rt` says which variables are bumped, `restart.rt` when the
+//! search begins anew, and `resuming.rt` what of the trail it goes on from.
 //!
 //! Not said here: how many units a search needs, which core it finds, which model beyond that those of `new_true` under no
 //! assumed literals are greatest, and that memory suffices.
@@ -29,6 +29,7 @@ mod decisions;
 mod entrance;
 mod forgetting;
 mod restart;
+mod resuming;
 mod search;
 mod solved;
 mod solver;

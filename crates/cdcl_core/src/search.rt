@@ -23,12 +23,14 @@
 //! positive, or is forced by earlier ones. So a model with all of its true variables agrees with it, literal by literal along the trail.
 //!
 //! It ends, since each round pays a unit or gives one more variable a value. A restart is part of a round that pays.
+//!
+//! It begins with the trail as the last search or clause left it (`resuming.rt`).
 ghost use Rattle.std.specs.Prelude.{◌≡◌, ℕ, ◌≤◌, [], length, true, IfOk, OnOk};
 ghost use Rattle.sat_base.specs.Literals.{AreLiterals};
 ghost use Rattle.trail_book.specs.Trail.{trues};
 ghost use Rattle.propagate.specs.Propagation as propagation;
 ghost use Rattle.cdcl_core.specs.Answers.{IsConsistent, IsHonestlyPaid, Tells, IsGreatest};
-ghost use Rattle.cdcl_core.specs.Search.{IsSearch, IsAtRoot, IsRound, Ends};
+ghost use Rattle.cdcl_core.specs.Search.{IsSearch, IsReady, IsRound, Ends};
 
 use crate::solved::Solved;
 use clause_store::Store;
@@ -57,7 +59,7 @@ pub struct Search {
 }
 
 impl Search {
-    /// Searches under the assumed literals, and goes back to level 0.
+    /// Searches under the assumed literals, from the trail as it stands. The trail stays as the answer leaves it.
     pub fn run(
         &mut self,
         alloc: Global,
@@ -65,22 +67,20 @@ impl Search {
         turn: u64,
         purse: &mut Purse,
     ) -> Result<Solved, AllocError>
-        requires at_root { IsAtRoot self.old }
+        requires ready { IsReady self.old }
         requires literals { AreLiterals self.old.trail.vars assumed.now }
         requires consistent { IsConsistent assumed.now }
         ensures answer { IfOk result (λ answer. Tells self.new.trail.vars self.new.log assumed.now purse.new.left answer) }
         ensures greatest { self.old.true_first ≡ true → assumed.now ≡ [] → IfOk result (λ answer. IsGreatest self.new.trail.vars self.new.log answer) }
-        ensures at_root { OnOk result (IsAtRoot self.new) }
+        ensures ready { OnOk result (IsReady self.new) }
         ensures paid { IsHonestlyPaid self.old.log self.new.log purse.old.left purse.new.left }
         ensures vars { self.new.trail.vars ≡ self.old.trail.vars }
         ensures true_first { self.new.true_first ≡ self.old.true_first }
     {
         self.trail.start_at(turn);
-        self.assumed_levels = 0;
-        self.assumed_true = 0;
+        self.resume(assumed);
         self.conflicts = 0;
         let answer = self.search(alloc, assumed, purse)?;
-        self.trail.back_to(0);
         Ok(answer)
     }
 

@@ -1,7 +1,9 @@
 //! The solver.
 //!
-//! Between calls the trail is at level 0. Where a search wanted memory, the log is honest still, but the rest may be
-//! amid a step: the solver is broken then, and takes no further clause or search.
+//! Between calls the trail stays as a search or a clause left it, at whatever level, so that nothing is begun anew: an
+//! added clause takes back as much of it as it asks for, and a search that assumes nothing goes on from there. Where a
+//! search wanted memory, the log is honest still, but the rest may be amid a step: the solver is broken then, and takes no
+//! further clause or search.
 ghost use Rattle.std.specs.Prelude.{◌≡◌, ◌<◌, ◌^◌, ◌++◌, ◌∷◌, [], true, false, IfOk, OnOk, OnErr, IsErr};
 ghost use Rattle.sat_base.specs.Literals.{AreLiterals};
 ghost use Rattle.lrat_steps.specs.Log.{Input};
@@ -85,7 +87,8 @@ impl Solver {
         self.search.trail.vars()
     }
 
-    /// Adds a clause. After want of memory in a search it adds none.
+    /// Adds a clause, at the cost of the clause and of the values that it takes back. After want of memory in a search it
+    /// adds none.
     pub fn add(&mut self, alloc: Global, lits: &[Lit]) -> Result<(), AllocError>
         requires { AreLiterals self.old.vars lits.now }
         ensures ok { OnOk result (self.new ≡ record self.old { log = self.old.log ++ Input lits.now ∷ [] }) }
@@ -97,6 +100,8 @@ impl Solver {
         let search = &mut self.search;
         let id = add_step(&mut search.log, &mut search.store, LogStep::Input(lits))?;
         enter(&mut search.store, &mut search.trail, id, lits);
+        search.assumed_levels = search.assumed_levels.min(search.trail.top());
+        search.assumed_true = 0;
         Ok(())
     }
 

@@ -1,4 +1,4 @@
-use Rattle.std.proofs.Common.{◌≡◌, ◌≤◌, ◌-◌, ℕ, length}
+use Rattle.std.proofs.Common.{◌≡◌, ◌-◌, ℕ, length}
 use Rattle.cdcl_core.specs.Answers.{IsHonestlyPaid}
 use Rattle.cdcl_core.specs.Forgetting.{IsStaleAtRoot}
 use Rattle.cdcl_core.proofs.forgetting.forget_long.Given as goal
@@ -11,6 +11,7 @@ invariant-loop-id l =
       paid : (left : ℕ) → IsHonestlyPaid l.fn.search.log l.search.log left left;
       vars : l.search.trail.vars ≡ l.fn.search.trail.vars;
       true_first : l.search.true_first ≡ l.fn.search.true_first;
+      levels : l.search.assumed_levels ≡ l.fn.search.assumed_levels;
     }
 
 abbrev pub decreases-loop-id : goal.decreases-loop-id

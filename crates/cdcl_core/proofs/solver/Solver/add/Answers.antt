@@ -1,22 +1,22 @@
-use Rattle.std.proofs.Common.{◌≡◌, ◌∷◌, [], ◌++◌, true, ℕ, List, subst, sym, refl, ap, ◌∙◌}
+use Rattle.std.proofs.Common.{◌≡◌, ◌∷◌, [], ◌++◌, true, ℕ, List, min, subst, sym, refl, ap, ◌∙◌}
 use Rattle.sat_base.specs.Literals.{AreLiterals}
 use Rattle.sat_base.specs.Database.{StoredClause}
-use Rattle.trail_book.specs.Trail.{IsTrail}
+use Rattle.trail_book.specs.Trail.{top, keep, IsTrail}
 use Rattle.propagate.specs.Propagation.{Grows}
 use Rattle.propagate.proofs.KeptLemmas.{kept_links}
+use Rattle.propagate.proofs.NewLemmas.{new_clause, new_kept}
 use Rattle.lrat_steps.specs.Log.{Input}
 use Rattle.lrat_steps.specs.Honest.{IsHonest}
 use Rattle.lrat_steps.proofs.LogLemmas.{honest-input}
 use Rattle.cdcl_core.specs.Solver.{Solver}
-use Rattle.propagate.proofs.NewLemmas.{new_clause, new_kept}
-use Rattle.cdcl_core.proofs.RootLemmas.{root_add, root_grows, root_is}
+use Rattle.cdcl_core.proofs.StateLemmas.{state_is}
+use Rattle.cdcl_core.proofs.ReadyLemmas.{added_state, added_positive}
 use Rattle.cdcl_core.proofs.solver.Solver.add.Goals as goal
 
 pub add_step-requires : goal.add_step-requires
 add_step-requires c =
-    let s = c.self.inside.search in
     let lits = c.args.lits.now in
-    let r = c.self.invariant.at_root c.if-self.false in
+    let r = (c.self.invariant.ready c.if-self.false).search in
     subst (λ (n : ℕ). AreLiterals n lits) (sym r.vars) (subst (λ (v : Solver). AreLiterals v.vars lits) (sym c.self.view_is) c.requires)
 
 -- all is kept but of the new clause
@@ -24,13 +24,13 @@ pub enter-requires-clause-kept : goal.enter-requires-clause-kept
 enter-requires-clause-kept c =
     let s = c.self.inside.search in
     let e = c.in_ok-id.ensures in
-    new_kept s.store c.add_step.new.store s.trail c.in_ok-id.id c.args.lits.now (c.self.invariant.at_root c.if-self.false).kept c.add_step.ensures.links e.stored c.add_step.ensures.vars e.id
+    new_kept s.store c.add_step.new.store s.trail c.in_ok-id.id c.args.lits.now (c.self.invariant.ready c.if-self.false).search.kept c.add_step.ensures.links e.stored c.add_step.ensures.vars e.id
 
 pub enter-requires-clause-unwatched : goal.enter-requires-clause-unwatched
 enter-requires-clause-unwatched c =
     let s = c.self.inside.search in
     let e = c.in_ok-id.ensures in
-    new_clause s.store c.add_step.new.store s.trail c.in_ok-id.id c.args.lits.now (c.self.invariant.at_root c.if-self.false).kept c.add_step.ensures.links e.stored e.id
+    new_clause s.store c.add_step.new.store s.trail c.in_ok-id.id c.args.lits.now (c.self.invariant.ready c.if-self.false).search.kept c.add_step.ensures.links e.stored e.id
 
 -- nothing has changed
 pub invariant_of-self : goal.invariant_of-self
@@ -39,15 +39,22 @@ invariant_of-self c =
     let e = c.in_err-id.ensures in
     record {
       honest = subst IsHonest (sym e.log_err) c.self.invariant.honest;
-      at_root = λ b.
-          let r = c.self.invariant.at_root b in
+      ready = λ b.
+          let ready = c.self.invariant.ready b in
+          let r = ready.search in
           record {
-            vars = c.add_step.ensures.vars ∙ r.vars;
-            kept = kept_links s.store c.add_step.new.store s.trail 0 c.add_step.ensures.links e.store_err c.add_step.ensures.vars r.kept;
-            root = root_is s.trail.vars s.trail.vars s.store.clauses c.add_step.new.store.clauses s.log c.add_step.new.log s.trail.entries s.trail.entries refl e.store_err e.log_err refl r.root;
+            assumed = ready.assumed;
+            search = record {
+              vars = c.add_step.ensures.vars ∙ r.vars;
+              kept = kept_links s.store c.add_step.new.store s.trail 0 c.add_step.ensures.links e.store_err c.add_step.ensures.vars r.kept;
+              state = state_is s.trail.vars s.trail.vars s.assumed_levels s.store.clauses c.add_step.new.store.clauses s.log c.add_step.new.log s.trail.entries s.trail.entries ready.assumed refl e.store_err e.log_err refl r.state;
+              reached = r.reached;
+              positive = r.positive;
+            };
           };
     }
 
+-- what the clause left of the trail is a search under the same assumed literals, those of the levels that stay
 pub invariant_of-self-2 : goal.invariant_of-self-2
 invariant_of-self-2 c =
     let s = c.self.inside.search in
@@ -56,18 +63,26 @@ invariant_of-self-2 c =
     let logged : c.add_step.new.log ≡ s.log ++ Input lits ∷ [] = c.in_ok-id.ensures.logged in
     let stored = c.in_ok-id.ensures.stored in
     let e = c.enter.ensures in
-    let es = c.enter.new.trail.entries in
+    let es = s.trail.entries in
+    let new = c.enter.new.trail in
     record {
       honest = subst IsHonest (sym logged) (honest-input s.log lits c.self.invariant.honest);
-      at_root = λ b.
-          let r = c.self.invariant.at_root b in
+      ready = λ b.
+          let ready = c.self.invariant.ready b in
+          let r = ready.search in
           let db = s.store.clauses ++ record { lits = lits; live = true } ∷ [] in
-          let added = root_add s.trail.vars s.store.clauses s.log s.trail.entries lits r.root over in
-          let grows : Grows db s.trail.entries es = subst (λ (d : List StoredClause). Grows d s.trail.entries es) stored e.grows in
-          let root = root_grows s.trail.vars db (s.log ++ Input lits ∷ []) s.trail.entries es added grows (subst (λ (n : ℕ). IsTrail n es) e.vars e.trail) in
+          let left = c.min-search.result in
+          let left_is : left ≡ min s.assumed_levels (top new.entries) = c.min-search.ensures ∙ ap (λ (n : ℕ). min s.assumed_levels n) c.top.ensures in
+          let grows : Grows db (keep (top new.entries) es) new.entries = subst (λ (d : List StoredClause). Grows d (keep (top new.entries) es) new.entries) stored e.grows in
+          let state = added_state s.trail.vars s.store.clauses s.log es new.entries lits ready.assumed s.assumed_levels left grows left_is r.state over e.loose (subst (λ (n : ℕ). IsTrail n new.entries) e.vars e.trail) in
           record {
-            vars = e.kept.vars;
-            kept = e.kept;
-            root = root_is s.trail.vars c.enter.new.trail.vars db c.enter.new.store.clauses (s.log ++ Input lits ∷ []) c.add_step.new.log es es e.vars (e.clauses ∙ stored) logged refl root;
+            assumed = ready.assumed;
+            search = record {
+              vars = e.kept.vars;
+              kept = e.kept;
+              state = state_is s.trail.vars new.vars left db c.enter.new.store.clauses (s.log ++ Input lits ∷ []) c.add_step.new.log new.entries new.entries ready.assumed e.vars (e.clauses ∙ stored) logged refl state;
+              reached = λ l i. absurd i;
+              positive = λ asked. added_positive s.trail.vars s.store.clauses s.log es new.entries lits ready.assumed s.assumed_levels left grows left_is (r.positive asked);
+            };
           };
     }

@@ -1,8 +1,9 @@
-use Rattle.std.proofs.Common.{◌≡◌, ◌∙◌, [], ap, sym, subst}
+use Rattle.std.proofs.Common.{◌≡◌, ◌∙◌, [], refl, ap, sym, subst}
 use Rattle.trail_book.specs.Trail.{Trail}
 use Rattle.lrat_steps.specs.Honest.{IsHonest}
 use Rattle.propagate.proofs.NewLemmas.{kept_first}
 use Rattle.cdcl_core.proofs.RootLemmas.{root_first, root_is}
+use Rattle.cdcl_core.proofs.ReadyLemmas.{search_root_free}
 use Rattle.cdcl_core.proofs.solver.Solver.begin.Goals as goal
 
 -- no clause, no value, no step
@@ -16,9 +17,14 @@ invariant_of-result c =
     let done : trail.done ≡ 0 = ap (λ (t : Trail). t.done) c.in_ok-new-2.ensures in
     record {
       honest = subst IsHonest (sym c.new.ensures) tt;
-      at_root = λ b. record {
-        vars = s.vars ∙ sym vars;
-        kept = kept_first store trail (s.vars ∙ sym vars) s.clauses s.watched s.heads s.tails s.false_id entries done;
-        root = root_is c.args.vars trail.vars [] store.clauses [] c.new.result [] trail.entries vars s.clauses c.new.ensures entries (root_first c.args.vars);
+      ready = λ b. record {
+        assumed = [];
+        search = search_root_free (record { log = c.new.result; store = store; trail = trail; rooted = 0; assumed_levels = 0; assumed_true = 0; conflicts = 0; true_first = c.args.true_first })
+            (record {
+              vars = s.vars ∙ sym vars;
+              kept = kept_first store trail (s.vars ∙ sym vars) s.clauses s.watched s.heads s.tails s.false_id entries done;
+              root = root_is c.args.vars trail.vars [] store.clauses [] c.new.result [] trail.entries vars s.clauses c.new.ensures entries (root_first c.args.vars);
+            })
+            refl;
       };
     }

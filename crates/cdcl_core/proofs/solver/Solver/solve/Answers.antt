@@ -1,6 +1,5 @@
-use Rattle.std.proofs.Common.{◌≡◌, ap, sym, subst, false, true}
+use Rattle.std.proofs.Common.{sym, subst}
 use Rattle.std.proofs.lemmas.Bool.{false≢true}
-use Rattle.lrat_steps.specs.Log.{LogStep}
 use Rattle.cdcl_core.specs.Answers.{IsHonestlyPaid}
 use Rattle.cdcl_core.specs.Solver.{Solver}
 use Rattle.cdcl_core.proofs.StateLemmas.{paid_join}
@@ -8,7 +7,7 @@ use Rattle.cdcl_core.proofs.solver.Solver.solve.Goals as goal
 
 -- the log is honest also where memory was wanting
 pub invariant_of-self : goal.invariant_of-self
-invariant_of-self c = record { honest = (c.forget.ensures.paid 0).honest; at_root = λ no. absurd (false≢true (sym no)) }
+invariant_of-self c = record { honest = (c.forget.ensures.paid 0).honest; ready = λ no. absurd (false≢true (sym no)) }
 
 -- what was forgotten cost nothing
 pub returns-in_err-forget-clause-paid : goal.returns-in_err-forget-clause-paid
