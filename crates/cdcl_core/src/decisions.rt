@@ -1,8 +1,8 @@
 //! Decisions.
 //!
 //! Where nothing is left to propagate, the assumed literals are decided in their order, and then variables without
-//! value, in the order that the turn began: as each was last held (Pipatsrisawat and Darwiche 2007), or positive where that
-//! is asked for. Which assumed literals are true is not asked again for each decision: the
+//! value: those of the plan, if one is followed (`plan.rt`), and then in the order that the turn began, as each was last held
+//! (Pipatsrisawat and Darwiche 2007); or positive, in that order, where it is asked for. Which assumed literals are true is not asked again for each decision: the
 //! search remembers how far they all are, and forgets it only where it goes back below them.
 ghost use Rattle.std.specs.Prelude.{◌≡◌, ℕ, ℤ, length, take, true, IfOk, IfSome, IfNone};
 ghost use Rattle.sat_base.specs.Members.{In};
@@ -13,6 +13,7 @@ ghost use Rattle.trail_book.specs.Order.{IsPositive};
 ghost use Rattle.cdcl_core.specs.Answers.{IsConsistent, IsHonestlyPaid};
 ghost use Rattle.cdcl_core.specs.Search.{IsSearch, IsRound, IsNext};
 
+use crate::plan::Plan;
 use crate::search::Search;
 use crate::solved::Solved;
 use learn_step::Origin;
@@ -33,22 +34,30 @@ pub enum Next {
     Full,
 }
 
-// A literal without value, positive or as it was last held.
-fn choice(trail: &mut Trail, true_first: bool) -> Option<Lit>
+// A literal without value: positive where that is asked for, and else of the plan, or as it was last held.
+fn choice(trail: &mut Trail, plan: &mut Plan, true_first: bool) -> Option<Lit>
     ensures some { IfSome result (λ lit. IsUnset (trues trail.old.entries) lit × IsLiteral trail.old.vars lit) }
     ensures positive { IfSome result (λ lit. true_first ≡ true → IsPositive lit) }
     ensures none { IfNone result ((lit : ℤ) → IsLiteral trail.old.vars lit → HasValue (trues trail.old.entries) lit) }
     ensures same { trail.new ≡ trail.old }
 {
     if true_first {
-        trail.pick_true()
-    } else {
-        trail.pick()
+        return trail.pick_true();
     }
+    if let Some(lit) = plan.next(trail) {
+        return Some(lit);
+    }
+    trail.pick()
 }
 
 // Moves over the assumed literals that are true, from place `reached` on.
-fn next_decision(trail: &mut Trail, assumed: &[Lit], reached: &mut usize, true_first: bool) -> Next
+fn next_decision(
+    trail: &mut Trail,
+    assumed: &[Lit],
+    reached: &mut usize,
+    plan: &mut Plan,
+    true_first: bool,
+) -> Next
     requires literals { AreLiterals trail.old.vars assumed.now }
     requires reached { AllTrue (trues trail.old.entries) (take reached.old assumed.now) }
     ensures next { IsNext true_first trail.old.vars assumed.now (trues trail.old.entries) result }
@@ -69,7 +78,7 @@ fn next_decision(trail: &mut Trail, assumed: &[Lit], reached: &mut usize, true_f
             }
         }
     }
-    match choice(trail, true_first) {
+    match choice(trail, plan, true_first) {
         Some(lit) => Next::Choose(lit),
         None => Next::Full,
     }
@@ -110,6 +119,7 @@ impl Search {
             &mut self.trail,
             assumed,
             &mut self.assumed_true,
+            &mut self.plan,
             self.true_first,
         ) {
             Next::Assume(lit) => {
@@ -126,6 +136,7 @@ impl Search {
                 Ok(None)
             }
             Next::Full => {
+                self.plan.keep(&self.trail);
                 let assign = assignment(alloc, &self.trail)?;
                 Ok(Some(Solved::Sat(assign)))
             }

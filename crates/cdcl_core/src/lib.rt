@@ -28,6 +28,7 @@ mod conflicts;
 mod decisions;
 mod entrance;
 mod forgetting;
+mod plan;
 mod restart;
 mod resuming;
 mod search;

@@ -12,13 +12,14 @@ use crate::search::Search;
 const CONFLICTS: u32 = 100;
 
 impl Search {
-    /// Counts a conflict, and restarts where there were enough.
+    /// Counts a conflict, behind which no plan is followed, and restarts where there were enough.
     pub fn count_conflict(&mut self)
         ensures search { (assumed : List ℤ) → IsSearch self.old assumed → IsSearch self.new assumed }
         ensures log { self.new.log ≡ self.old.log }
         ensures vars { self.new.trail.vars ≡ self.old.trail.vars }
         ensures true_first { self.new.true_first ≡ self.old.true_first }
     {
+        self.plan.stop();
         if self.conflicts < CONFLICTS - 1 {
             self.conflicts += 1;
             return;

@@ -32,6 +32,7 @@ ghost use Rattle.propagate.specs.Propagation as propagation;
 ghost use Rattle.cdcl_core.specs.Answers.{IsConsistent, IsHonestlyPaid, Tells, IsGreatest};
 ghost use Rattle.cdcl_core.specs.Search.{IsSearch, IsReady, IsRound, Ends};
 
+use crate::plan::Plan;
 use crate::solved::Solved;
 use clause_store::Store;
 use lrat_steps::Log;
@@ -56,6 +57,8 @@ pub struct Search {
     pub conflicts: u32,
     /// Whether choices are positive literals only.
     pub true_first: bool,
+    /// What is decided first otherwise.
+    pub plan: Plan,
 }
 
 impl Search {
@@ -80,6 +83,7 @@ impl Search {
         self.trail.start_at(turn);
         self.resume(assumed);
         self.conflicts = 0;
+        self.plan.begin();
         let answer = self.search(alloc, assumed, purse)?;
         Ok(answer)
     }

@@ -11,6 +11,7 @@ ghost use Rattle.lrat_steps.specs.Honest.{IsHonest};
 ghost use Rattle.cdcl_core.specs.Answers.{IsConsistent, IsHonestlyPaid, Tells, IsGreatest};
 
 use crate::forgetting::forget;
+use crate::plan::Plan;
 use crate::search::Search;
 use crate::solved::Solved;
 use crate::steps::add_step;
@@ -72,6 +73,7 @@ impl Solver {
             assumed_true: 0,
             conflicts: 0,
             true_first,
+            plan: Plan::new(alloc, vars)?,
         };
         Ok(Solver {
             search,
