@@ -1,8 +1,8 @@
 -- What an audit keeps with one more record.
-use Rattle.std.proofs.Common.{◌≡◌, ℕ, ◌+◌, ◌<◌, ◌≤◌, Bool, true, false, List, [], ◌∷◌, ◌++◌, length, Option, Some, None, refl, sym, ◌∙◌, ap, subst, inl, inr, eqb, arith, append_assoc, append-nil}
+use Rattle.std.proofs.Common.{◌≡◌, ℕ, ◌≤◌, true, false, List, [], ◌∷◌, ◌++◌, Option, Some, None, refl, sym, ◌∙◌, ap, subst, inl, inr, eqb, arith, append_assoc, append-nil}
 use Rattle.std.specs.List.{AllByRecursion}
 use Rattle.std.proofs.lemmas.Bool.{false≢true, or_cases, eqb-true}
-use Rattle.gm_base.specs.Sets.{IsGroupSet, has, IsSubset, all_groups}
+use Rattle.gm_base.specs.Sets.{has, IsSubset, all_groups}
 use Rattle.gm_base.proofs.SetLemmas.{AscendsAbove-has, has-all_groups}
 use Rattle.gm_base.specs.declared.kind.Kind.{Kind}
 use Rattle.gm_base.specs.Problem.{Problem}
@@ -50,7 +50,7 @@ up_to-within high set ok g inside =
           | inr later ↦ at_most ks all.1 later
         ]
 
-within-readable : (p : Problem) (r : Record) → IsReadable p r → IsSubset (set_of r) (all_groups p.groups)
+pub within-readable : (p : Problem) (r : Record) → IsReadable p r → IsSubset (set_of r) (all_groups p.groups)
 within-readable p (Conflict set proof ws) h = up_to-within p.groups set h.0
 within-readable p (Correction set w ds) h = up_to-within p.groups set h.0
 

@@ -4,3 +4,4 @@ pub mod ExactLemmas
 pub mod KeptLemmas
 pub mod TextLemmas
 pub mod ReadingLemmas
+pub mod YesLemmas

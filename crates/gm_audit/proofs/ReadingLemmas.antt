@@ -1,6 +1,6 @@
 -- What was read of a text so far, and what the text is refused for.
-use Rattle.std.proofs.Common.{◌≡◌, ℕ, zero, suc, ◌+◌, ◌^◌, ◌<◌, ◌≤◌, Bool, true, false, List, [], ◌∷◌, ◌++◌, map, length, Option, Some, None, refl, sym, ◌∙◌, ap, subst, arith, append_assoc, append-nil, length-append}
-use Rattle.std.specs.Prelude.{IfSome, is_some, Result, Ok, Err, IfOk, codes}
+use Rattle.std.proofs.Common.{◌≡◌, ℕ, zero, suc, ◌+◌, ◌^◌, ◌<◌, ◌≤◌, true, false, List, [], ◌∷◌, ◌++◌, map, length, Option, Some, None, refl, sym, ◌∙◌, ap, subst, arith, append_assoc, append-nil, length-append}
+use Rattle.std.specs.Prelude.{IfSome, Result, Ok, Err, IfOk, codes}
 use Rattle.std.specs.Option.{option_or}
 use Rattle.std.specs.List.{flat_map}
 use Rattle.std.specs.declared.alloc.AllocError.{AllocError}
@@ -18,7 +18,7 @@ use Rattle.evidence_text.specs.declared.answer.Answer.{Answer}
 use Rattle.evidence_text.specs.declared.answer.Answer.TheVariants as answer
 use Rattle.evidence_text.specs.Text.{Line, head_line, record_lines, step_line, exhaustion_line, end_line, end_lines}
 use Rattle.evidence_text.specs.Lines.{lines_of, unended}
-use Rattle.evidence_text.specs.Reading.{Below, below, head_at, piece_at, offence}
+use Rattle.evidence_text.specs.Reading.{Below, head_at, piece_at, offence}
 use Rattle.evidence_text.specs.Readable.{IsReadable, IsReadableEnd}
 use Rattle.evidence_text.specs.Reader.{Reader, reader_of, head_of, head_answer, behind_head, piece_of, piece_answer, behind_piece}
 use Rattle.evidence_text.proofs.StandsLemmas.{piece-stands, head-stands}
@@ -87,7 +87,7 @@ reading-begun p text made new said is answers goes ok =
 
 -- ---- a record
 
-at-piece : (m : ℕ) (p : Problem) (rest : List ℕ) (b : Below) (got : Piece) → piece_at p rest b.at b.lines ≡ got
+pub at-piece : (m : ℕ) (p : Problem) (rest : List ℕ) (b : Below) (got : Piece) → piece_at p rest b.at b.lines ≡ got
     → contents_at (suc m) p rest b ≡ contents_by b.at got (contents_at m p rest)
 unfolding contents_at
 at-piece m p rest b got e = ap (λ (g : Piece). contents_by b.at g (contents_at m p rest)) e
@@ -99,7 +99,7 @@ piece-is p text r records got h e =
     ap (λ (q : Problem). piece_at q (unended text) r.left.at r.left.lines) (sym h.problem)
     ∙ ap (λ (bs : List ℕ). piece_at r.problem bs r.left.at r.left.lines) (sym h.rest) ∙ e
 
-some-lines : (r : Record) → 0 < length (record_lines r)
+pub some-lines : (r : Record) → 0 < length (record_lines r)
 some-lines (Conflict set proof ws) = omega arith
 some-lines (Correction set w ds) = omega arith
 
@@ -108,7 +108,7 @@ some-end None = omega arith
 some-end (Some d) =
     let count = length-append (map step_line d.steps) (exhaustion_line d.goal ∷ end_line (codes "complete") ∷ []) in omega arith
 
-record-passed : (p : Problem) (records : List Record) (line : ℕ) (r : Record) (c : Contents)
+pub record-passed : (p : Problem) (records : List Record) (line : ℕ) (r : Record) (c : Contents)
     → placed_refusal p records (placed line r) ≡ None
     → contents_refusal p records (with_record line r c) ≡ contents_refusal p (records ++ r ∷ []) c
 record-passed p records line r c none =
@@ -220,7 +220,7 @@ record-shorter r old new lines =
 
 -- ---- the ending
 
-nothing-left : (p : Problem) (records : List Record) (ending : Ending)
+pub nothing-left : (p : Problem) (records : List Record) (ending : Ending)
     → contents_refusal p records (record { records = []; ending = ending }) ≡ ending_refusal p records ending
 nothing-left p records ending = ap (λ (rs : List Record). ending_refusal p rs ending) (append-nil records)
 
@@ -269,11 +269,11 @@ end-line old new closing (Ok (answer.Offence o, b)) is behind = cc
 end-line old new closing (Ok (answer.End other, b)) is behind = ap (λ (x : Reader). x.line) behind
 
 -- where no line is left
-at-none : (p : Problem) (rest : List ℕ) (at : ℕ) → piece_at p rest at [] ≡ Err (offence at Truncated)
+pub at-none : (p : Problem) (rest : List ℕ) (at : ℕ) → piece_at p rest at [] ≡ Err (offence at Truncated)
 unfolding piece_at
 at-none p rest at = refl
 
-at-zero : (p : Problem) (rest : List ℕ) (b : Below)
+pub at-zero : (p : Problem) (rest : List ℕ) (b : Below)
     → contents_at zero p rest b ≡ record { records = []; ending = Err (offence b.at Truncated) }
 unfolding contents_at
 at-zero p rest b = refl

@@ -1,15 +1,15 @@
 -- A text is its lines, one after another, and what stands behind them.
-use Rattle.std.proofs.Common.{◌≡◌, ℕ, ◌+◌, Bool, true, false, List, [], ◌∷◌, ◌++◌, map, length, cond, Option, refl, sym, ◌∙◌, ap, inl, inr, arith, eqb, append_assoc, append-nil}
+use Rattle.std.proofs.Common.{◌≡◌, ℕ, List, [], ◌∷◌, ◌++◌, map, length, Option, refl, sym, ◌∙◌, ap, inl, inr, arith, append_assoc, append-nil}
 use Rattle.std.specs.Prelude.{codes}
-use Rattle.std.specs.List.{flat_map, slice_split, onto_first}
+use Rattle.std.specs.List.{flat_map, onto_first}
 use Rattle.std.proofs.lemmas.Bool.{cases_Bool, cond-true, cond-false, eqb-true}
 use Rattle.std.proofs.lemmas.List.Concat.{flat_map-cons}
 use Rattle.std.proofs.lemmas.List.Splits.{length-slice_split}
-use Rattle.std.proofs.lemmas.Grind.{flat_map-append}
 use Rattle.gm_base.specs.Problem.{Problem}
 use Rattle.sat_base.specs.Derivation.{Derivation}
 use Rattle.evidence_rec.specs.declared.record.Record.{Record}
-use Rattle.evidence_text.specs.Text.{Word, Line, spaced, line_text, text_of, head_line, head_text, record_lines, record_text, end_lines, end_text, evidence_text}
+use Rattle.evidence_text.specs.Text.{Word, Line, spaced, line_text, text_of, head_line, record_lines, end_lines, evidence_text}
+use Rattle.evidence_text.proofs.PlainLemmas.{whole-text}
 use Rattle.evidence_text.specs.Lines.{is_newline, is_blank, before_lines, ended_lines, unended_from, unended, words_of, lines_of}
 
 -- a word before the first of these words, behind a blank
@@ -79,19 +79,9 @@ text-from_lines (b ∷ bs) =
         (sym (ap (λ (cs : List ℕ). cs ++ rest)
         (text-cons (words_of l) (map words_of ls) ∙ ap (λ (cs : List ℕ). cs ++ text_of (map words_of ls)) (line-from_words l))) ∙ h)
 
--- the lines of records write their texts
-records-text : (rs : List Record) → text_of (flat_map record_lines rs) ≡ flat_map record_text rs
-records-text [] = refl
-records-text (r ∷ rs) =
-    ap text_of (flat_map-cons record_lines r rs) ∙ flat_map-append line_text (record_lines r) (flat_map record_lines rs)
-    ∙ ap (λ (bs : List ℕ). record_text r ++ bs) (records-text rs) ∙ sym (flat_map-cons record_text r rs)
-
 -- a text of a head, of records and of an end, with nothing behind it
 pub evidence-from_lines : (p : Problem) (t : List ℕ) (rs : List Record) (closing : Option Derivation)
     → lines_of t ≡ head_line p ∷ (flat_map record_lines rs ++ end_lines closing) → unended t ≡ [] → t ≡ evidence_text p rs closing
 evidence-from_lines p t rs closing lines rest =
     sym (text-from_lines t) ∙ ap (λ (bs : List ℕ). text_of (lines_of t) ++ bs) rest ∙ append-nil (text_of (lines_of t))
-    ∙ ap text_of lines ∙ text-cons (head_line p) (flat_map record_lines rs ++ end_lines closing)
-    ∙ ap (λ (bs : List ℕ). head_text p ++ bs)
-    (flat_map-append line_text (flat_map record_lines rs) (end_lines closing) ∙ ap (λ (bs : List ℕ). bs ++ end_text closing) (records-text rs))
-    ∙ sym (append_assoc (head_text p) (flat_map record_text rs) (end_text closing))
+    ∙ ap text_of lines ∙ whole-text p rs closing

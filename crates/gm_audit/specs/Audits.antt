@@ -1,5 +1,5 @@
 -- What evidence shows of a problem, and what an answer of an audit says.
-use Rattle.std.specs.Prelude.{◌≡◌, ℕ, Bool, true, List, [], Option, Some, None, IfSome, is_some}
+use Rattle.std.specs.Prelude.{◌≡◌, ◌↔◌, ℕ, ◌≤◌, Bool, true, List, [], length, Option, Some, None, IfSome, is_some}
 use Rattle.std.specs.List.{AllByRecursion}
 use Rattle.gm_base.specs.Problem.{Problem, IsProblem}
 use Rattle.sat_base.specs.Derivation.{Derivation}
@@ -10,9 +10,10 @@ use Rattle.evidence_rec.specs.Held.{AreNew, AreExactlyAll}
 use Rattle.evidence_text.specs.declared.offence.Offence.{Offence}
 use Rattle.evidence_text.specs.Text.{evidence_text}
 use Rattle.evidence_text.specs.Reading.{offence}
-use Rattle.evidence_text.specs.Readable.{IsReadable, IsReadableEnd}
+use Rattle.evidence_text.specs.Readable.{IsSmall, IsReadable, IsReadableEnd}
 use Rattle.gm_audit.specs.declared.answer.Audited.{Audited}
 use Rattle.gm_audit.specs.declared.answer.Audited.TheVariants.{Yes, No}
+use Rattle.gm_audit.specs.Refusals.{max_bytes, first_refusal}
 
 -- these bytes are the evidence text of the records; each of them is accepted; no two of one kind have one set; and where
 -- the text is complete, it ends in a derivation of the empty clause from their block clauses
@@ -50,3 +51,19 @@ TellsAll p (No line why) = Unit {0}
 -- complete evidence shows all minimal sets, whoever wrote it
 abbrev pub CompleteIsExact : Type 0
 CompleteIsExact = (p : Problem) (text : List ℕ) (records : List Record) → IsProblem p → AuditYes p text records true → AreExactlyAll p records
+
+-- a text is refused for nothing exactly where it is within the limit and shows what it says, with some records
+abbrev pub NoneIsYes : Type 0
+NoneIsYes =
+    (p : Problem) (text : List ℕ)
+    → IsSmall p
+    → (first_refusal p text ≡ None) ↔ ((length text ≤ max_bytes) × (records : List Record) × (complete : Bool) × AuditYes p text records complete)
+
+-- and these are of one list of records
+abbrev pub YesIsOne : Type 0
+YesIsOne =
+    (p : Problem) (text : List ℕ) (records others : List Record) (complete other : Bool)
+    → IsSmall p
+    → AuditYes p text records complete
+    → AuditYes p text others other
+    → (records ≡ others) × (complete ≡ other)

@@ -1,0 +1,8 @@
+use Rattle.gm_audit.proofs.YesLemmas.{none-is_yes, yes-is_one}
+use Rattle.gm_audit.proofs.laws.yes_is_unrefused.Goals as goal
+
+pub returns-clause-exactly : goal.returns-clause-exactly
+returns-clause-exactly c = none-is_yes
+
+pub returns-clause-one : goal.returns-clause-one
+returns-clause-one c = yes-is_one
