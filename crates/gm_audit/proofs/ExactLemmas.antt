@@ -1,5 +1,5 @@
 -- What a yes shows.
-use Rattle.std.proofs.Common.{◌≡◌, ℕ, Bool, true, false, List, Option, Some, None, refl, subst}
+use Rattle.std.proofs.Common.{◌≡◌, ℕ, true, List, Option, Some, None, subst}
 use Rattle.std.specs.Prelude.{IfSome, is_some, Result, Ok, Err, IfOk}
 use Rattle.std.proofs.lemmas.Bool.{true≢false}
 use Rattle.std.specs.declared.alloc.AllocError.{AllocError}

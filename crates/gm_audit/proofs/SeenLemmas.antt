@@ -1,5 +1,5 @@
 -- What the index of sets sees.
-use Rattle.std.proofs.Common.{◌≡◌, ℕ, Bool, true, false, not, ◌||◌, cond, List, [], ◌∷◌, ◌++◌, refl, sym, ◌∙◌, ap, ap₂}
+use Rattle.std.proofs.Common.{◌≡◌, ℕ, Bool, true, false, ◌||◌, cond, List, [], ◌∷◌, ◌++◌, refl, sym, ◌∙◌, ap}
 use Rattle.std.specs.Ordering.{nat_cmp, is_eq}
 use Rattle.std.specs.Cmp.Lexicographic.{slice_cmp, texts_ties}
 use Rattle.std.proofs.lemmas.List.Folds.{list_any-append}
@@ -8,7 +8,7 @@ use Rattle.evidence_rec.specs.declared.record.Record.{Record}
 use Rattle.evidence_rec.specs.Records.{kind_of, set_of}
 use Rattle.evidence_rec.specs.Held.{same_kind, same_set, and_also, is_held}
 use Rattle.gm_audit.specs.declared.seen.SeenSets.{SeenSets}
-use Rattle.gm_audit.specs.Seen.{sees, SeesOneMore, SeesAll}
+use Rattle.gm_audit.specs.Seen.{SeesOneMore, SeesAll}
 
 pub gained : (a : List ℕ) (q : List ℕ) (b : Bool) → cond (is_eq (slice_cmp nat_cmp a q)) true b ≡ (same_set a q || b)
 gained a q b = ap (λ x. cond x true b) (sym (texts_ties a q)) ∙ by (same_set a q)

@@ -1,14 +1,11 @@
 -- What an audit keeps from record to record.
-use Rattle.std.specs.Prelude.{◌≡◌, ◌≤◌, List, [], length, All, Option, None}
+use Rattle.std.specs.Prelude.{◌≡◌, []}
 use Rattle.std.specs.List.{AllByRecursion}
 use Rattle.gm_base.specs.Problem.{Problem}
-use Rattle.evidence_rec.specs.declared.record.Record.{Record}
 use Rattle.evidence_rec.specs.Records.{IsAccepted}
-use Rattle.evidence_rec.specs.Basis.{Basis, basis_of}
+use Rattle.evidence_rec.specs.Basis.{basis_of}
 use Rattle.evidence_rec.specs.Held.{AreNew}
 use Rattle.evidence_text.specs.Readable.{IsReadable}
-use Rattle.evidence_text.specs.Reader.{Reader}
-use Rattle.evidence_text.specs.declared.offence.Offence.{Offence}
 use Rattle.gm_audit.specs.declared.auditor.Auditor.{Auditor}
 use Rattle.gm_audit.specs.Seen.{SeesAll}
 

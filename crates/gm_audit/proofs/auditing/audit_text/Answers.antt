@@ -1,7 +1,5 @@
-use Rattle.std.proofs.Common.{◌≡◌, ◌∙◌, ℕ, List, Option, Some, None, refl, sym, ap, subst}
+use Rattle.std.proofs.Common.{◌∙◌, ℕ, refl, sym, ap, subst}
 use Rattle.std.specs.Prelude.{Ok}
-use Rattle.evidence_rec.specs.declared.record.Record.{Record}
-use Rattle.evidence_text.specs.declared.offence.Offence.{Offence}
 use Rattle.evidence_text.specs.Reader.{piece_of}
 use Rattle.gm_audit.specs.Refusals.{placed_refusal, ending_refusal}
 use Rattle.gm_audit.proofs.ReadingLemmas.{IsReading, placed, whole_refusal, reading-begun, record-line, record-stands, record-shorter, refused-record, reading-record, ended, end-stands, end-line, offended, refusal-of, yes-of}

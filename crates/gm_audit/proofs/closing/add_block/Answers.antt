@@ -1,6 +1,5 @@
-use Rattle.std.proofs.Common.{◌≡◌, ℕ, ℤ, List, true, refl, sym, ◌∙◌, ap, subst, arith}
+use Rattle.std.proofs.Common.{◌≡◌, ℕ, List, true, sym, ◌∙◌, subst, arith}
 use Rattle.gm_base.specs.Sets.{has, IsSubset, all_groups}
-use Rattle.gm_base.specs.Explored.{block_of, block_clause}
 use Rattle.gm_base.proofs.SetLemmas.{all_groups-has}
 use Rattle.sat_base.specs.Literals.{AreLiterals}
 use Rattle.evidence_rec.proofs.BlockLemmas.{block-over}
