@@ -5,7 +5,7 @@ use Rattle.std.specs.List.{AllByRecursion, flat_map, list_all}
 use Rattle.std.specs.Option.{option_map_or, option_or}
 use Rattle.std.proofs.lemmas.Bool.{false≢true, cases_Bool, and_parts, le-ltb, ltb-false}
 use Rattle.std.proofs.lemmas.List.Elements.{All-from_recursion}
-use Rattle.sat_base.specs.Derivation.{Derivation, numbered, clause_of, all_known, is_nil, steps_follow, is_derivation}
+use Rattle.sat_base.specs.Derivation.{Derivation, numbered, clause_of, all_known, is_nil, steps_follow, is_derivation, HasIds}
 use Rattle.gm_base.specs.Sets.{IsGroupSet}
 use Rattle.gm_base.specs.Problem.{Problem}
 use Rattle.gm_base.specs.Explored.{Found, block_clause}
@@ -22,12 +22,13 @@ use Rattle.evidence_rec.proofs.VerdictLemmas.{none-parts, or-goes, steps-none, a
 use Rattle.evidence_text.specs.declared.offence.Offence.{Offence}
 use Rattle.evidence_text.specs.declared.answer.Answer.{Answer}
 use Rattle.evidence_text.specs.declared.answer.Answer.TheVariants as answer
-use Rattle.evidence_text.specs.Text.{Line, head_line, record_lines, end_lines}
+use Rattle.evidence_text.specs.Text.{Line, head_line, record_lines, end_lines, evidence_text}
 use Rattle.evidence_text.specs.Lines.{lines_of, unended}
 use Rattle.evidence_text.specs.Reading.{Below, head_at, piece_at, offence}
-use Rattle.evidence_text.specs.Readable.{IsSmall, IsReadable, IsReadableEnd}
+use Rattle.evidence_text.specs.Readable.{IsSmall, IsReadable, IsReadableEnd, HasRecordIds}
 use Rattle.evidence_text.specs.Laws.{ReadsAll, IsRead, CanHold}
 use Rattle.evidence_text.proofs.StandsLemmas.{piece-stands, head-stands}
+use Rattle.evidence_text.proofs.AcceptedLemmas.{accepted-readable, closing-readable}
 use Rattle.evidence_text.proofs.WholeLemmas.{text-is_read, texts-differ}
 use Rattle.gm_audit.specs.Refusals.{Contents, with_record, contents_by, contents_at, in_text, placed_refusal, records_refusal, empty_refusal, closing_refusal, ending_refusal, kept_in, contents_refusal, text_refusal, max_bytes, first_refusal}
 use Rattle.gm_audit.specs.Audits.{AuditYes}
@@ -277,3 +278,34 @@ none-is_yes p text small = (
   λ none. yes-from_none p text small none,
   λ yes_it. none-from_yes p text yes_it.1 yes_it.2 small yes_it.0 yes_it.3,
 )
+
+-- ---- what is written is right
+
+readable-all : (p : Problem) (rs : List Record) → AllByRecursion (λ (r : Record). IsAccepted p r × HasRecordIds r) rs
+    → AllByRecursion (IsReadable p) rs × AllByRecursion (IsAccepted p) rs
+readable-all p [] all = (tt, tt)
+readable-all p (r ∷ rs) all =
+    let rest = readable-all p rs all.1 in ((accepted-readable p r all.0.0 all.0.1, rest.0), (all.0.0, rest.1))
+
+readable-end : (p : Problem) (rs : List Record) (closing : Option Derivation)
+    → IfSome closing (λ d. (shows_all_explored p.groups (founds rs) d ≡ true) × HasIds d) → IsReadableEnd p closing × Closes p rs closing
+readable-end p rs None h = (tt, tt)
+readable-end p rs (Some d) h = (closing-readable p (founds rs) d h.0 h.1, h.0)
+
+pub written-is_yes : (p : Problem) (rs : List Record) (closing : Option Derivation)
+    → AllByRecursion (λ (r : Record). IsAccepted p r × HasRecordIds r) rs → AreNew [] rs
+    → IfSome closing (λ d. (shows_all_explored p.groups (founds rs) d ≡ true) × HasIds d)
+    → AuditYes p (evidence_text p rs closing) rs (is_some closing)
+written-is_yes p rs closing all new closes =
+    let records = readable-all p rs all in
+    let ending = readable-end p rs closing closes in
+    record {
+      closing = closing;
+      is_complete = refl;
+      text_is = refl;
+      readable = records.0;
+      readable_end = ending.0;
+      accepted = records.1;
+      distinct = new;
+      closes = ending.1;
+    }

@@ -2,7 +2,7 @@
 use Rattle.std.specs.Prelude.{◌≡◌, ◌↔◌, ℕ, ◌≤◌, Bool, true, List, [], length, Option, Some, None, IfSome, is_some}
 use Rattle.std.specs.List.{AllByRecursion}
 use Rattle.gm_base.specs.Problem.{Problem, IsProblem}
-use Rattle.sat_base.specs.Derivation.{Derivation}
+use Rattle.sat_base.specs.Derivation.{Derivation, HasIds}
 use Rattle.evidence_rec.specs.declared.record.Record.{Record}
 use Rattle.evidence_rec.specs.Records.{founds, IsAccepted}
 use Rattle.evidence_rec.specs.Seeding.{shows_all_explored}
@@ -10,7 +10,7 @@ use Rattle.evidence_rec.specs.Held.{AreNew, AreExactlyAll}
 use Rattle.evidence_text.specs.declared.offence.Offence.{Offence}
 use Rattle.evidence_text.specs.Text.{evidence_text}
 use Rattle.evidence_text.specs.Reading.{offence}
-use Rattle.evidence_text.specs.Readable.{IsSmall, IsReadable, IsReadableEnd}
+use Rattle.evidence_text.specs.Readable.{IsSmall, IsReadable, IsReadableEnd, HasRecordIds}
 use Rattle.gm_audit.specs.declared.answer.Audited.{Audited}
 use Rattle.gm_audit.specs.declared.answer.Audited.TheVariants.{Yes, No}
 use Rattle.gm_audit.specs.Refusals.{max_bytes, first_refusal}
@@ -67,3 +67,12 @@ YesIsOne =
     → AuditYes p text records complete
     → AuditYes p text others other
     → (records ≡ others) × (complete ≡ other)
+
+-- what is written of distinct accepted records, and of what closes them, shows what it says
+abbrev pub WrittenIsYes : Type 0
+WrittenIsYes =
+    (p : Problem) (records : List Record) (closing : Option Derivation)
+    → AllByRecursion (λ (r : Record). IsAccepted p r × HasRecordIds r) records
+    → AreNew [] records
+    → IfSome closing (λ d. (shows_all_explored p.groups (founds records) d ≡ true) × HasIds d)
+    → AuditYes p (evidence_text p records closing) records (is_some closing)

@@ -1,5 +1,5 @@
 //! Laws over the definitions alone. Each is the contract of a function that has no code.
-ghost use Rattle.gm_audit.specs.Audits.{CompleteIsExact, NoneIsYes, YesIsOne};
+ghost use Rattle.gm_audit.specs.Audits.{CompleteIsExact, NoneIsYes, YesIsOne, WrittenIsYes};
 
 /// Complete evidence shows all minimal sets, whoever wrote it.
 pub fn complete_is_exact()
@@ -10,4 +10,5 @@ pub fn complete_is_exact()
 pub fn yes_is_unrefused()
     ensures exactly { NoneIsYes }
     ensures one { YesIsOne }
+    ensures written { WrittenIsYes }
 {}
