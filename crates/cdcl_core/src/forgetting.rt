@@ -1,9 +1,9 @@
 //! Which learnt clauses are forgotten.
 //!
 //! A learnt clause that no longer helps still costs a visit wherever one of its watched literals becomes false. So
-//! between searches, at level 0, where many more are live than have to stay, those go that are longer than the live ones
-//! are in the mean, the oldest first, until no more may go. The walk over all clauses is worth it only where some hundreds
-//! can go at once.
+//! between searches, at level 0, where many more are live than have to stay, those go that are longer than the live
+//! learnt ones are in the mean, the oldest first, until no more may go. The walk over all clauses is worth it only
+//! where some hundreds can go at once.
 //!
 //! A clause of which no literal is true forces none, so no value of level 0 rests on it: it is neither a reason nor the
 //! clause of a unit step. Clauses that are satisfied at level 0 are passed over; they are never visited in any case.
@@ -45,19 +45,29 @@ pub fn forget(search: &mut Search) -> Result<(), AllocError>
     Ok(())
 }
 
-// How many literals the live clauses have in the mean, learnt or not.
-fn mean_length(search: &Search) -> u64 {
+// How many literals the live learnt clauses have in the mean.
+fn mean_length(search: &Search) -> u64
+    requires { IsStaleAtRoot search.now }
+{
     let mut count: u64 = 1;
     let mut literals: u64 = 0;
     let mut id = 0;
     while id < search.store.len() {
         id += 1;
-        if search.store.is_live(id) {
+        if is_learnt(search, id) {
             literals = literals.saturating_add(search.store.lits(id).len() as u64);
             count = count.saturating_add(1);
         }
     }
     literals / count.max(1)
+}
+
+// Whether the clause is learnt and live.
+fn is_learnt(search: &Search, id: u64) -> bool
+    requires stale { IsStaleAtRoot search.now }
+    requires id { IsId search.now.store.clauses id }
+{
+    matches!(search.log.kind(id), StepKind::Learned) && search.store.is_live(id)
 }
 
 // Forgets clauses that are longer, the oldest first, as long as some may go.

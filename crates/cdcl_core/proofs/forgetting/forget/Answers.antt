@@ -7,6 +7,12 @@ use Rattle.cdcl_core.specs.State.{IsRoot}
 use Rattle.cdcl_core.proofs.ReadyLemmas.{search_root_free}
 use Rattle.cdcl_core.proofs.forgetting.forget.Goals as goal
 
+pub mean_length-longest-requires : goal.mean_length-longest-requires
+mean_length-longest-requires c =
+    let s = c.to_root.new.self in
+    let at = c.to_root.ensures.at_root in
+    record { vars = at.vars; stale = stale_kept s.store s.trail at.kept; root = at.root }
+
 pub forget_long-requires : goal.forget_long-requires
 forget_long-requires c =
     let s = c.to_root.new.self in
