@@ -1,0 +1,283 @@
+#!/usr/bin/env python3
+"""Compares `gmus check` with tools/check_evidence.py on texts of evidence that were changed by chance.
+
+    bench/mutate_evidence.py --gmus PROGRAM [--mutations 5000] [--problems 12] [--seed 1]
+
+The texts are the stored evidence of examples/ and evidence about small random problems, which is made here by trying every
+set of groups. Each is changed once to three times: a number, a word, a byte, a line or a block of lines. Both have to say the same: yes
+with the same report, or no at the same line with the same number. Equal arguments give equal texts. Ends with 1 where they
+differ, and keeps the text. Needs Python 3.9.
+"""
+import argparse
+import collections
+import itertools
+import os
+import random
+import subprocess
+import sys
+import tempfile
+
+TOP = os.path.dirname(os.path.dirname(os.path.abspath(__file__)))
+sys.path.insert(0, os.path.join(TOP, "tools"))
+
+import check_evidence  # noqa: E402
+
+
+# ---- evidence about small problems
+
+class Derivation:
+    """Steps from input clauses to a clause of literals that are all among some."""
+
+    def __init__(self, inputs):
+        self.clauses = dict(enumerate(inputs, 1))
+        self.next, self.lines = len(inputs) + 1, []
+
+    def add(self, lits, hints):
+        self.clauses[self.next] = lits
+        self.lines.append(" ".join(map(str, ["d", self.next, *lits, 0, *hints, 0])))
+        self.next += 1
+        return self.next - 1
+
+    def propagate(self, falses):
+        """The hints that lead from these false literals to a falsified clause, and its literals are these; or None."""
+        falses, hints = set(falses), []
+        while True:
+            units = None
+            for number, lits in self.clauses.items():
+                left = set(lits) - falses
+                if not left:
+                    return hints + [number], None
+                if len(left) == 1 and units is None and -next(iter(left)) not in falses:
+                    units = number, next(iter(left))
+            if units is None:
+                return None, falses
+            hints.append(units[0])
+            falses.add(-units[1])
+
+    def derive(self, decided, kept):
+        """The id of a clause of literals of these only: the negations of what was decided, and those that are kept."""
+        lits = [-lit for lit in decided] + kept
+        hints, falses = self.propagate(lits)
+        if hints is None:
+            variable = next(abs(lit) for clause in self.clauses.values() for lit in clause if lit not in falses and -lit not in falses)
+            hints = [self.derive(decided + [variable], kept), self.derive(decided + [-variable], kept)]
+        elif len(hints) == 1 and not decided and set(self.clauses[hints[0]]) <= set(lits):
+            return hints[0]
+        return self.add(lits, hints)
+
+
+def satisfying(problem, groups):
+    """The true variables of an assignment that satisfies the background and these groups, or None."""
+    for values in itertools.product([False, True], repeat=problem.vars):
+        trues = {at for at, value in enumerate(values, 1) if value}
+        if problem.is_satisfied(groups, trues):
+            return trues
+    return None
+
+
+def numbers(*words):
+    return " ".join(map(str, words))
+
+
+def refutation(problem, groups, number):
+    """The lines that refute a set of groups, under this number."""
+    made = Derivation(problem.selector_form())
+    goal = made.derive([], [-(problem.vars + group) for group in sorted(groups)])
+    return made.lines + [numbers("r", number, goal)]
+
+
+def witness(problem, groups, number):
+    return numbers("w", number, *sorted(satisfying(problem, groups)), 0)
+
+
+def evidence(problem):
+    """The text of all minimal conflicts and corrections, with a closing part."""
+    everything = set(range(1, problem.groups + 1))
+    sat = {}
+    for count in range(problem.groups + 1):
+        for groups in itertools.combinations(sorted(everything), count):
+            sat[groups] = satisfying(problem, set(groups)) is not None
+
+    def holds(groups):
+        return sat[tuple(sorted(groups))]
+
+    lines = [numbers("p gmev 1", problem.vars, len(problem.clauses), problem.groups)]
+    blocks = []
+    for groups in sat:
+        chosen = set(groups)
+        if not holds(chosen) and all(holds(chosen - {group}) for group in chosen):
+            lines += [numbers("u", *groups, 0), *refutation(problem, chosen, 0)]
+            lines += [witness(problem, chosen - {group}, group) for group in groups]
+            blocks.append([-group for group in groups])
+        rest = everything - chosen
+        if holds(rest) and not any(holds(rest | {group}) for group in chosen):
+            lines += [numbers("m", *groups, 0), witness(problem, rest, 0)]
+            for group in groups:
+                lines += refutation(problem, rest | {group}, group)
+            blocks.append(list(groups))
+    closing = Derivation(blocks)
+    goal = closing.derive([], [])
+    return "\n".join(lines + closing.lines + [numbers("x", goal), "e complete", ""]).encode()
+
+
+def random_problem(chance):
+    """A GCNF file of a few groups over a few variables."""
+    variables, groups = chance.randint(1, 4), chance.randint(1, 5)
+    clauses = []
+    for _ in range(chance.randint(groups, 3 * groups)):
+        size = chance.choice([0, 1, 1, 2, 2, 2, 3]) if chance.random() < 0.9 else 1
+        lits = [chance.choice([-1, 1]) * chance.randint(1, variables) for _ in range(size)]
+        clauses.append((chance.randint(0, groups) if chance.random() < 0.2 else chance.randint(1, groups), lits))
+    return f"p gcnf {variables} {len(clauses)} {groups}\n" + "".join(
+        "{%d} %s\n" % (group, " ".join(map(str, lits + [0]))) for group, lits in clauses)
+
+
+# ---- changes
+
+WORDS = [b"0", b"1", b"2", b"5", b"-1", b"-0", b"00", b"01", b"", b"u", b"m", b"w", b"d", b"r", b"x", b"e", b"complete", b"partial",
+         b"+1", b"1x", b"9223372036854775807", b"9223372036854775808", b"18446744073709551615", b"18446744073709551616", b"p", b"gmev"]
+
+
+def change_word(chance, text):
+    """Another word, one more, one fewer, two turned round, or a number one off."""
+    lines = text.split(b"\n")
+    at = chance.randrange(len(lines))
+    words = lines[at].split(b" ")
+    place = chance.randrange(len(words))
+    how = chance.randrange(6)
+    if how == 0:
+        words[place] = chance.choice(WORDS)
+    elif how == 1:
+        words.insert(place, chance.choice(WORDS))
+    elif how == 2:
+        del words[place]
+    elif how == 3:
+        other = chance.randrange(len(words))
+        words[place], words[other] = words[other], words[place]
+    elif how == 4:
+        try:
+            words[place] = str(int(words[place]) + chance.choice([-2, -1, 1, 2])).encode()
+        except ValueError:
+            words[place] = chance.choice(WORDS)
+    else:
+        words[place] = chance.choice(b" ".join(lines).split(b" "))
+    lines[at] = b" ".join(words)
+    return b"\n".join(lines)
+
+
+def change_number(chance, text):
+    """A number gives way to one near it or to another of its line, so that the line may still be well formed."""
+    lines = text.split(b"\n")
+    at = chance.randrange(len(lines))
+    words = lines[at].split(b" ")
+    places = [place for place, word in enumerate(words) if word.lstrip(b"-").isdigit() and word != b"0"]
+    if places:
+        place = chance.choice(places)
+        near = str(int(words[place]) + chance.choice([-1, 1])).encode()
+        words[place] = chance.choice([near, words[chance.choice(places)], words[place].lstrip(b"-"), b"-" + words[place].lstrip(b"-")])
+        lines[at] = b" ".join(words)
+    return b"\n".join(lines)
+
+
+def change_byte(chance, text):
+    at = chance.randrange(len(text) + 1)
+    byte = bytes([chance.choice(b" \n\r\t0123456789-+dmruwxe\0\xff")])
+    return text[:at] + chance.choice([byte + text[at:], byte + text[at + 1:], text[at + 1:]])
+
+
+def change_line(chance, text):
+    """A line or a block of lines is gone, stands twice, stands elsewhere, or the text ends early."""
+    lines = text.split(b"\n")
+    first = chance.randrange(len(lines))
+    last = min(len(lines), first + chance.choice([1, 1, 1, 2, 3, 6]))
+    block, rest = lines[first:last], lines[:first] + lines[last:]
+    how = chance.randrange(4)
+    if how == 0:
+        return b"\n".join(rest)
+    if how == 1:
+        place = chance.randrange(len(lines) + 1)
+        return b"\n".join(lines[:place] + block + lines[place:])
+    if how == 2:
+        place = chance.randrange(len(rest) + 1)
+        return b"\n".join(rest[:place] + block + rest[place:])
+    return text[:chance.randrange(len(text) + 1)]
+
+
+def close_partly(chance, text):
+    """The closing part gives way to the word that there is none, and perhaps something stands behind it."""
+    lines = text.split(b"\n")
+    marks = [at for at, line in enumerate(lines) if line[:2] in (b"r ", b"w ")]
+    return b"\n".join(lines[:chance.choice(marks) + 1 if marks else 1] + [b"e partial", chance.choice([b"", b"", b"e", b"\0"])])
+
+
+def changed(chance, whole):
+    text = whole
+    for _ in range(chance.choice([1, 1, 1, 1, 2, 3])):
+        text = chance.choices([change_number, change_word, change_byte, change_line, close_partly], [16, 4, 2, 4, 1])[0](chance, text)
+    return text if text != whole else changed(chance, whole)
+
+
+# ---- what both say
+
+def plain(problem, text):
+    try:
+        return "yes", check_evidence.report(problem, *check_evidence.check(problem, text)).encode()
+    except check_evidence.Refused as refused:
+        return "no", str(refused).encode()
+
+
+def program(gmus, file, text):
+    with tempfile.NamedTemporaryFile(suffix=".evidence") as evidence_file:
+        evidence_file.write(text)
+        evidence_file.flush()
+        done = subprocess.run([gmus, "check", file, evidence_file.name], stdout=subprocess.PIPE, stderr=subprocess.PIPE)
+    if done.returncode in (0, 7):
+        return "yes", done.stdout
+    if done.returncode == 9:
+        return "no", done.stderr.split(b"evidence refused: ", 1)[-1].strip()
+    return f"status {done.returncode}", done.stderr
+
+
+def main():
+    words = argparse.ArgumentParser(description=__doc__, formatter_class=argparse.RawDescriptionHelpFormatter)
+    words.add_argument("--gmus", required=True)
+    words.add_argument("--mutations", type=int, default=5000)
+    words.add_argument("--problems", type=int, default=12, help="how many random problems")
+    words.add_argument("--seed", type=int, default=1)
+    given = words.parse_args()
+    chance = random.Random(given.seed)
+    with tempfile.TemporaryDirectory() as folder:
+        texts = []
+        with open(os.path.join(TOP, "examples", "first.evidence"), "rb") as stored:
+            texts.append((os.path.join(TOP, "examples", "first.gcnf"), stored.read()))
+        for number in range(given.problems):
+            file = os.path.join(folder, f"{number}.gcnf")
+            with open(file, "w") as out:
+                out.write(random_problem(chance))
+            with open(file) as made:
+                texts.append((file, evidence(check_evidence.Problem(made.read()))))
+        problems = {}
+        for file, text in texts:
+            with open(file) as made:
+                problems[file] = check_evidence.Problem(made.read())
+            for answer in (plain(problems[file], text), program(given.gmus, file, text)):
+                if answer[0] != "yes":
+                    sys.exit(f"whole evidence is refused: {answer}")
+        told = collections.Counter()
+        for number in range(given.mutations):
+            file, text = texts[number % len(texts)]
+            text = changed(chance, text)
+            wanted, found = plain(problems[file], text), program(given.gmus, file, text)
+            if wanted != found:
+                with open("mutation.evidence", "wb") as out:
+                    out.write(text)
+                with open(file) as made, open("mutation.gcnf", "w") as out:
+                    out.write(made.read())
+                sys.exit(f"mutation {number}: check_evidence.py says {wanted}, gmus {found}; kept as mutation.gcnf and mutation.evidence")
+            told[wanted[1].split(b" ")[-1].decode() if wanted[0] == "no" else "yes"] += 1
+    print(f"{given.mutations} mutations of {len(texts)} texts: both say the same")
+    print(", ".join(f"{name} {count}" for name, count in told.most_common()))
+
+
+if __name__ == "__main__":
+    main()
