@@ -4,3 +4,4 @@ pub mod ReportLemmas
 pub mod ClosedLemmas
 pub mod RunLemmas
 pub mod CheckLemmas
+pub mod WritingLemmas

@@ -1,4 +1,5 @@
 pub mod Refusals
+pub mod Writing
 pub mod Lines
 pub mod Marco
 pub mod Closed

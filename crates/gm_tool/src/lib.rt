@@ -20,6 +20,7 @@ mod check_report;
 mod ending;
 mod enumeration;
 mod error_line;
+mod evidence_file;
 mod file_report;
 mod input;
 mod marco;

@@ -1,0 +1,25 @@
+use Rattle.std.proofs.Common.{arith}
+use Rattle.std.proofs.lemmas.Result.{err_from_is_err_and}
+use Rattle.evidence_text.specs.Text.{text_of, refutations_lines}
+use Rattle.gm_tool.proofs.WritingLemmas.{up_to-begin, up_to-more, up_to-cut, up_to-end, refutations-left, refutations-none}
+use Rattle.gm_tool.proofs.evidence_file.put_refutations.Goals as goal
+
+pub loop-at-init : goal.loop-at-init
+loop-at-init g c = up_to-begin (g.F.Files.state c.args.files.now) c.args.waiting.now.items (text_of (refutations_lines c.args.groups.now c.args.proofs.now))
+
+pub returns-in_err-put_refutation : goal.returns-in_err-put_refutation
+returns-in_err-put_refutation g c =
+    let p = err_from_is_err_and c.from_residual.result c.from_residual.ensures.1 in
+    rw (p.1, p.2)
+    (up_to-cut (g.F.Files.state c.args.files.now) (g.F.Files.state c.loop-at.files) (g.F.Files.state c.put_refutation.new.files) c.args.waiting.now.items c.loop-at.waiting.items _ _ _ _ _
+    (refutations-left c.args.groups.now c.args.proofs.now c.loop-at.at _ (omega arith) c.at.ensures) c.loop-at.invariant c.in_err-put_refutation.ensures)
+
+pub loop-at-preserved : goal.loop-at-preserved
+loop-at-preserved g c =
+    up_to-more (g.F.Files.state c.args.files.now) (g.F.Files.state c.loop-at.files) (g.F.Files.state c.put_refutation.new.files) c.args.waiting.now.items c.loop-at.waiting.items c.put_refutation.new.waiting.items _ _ _ _
+    (refutations-left c.args.groups.now c.args.proofs.now c.loop-at.at _ (omega arith) c.at.ensures) c.loop-at.invariant c.in_ok-put_refutation.ensures
+
+pub returns : goal.returns
+returns g c =
+    up_to-end (g.F.Files.state c.args.files.now) (g.F.Files.state c.loop-at.files) c.args.waiting.now.items c.loop-at.waiting.items _ _
+    (refutations-none c.args.groups.now c.args.proofs.now c.loop-at.at (omega arith)) c.loop-at.invariant
