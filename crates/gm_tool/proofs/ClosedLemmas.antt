@@ -42,7 +42,7 @@ limit_by verdict.Limit e = refl
 limit_by verdict.Budget e = absurd (omega arith)
 limit_by verdict.Memory e = absurd (omega arith)
 
-never-7 : (v : Verdict) → status_by v ≢ 7
+pub never-7 : (v : Verdict) → status_by v ≢ 7
 never-7 verdict.Complete = omega arith
 never-7 verdict.Limit = omega arith
 never-7 verdict.Budget = omega arith

@@ -5,3 +5,4 @@ pub mod ClosedLemmas
 pub mod RunLemmas
 pub mod CheckLemmas
 pub mod WritingLemmas
+pub mod EvidenceLemmas

@@ -32,22 +32,24 @@ report-by h verdict.Memory is = refl
 report-by h verdict.Limit is = refl
 report-by h verdict.Budget is = refl
 
+-- the records are accepted, and no two are of one kind and one set
+pub accepted-in : {p : Problem} {b : Bounds} {logs : List (List LogStep)} {closing : Closing} → IsClosedFor p b logs closing
+    → AllByRecursion (IsAccepted p) closing.records
+accepted-in {closing = closing} h =
+    subst (λ q. AllByRecursion (IsAccepted q) closing.records) (of-problem h)
+    (subst (AllByRecursion (IsAccepted h.state.opening.problem)) (sym h.closing_is.records) h.closing_is.sound.accepted)
+
+pub distinct-in : {p : Problem} {b : Bounds} {logs : List (List LogStep)} {closing : Closing} → IsClosedFor p b logs closing → AreNew [] closing.records
+distinct-in h = subst (AreNew []) (sym h.closing_is.records) h.closing_is.sound.distinct
+
 -- the report of the records' sets is the closing's report
 pub report_for-from : (p : Problem) (b : Bounds) (logs : List (List LogStep)) (closing : Closing) (groups : ℕ) (text : List ℕ)
     → IsClosedFor p b logs closing → groups ≡ p.groups
     → IsReportOf groups (is_complete closing.verdict) (conflicts_in closing.records) (corrections_in closing.records) text → text ≡ report_for p closing
 report_for-from p b logs closing groups text h count report =
-    held_report-from p (is_complete closing.verdict) closing.records text ok accepted new
+    held_report-from p (is_complete closing.verdict) closing.records text ok (accepted-in h) (distinct-in h)
     (subst (λ n. IsReportOf n (is_complete closing.verdict) (conflicts_in closing.records) (corrections_in closing.records) text) count report)
     ∙ report-by h closing.verdict refl
   where
     ok : IsProblem p
     ok = subst IsProblem (of-problem h) h.closing_is.sound.opening.problem
-
-    accepted : AllByRecursion (IsAccepted p) closing.records
-    accepted =
-        subst (AllByRecursion (IsAccepted p)) (sym h.closing_is.records)
-        (subst (λ q. AllByRecursion (IsAccepted q) h.state.records) (of-problem h) h.closing_is.sound.accepted)
-
-    new : AreNew [] closing.records
-    new = subst (AreNew []) (sym h.closing_is.records) h.closing_is.sound.distinct

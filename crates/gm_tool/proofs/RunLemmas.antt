@@ -10,16 +10,19 @@ use Rattle.gm_audit.specs.Refusals.{first_refusal}
 use Rattle.sat_base.specs.Members.{In}
 use Rattle.sat_base.proofs.Members.{any_from}
 use Rattle.gm_base.specs.Problem.{Problem}
+use Rattle.gm_ports.specs.Faults.{Rose}
 use Rattle.gm_ports.specs.FilesState.{FilesState}
 use Rattle.gm_words.specs.Reading.{Asked, Listing, Checking, listing, checking}
 use Rattle.gm_tool.specs.declared.enumeration.Bounds.{Bounds}
 use Rattle.gm_tool.specs.declared.ending.Ending.{Ending}
-use Rattle.gm_tool.specs.declared.ending.Ending.TheVariants.{BadWords, Refused, ReadFault, EvidenceFault, EvidenceRefused, Checked, CheckCutOff, Memory, Listed, CutOff}
+use Rattle.gm_tool.specs.declared.ending.Ending.TheVariants.{BadWords, Refused, ReadFault, EvidenceFault, EvidenceRefused, Checked, CheckCutOff, Memory, Listed, CutOff, EvidenceCutOff}
 use Rattle.gm_tool.specs.declared.ending.Finish.{Finish}
 use Rattle.gm_tool.specs.Checking.{IsChecked, IsEvidenceRefusal}
-use Rattle.gm_tool.specs.Endings.{finish_of, status_by}
-use Rattle.gm_tool.specs.Input.{OfFile, IsReadAs}
+use Rattle.gm_tool.specs.Endings.{finish_of, status_by, report_cut_line, evidence_cut_line}
+use Rattle.gm_tool.specs.Evidence.{TellsEvidence, LeavesBegun, IsReportFault, IsEvidenceFault}
+use Rattle.gm_tool.specs.Input.{OfFile, IsReadFor}
 use Rattle.gm_tool.specs.Listing.{IsAfterwards, IsAmong, TellsListing}
+use Rattle.gm_tool.proofs.EvidenceLemmas.{evidence-told}
 use Rattle.gm_tool.specs.Run.{OfNamed, IsToldFile, IsStatus, TellsAccepted, bounds_for, file_asked}
 
 pub named-from : (asked : Asked) (words : Option Asked) (files : FilesState) (P : List ℕ → Type 0)
@@ -68,11 +71,34 @@ told None P Q p q = absurd p
 told (Some None) P Q p q = absurd p
 told (Some (Some text)) P Q p q = (text, p, q)
 
-pub listing-from : (files : FilesState) (k l : Listing) (b : Bounds) (unread left old new got : Option (List ℕ)) (finish answer : Finish)
-    → k ≡ l → b ≡ bounds_for k → left ≡ unread → got ≡ new → answer ≡ finish
-    → (IsAfterwards finish.status → (p : Problem) × OfFile (files.held k.file) (IsReadAs p unread) × TellsListing p b old new finish)
-    → IsAfterwards answer.status → (p : Problem) × OfFile (files.held l.file) (IsReadAs p left) × TellsListing p (bounds_for l) old got answer
-listing-from files k l b unread left old new got finish answer same bounds u n f h = rw (← same, u, n, f) (rw (← bounds) h)
+pub listing-from : (files : FilesState) (k l : Listing) (b : Bounds) (asked : Option (List ℕ)) (mine last : FilesState) (old new got : Option (List ℕ))
+    (Gets Has : List ℕ → Type 0) (finish answer : Finish)
+    → k ≡ l → b ≡ bounds_for k → asked ≡ k.evidence → last ≡ mine → got ≡ new → answer ≡ finish → ((line : List ℕ) → Gets line → Has line)
+    → (IsAfterwards finish.status → (p : Problem) × OfFile (files.held k.file) (IsReadFor asked p mine.unread) × TellsListing p b old new finish × TellsEvidence p asked mine Gets finish)
+    → IsAfterwards answer.status
+    → (p : Problem) × OfFile (files.held l.file) (IsReadFor l.evidence p last.unread) × TellsListing p (bounds_for l) old got answer × TellsEvidence p l.evidence last Has answer
+listing-from files k l b asked mine last old new got Gets Has finish answer same bounds asks m n f line h =
+    rw (← same, m, n, f)
+    (rw (← bounds, ← asks) (λ after. let t = h after in (t.0, t.1, t.2, evidence-told t.0 asked mine Gets Has finish line t.3)))
+
+pub begun-from : (files : FilesState) (k l : Listing) (mine last : FilesState) (finish answer : Finish) → k ≡ l → last ≡ mine → answer ≡ finish
+    → (finish.status ≡ 8 → LeavesBegun (files.held k.file) files mine) → answer.status ≡ 8 → LeavesBegun (files.held l.file) files last
+begun-from files k l mine last finish answer same m f h = rw (← same, m, f) h
+
+-- a fault of writing, told of what the files and the sink are behind the call
+pub report_fault-from : (Gets Has : List ℕ → Type 0) (before now later : ℕ) → later ≡ now → ((line : List ℕ) → Gets line → Has line)
+    → IsReportFault Gets before now → IsReportFault Has before later
+report_fault-from Gets Has before now later same f h = record { rose = subst (Rose before) (sym same) h.rose; line = f report_cut_line h.line }
+
+pub evidence_fault-from : (asked words : Option (List ℕ)) (Gets Has : List ℕ → Type 0) (before now later : ℕ) (old new got : Option (List ℕ))
+    → asked ≡ words → later ≡ now → got ≡ new → ((line : List ℕ) → Gets line → Has line)
+    → IsEvidenceFault asked Gets before now old new → IsEvidenceFault words Has before later old got
+evidence_fault-from asked words Gets Has before now later old new got asks same n f h = record {
+  wanted = λ none. h.wanted (asks ∙ none);
+  rose = subst (Rose before) (sym same) h.rose;
+  line = f evidence_cut_line h.line;
+  silent = n ∙ h.silent;
+}
 
 pub checking-from : (files : FilesState) (c d : Checking) (old new got : Option (List ℕ)) (status answer : ℕ)
     → c ≡ d → got ≡ new → answer ≡ status
@@ -98,6 +124,7 @@ ending_status CheckCutOff = refl
 ending_status Memory = refl
 ending_status (Listed line left) = verdict_status left.closing.verdict
 ending_status (CutOff left) = refl
+ending_status (EvidenceCutOff left) = refl
 
 -- what is left of them without a fault and without a refusal
 pub left_of : (status : ℕ) → IsStatus status → status ≢ 2 → status ≢ 5 → status ≢ 6 → status ≢ 7 → status ≢ 9 → IsAmong (0 ∷ 3 ∷ 4 ∷ 8 ∷ []) status

@@ -8,7 +8,7 @@ use Rattle.map_core.specs.declared.closing.Verdict.TheVariants as verdict
 use Rattle.gm_tool.specs.declared.enumeration.Bounds.{Bounds}
 use Rattle.gm_tool.specs.declared.enumeration.Enumerated.{Enumerated}
 use Rattle.gm_tool.specs.declared.ending.Ending.{Ending}
-use Rattle.gm_tool.specs.declared.ending.Ending.TheVariants.{BadWords, Refused, ReadFault, EvidenceFault, EvidenceRefused, Checked, CheckCutOff, Memory, Listed, CutOff}
+use Rattle.gm_tool.specs.declared.ending.Ending.TheVariants.{BadWords, Refused, ReadFault, EvidenceFault, EvidenceRefused, Checked, CheckCutOff, Memory, Listed, CutOff, EvidenceCutOff}
 use Rattle.gm_tool.specs.declared.ending.Finish.{Finish}
 use Rattle.gm_tool.specs.Lines.{budget_line, limit_line}
 
@@ -39,6 +39,7 @@ finish_of CheckCutOff = bare 7
 finish_of Memory = bare 8
 finish_of (Listed line left) = after (status_by left.closing.verdict) left
 finish_of (CutOff left) = after 7 left
+finish_of (EvidenceCutOff left) = after 7 left
 
 -- the texts that tell which file could not be read
 abbrev pub input_fault_line : List ℕ
@@ -47,14 +48,21 @@ input_fault_line = codes "gmus: read fault on input\n"
 abbrev pub evidence_fault_line : List ℕ
 evidence_fault_line = codes "gmus: read fault on evidence\n"
 
+-- the texts that tell which output could not be written
+abbrev pub report_cut_line : List ℕ
+report_cut_line = codes "gmus: write fault on report\n"
+
+abbrev pub evidence_cut_line : List ℕ
+evidence_cut_line = codes "gmus: write fault on evidence\n"
+
 -- the text that comes with a status, where it has no number in it; no bytes where none comes
 abbrev pub plain_line : ℕ → List ℕ
 plain_line status =
     if status == 2 then codes "gmus: bad command line\n"
     else (if status == 6 then input_fault_line
-    else (if status == 7 then codes "gmus: write fault on report\n" else (if status == 8 then codes "gmus: out of memory\n" else [])))
+    else (if status == 7 then report_cut_line else (if status == 8 then codes "gmus: out of memory\n" else [])))
 
--- the line on standard error that comes with a status other than 5, 6 and 9, if any
+-- the line on standard error that comes with a status other than 5, 6, 7 and 9, if any
 abbrev pub error_line : Bounds → ℕ → List ℕ
 error_line b status = if status == 3 then budget_line b.conflicts else (if status == 4 then limit_line b.limit else plain_line status)
 
@@ -64,4 +72,5 @@ line_of (Refused line) = line.items
 line_of (EvidenceRefused line) = line.items
 line_of EvidenceFault = evidence_fault_line
 line_of (Listed line left) = line.items
+line_of (EvidenceCutOff left) = evidence_cut_line
 line_of ending = plain_line (finish_of ending).status

@@ -5,6 +5,7 @@ pub mod Marco
 pub mod Closed
 pub mod Endings
 pub mod Input
+pub mod Evidence
 pub mod Listing
 pub mod Checking
 pub mod Run

@@ -32,6 +32,12 @@ bounds_of None = no_bounds
 bounds_of (Some (listing l)) = bounds_for l
 bounds_of (Some (checking c)) = no_bounds
 
+-- the name under which evidence is asked for
+abbrev pub evidence_asked : Option Asked → Option (List ℕ)
+evidence_asked None = None
+evidence_asked (Some (listing l)) = l.evidence
+evidence_asked (Some (checking c)) = None
+
 -- a fact of the file that the words name: it is vacuous where the file is not told, and false where the words name none
 abbrev pub OfNamed : Option Asked → FilesState → (List ℕ → Type 0) → Type 0
 OfNamed None files P = ⊥
@@ -86,4 +92,4 @@ IsBefore status = IsAmong (2 ∷ 5 ∷ 6 ∷ 9 ∷ []) status
 
 -- those that tell which line standard error gets
 abbrev pub IsToldByStatus : ℕ → Type 0
-IsToldByStatus status = IsAmong (0 ∷ 2 ∷ 3 ∷ 4 ∷ 7 ∷ 8 ∷ []) status
+IsToldByStatus status = IsAmong (0 ∷ 2 ∷ 3 ∷ 4 ∷ 8 ∷ []) status

@@ -9,6 +9,7 @@ ghost use Rattle.gm_audit.specs.Audits.{AuditYes};
 ghost use Rattle.gm_tool.specs.declared.enumeration.Bounds.{Bounds};
 ghost use Rattle.gm_tool.specs.Checking.{IsChecked, IsEvidenceRefusal, IsRefusingEvidence, Judges, shown_report};
 ghost use Rattle.gm_tool.specs.Endings.{bare, error_line, finish_of, line_of, input_fault_line, evidence_fault_line};
+ghost use Rattle.gm_tool.specs.Evidence.{IsReportFault};
 ghost use Rattle.gm_tool.specs.Input.{OfFile};
 ghost use Rattle.gm_tool.specs.Listing.{IsAfterwards, IsAmong};
 ghost use Rattle.gm_tool.specs.Run.{IsRefusal, IsSilent, IsToldByStatus};
@@ -71,7 +72,7 @@ fn write_shown<O: Sink>(
     ensures bare { finish_of result ≡ bare (finish_of result).status }
     ensures whole { (finish_of result).status ≡ 0 → ToldAppends (O.got out.old) (O.got out.new) (shown_report problem.now complete records.now) }
     ensures cut_off { (finish_of result).status ≡ 7 → ToldGrowsWithin (O.got out.old) (O.got out.new) (shown_report problem.now complete records.now) }
-    ensures cause { (finish_of result).status ≡ 7 → Rose (O.faults out.old) (O.faults out.new) }
+    ensures cause { (finish_of result).status ≡ 7 → IsReportFault (λ line. line_of result ≡ line) (O.faults out.old) (O.faults out.new) }
     ensures quiet { (finish_of result).status ≢ 7 → O.faults out.new ≡ O.faults out.old }
     ensures silent { (finish_of result).status ≡ 8 → O.got out.new ≡ O.got out.old }
     ensures line { (b : Bounds) → line_of result ≡ error_line b (finish_of result).status }
@@ -110,7 +111,7 @@ fn check_problem<F: Files, O: Sink>(
     ensures refused { (finish_of result).status ≡ 9 → IsEvidenceRefusal problem.now ((F.state files.old).held evidence.now) (λ line. line_of result ≡ line) }
     ensures read_fault { (finish_of result).status ≡ 6 → Rose (F.state files.old).read_faults (F.state files.new).read_faults }
     ensures fault_line { (finish_of result).status ≡ 6 → line_of result ≡ evidence_fault_line }
-    ensures write_fault { (finish_of result).status ≡ 7 → Rose (O.faults out.old) (O.faults out.new) }
+    ensures write_fault { (finish_of result).status ≡ 7 → IsReportFault (λ line. line_of result ≡ line) (O.faults out.old) (O.faults out.new) }
     ensures quiet_reads { (finish_of result).status ≢ 6 → (F.state files.new).read_faults ≡ (F.state files.old).read_faults }
     ensures quiet_writes { (finish_of result).status ≢ 7 → O.faults out.new ≡ O.faults out.old }
     ensures silent { IsSilent (finish_of result).status → O.got out.new ≡ O.got out.old }
@@ -145,7 +146,7 @@ pub fn check_file<F: Files, O: Sink>(
     ensures read_fault { (finish_of result).status ≡ 6 → Rose (F.state files.old).read_faults (F.state files.new).read_faults }
     ensures fault_line { (finish_of result).status ≡ 6 → (line_of result ≡ input_fault_line)
         ⊎ ((line_of result ≡ evidence_fault_line) × ((p : GroupedClauses) × OfFile ((F.state files.old).held name.now) (λ text. Reads text p))) }
-    ensures write_fault { (finish_of result).status ≡ 7 → Rose (O.faults out.old) (O.faults out.new) }
+    ensures write_fault { (finish_of result).status ≡ 7 → IsReportFault (λ line. line_of result ≡ line) (O.faults out.old) (O.faults out.new) }
     ensures quiet_reads { (finish_of result).status ≢ 6 → (F.state files.new).read_faults ≡ (F.state files.old).read_faults }
     ensures quiet_writes { (finish_of result).status ≢ 7 → O.faults out.new ≡ O.faults out.old }
     ensures silent { IsSilent (finish_of result).status → O.got out.new ≡ O.got out.old }

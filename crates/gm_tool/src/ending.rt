@@ -28,6 +28,8 @@ pub enum Ending {
     Listed(Vec<u8>, Enumerated),
     /// The report could not be written to its end.
     CutOff(Enumerated),
+    /// The evidence could not be written to its end, and no report is written.
+    EvidenceCutOff(Enumerated),
 }
 
 /// How a run ended: 0 complete or accepted, 2 bad command line, 3 budget spent, 4 limit reached, 5 input refused, 6 read
@@ -91,6 +93,6 @@ pub fn finish_of(alloc: Global, ending: Ending) -> Finish
         Ending::CheckCutOff => bare(alloc, 7),
         Ending::Memory => bare(alloc, 8),
         Ending::Listed(_, left) => after(status_by(left.closing.verdict), left),
-        Ending::CutOff(left) => after(7, left),
+        Ending::CutOff(left) | Ending::EvidenceCutOff(left) => after(7, left),
     }
 }

@@ -20,6 +20,7 @@ fn text_of(ending: &Ending) -> &[u8]
         Ending::Checked => b"",
         Ending::Memory => b"gmus: out of memory\n",
         Ending::CutOff(_) | Ending::CheckCutOff => b"gmus: write fault on report\n",
+        Ending::EvidenceCutOff(_) => b"gmus: write fault on evidence\n",
     }
 }
 

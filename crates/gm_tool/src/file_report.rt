@@ -1,24 +1,32 @@
 //! The listing of a named file.
-ghost use Rattle.std.specs.Prelude.{◌≡◌, ◌≢◌, ◌⊎◌, IfOk};
+ghost use Rattle.std.specs.Prelude.{◌≡◌, ◌≢◌, ◌⊎◌, ℕ, List, Some, None, IfOk, IfErr, IfSome, OnOk, OnErr};
+ghost use Rattle.std.specs.List.{AllByRecursion};
+ghost use Rattle.sat_base.specs.Derivation.{HasIds};
 ghost use Rattle.gm_ports.specs.Faults.{Rose};
-ghost use Rattle.gm_ports.specs.FilesState.{ReadingLeaves};
+ghost use Rattle.gm_ports.specs.FilesState.{ReadingLeaves, WritingLeaves, StaysAsTold};
+ghost use Rattle.evidence_text.specs.Readable.{HasRecordIds};
+ghost use Rattle.gm_words.specs.Requests.{text_of};
 ghost use Rattle.gm_base.specs.Problem.{Problem as GroupedClauses};
 ghost use Rattle.gm_tool.specs.Closed.{is_complete, learned_in};
 ghost use Rattle.gm_tool.specs.Endings.{error_line, finish_of, line_of, status_by};
-ghost use Rattle.gm_tool.specs.Input.{OfFile, IsReadAs};
+ghost use Rattle.gm_tool.specs.Evidence.{evidence_of, TellsEvidence, IsBegun, LeavesBegun, IsReportFault, IsEvidenceFault};
+ghost use Rattle.gm_tool.specs.Input.{OfFile, IsReadFor};
 ghost use Rattle.gm_tool.specs.Listing.{IsAfterwards, IsPrepared, IsRefusing, TellsListing};
-ghost use Rattle.gm_tool.specs.Run.{IsRefusal, IsSilent};
+ghost use Rattle.gm_tool.specs.Run.{IsBefore, IsRefusal, IsSilent};
+ghost use Rattle.gm_tool.specs.Writing.{CutHasCause, IsWritten, IsFront};
 
 use crate::bounds_line::{line_of_budget, line_of_limit};
 use crate::ending::Ending;
 use crate::enumeration::{Bounds, Enumerated, list_sets};
+use crate::evidence_file::{CutOff, write_evidence};
 use crate::input::read_file;
+use crate::record_ids::ids_fit;
 use crate::records_report::report_of;
 use crate::refusal::line_of_refusal;
 use gcnf_text::{Offence, Read};
 use gm_base::Problem;
 use gm_ports::{Failed, Files, Sink, write_all};
-use map_core::Verdict;
+use map_core::{Closing, Verdict};
 use std::alloc::{AllocError, Global};
 
 /// The line that tells which bound was reached; no bytes where none was. An enumeration that wanted memory has no line.
@@ -64,20 +72,64 @@ fn prepare(alloc: Global, problem: &Problem, bounds: Bounds) -> Result<Prepared,
     Ok(Prepared { line, text, left })
 }
 
-/// Writes the report of a problem.
-fn list_problem<O: Sink>(alloc: Global, problem: &Problem, bounds: Bounds, out: &mut O) -> Ending
+/// Writes the evidence of what is left of an enumeration, where it is asked for.
+fn write_asked<F: Files>(
+    alloc: Global,
+    problem: &Problem,
+    asked: Option<&str>,
+    closing: &Closing,
+    files: &mut F,
+) -> Result<(), CutOff>
+    ensures whole { OnOk result ((name : List ℕ) → text_of asked.entry ≡ Some name → IsWritten name (evidence_of problem.now closing.now) (F.state files.new)) }
+    ensures front { OnErr result (IsFront (evidence_of problem.now closing.now) (F.state files.new)) }
+    ensures asked { OnErr result (text_of asked.entry ≢ None) }
+    ensures cause { IfErr result (λ why. CutHasCause why (F.state files.old).write_faults (F.state files.new).write_faults) }
+    ensures quiet { OnOk result ((F.state files.new).write_faults ≡ (F.state files.old).write_faults) }
+    ensures unasked { text_of asked.entry ≡ None → F.state files.new ≡ F.state files.old }
+    ensures leaves { WritingLeaves (λ n. text_of asked.entry ≡ Some n) (F.state files.old) (F.state files.new) }
+    ensures records { text_of asked.entry ≢ None → AllByRecursion HasRecordIds closing.now.records }
+    ensures proof { text_of asked.entry ≢ None → IfSome closing.now.proof HasIds }
+{
+    let Some(name) = asked else {
+        return Ok(());
+    };
+    ids_fit(closing);
+    let records = closing.records.as_slice();
+    write_evidence(alloc, problem, records, closing.proof.as_ref(), name, files)
+}
+
+/// Writes the report of a problem, and before it the evidence, where it is asked for.
+fn list_problem<F: Files, O: Sink>(
+    alloc: Global,
+    problem: &Problem,
+    bounds: Bounds,
+    evidence: Option<&str>,
+    files: &mut F,
+    out: &mut O,
+) -> Ending
     ensures statuses { ((finish_of result).status ≡ 8) ⊎ IsAfterwards (finish_of result).status }
     ensures listing { IsAfterwards (finish_of result).status → TellsListing problem.now bounds (O.got out.old) (O.got out.new) (finish_of result) }
-    ensures cause { (finish_of result).status ≡ 7 → Rose (O.faults out.old) (O.faults out.new) }
+    ensures evidence { IsAfterwards (finish_of result).status → TellsEvidence problem.now (text_of evidence.entry) (F.state files.new) (λ line. line_of result ≡ line) (finish_of result) }
+    ensures begun { (finish_of result).status ≡ 8 → (F.state files.new ≡ F.state files.old) ⊎ IsBegun problem.now (F.state files.new) }
+    ensures cause { (finish_of result).status ≡ 7 → IsReportFault (λ line. line_of result ≡ line) (O.faults out.old) (O.faults out.new)
+        ⊎ IsEvidenceFault (text_of evidence.entry) (λ line. line_of result ≡ line) (F.state files.old).write_faults (F.state files.new).write_faults (O.got out.old) (O.got out.new) }
     ensures quiet { (finish_of result).status ≢ 7 → O.faults out.new ≡ O.faults out.old }
+    ensures quiet_files { (finish_of result).status ≢ 7 → (F.state files.new).write_faults ≡ (F.state files.old).write_faults }
     ensures silent { (finish_of result).status ≡ 8 → O.got out.new ≡ O.got out.old }
     ensures learned { (finish_of result).spent ≡ learned_in (finish_of result).logs }
-    ensures line { line_of result ≡ error_line bounds (finish_of result).status }
+    ensures line { (finish_of result).status ≢ 7 → line_of result ≡ error_line bounds (finish_of result).status }
+    ensures unasked { text_of evidence.entry ≡ None → F.state files.new ≡ F.state files.old }
+    ensures leaves { WritingLeaves (λ n. text_of evidence.entry ≡ Some n) (F.state files.old) (F.state files.new) }
 {
     let Ok(prepared) = prepare(alloc, problem, bounds) else {
         return Ending::Memory;
     };
     let Prepared { line, text, left } = prepared;
+    match write_asked(alloc, problem, evidence, &left.closing, files) {
+        Ok(()) => {}
+        Err(CutOff::Failed) => return Ending::EvidenceCutOff(left),
+        Err(CutOff::Memory) => return Ending::Memory,
+    }
     match write_all(out, text.as_slice()) {
         Ok(()) => Ending::Listed(line, left),
         Err(Failed) => Ending::CutOff(left),
@@ -94,30 +146,38 @@ pub fn refuse(alloc: Global, offence: Offence) -> Ending
     }
 }
 
-/// Reads the file of this name and writes its report.
+/// Reads the file of this name and writes its report, and before it the evidence, where it is asked for.
 pub fn list_file<F: Files, O: Sink>(
     alloc: Global,
     name: &str,
     bounds: Bounds,
+    evidence: Option<&str>,
     files: &mut F,
     out: &mut O,
 ) -> Ending
     ensures not_words { (finish_of result).status ≢ 2 }
     ensures not_evidence { (finish_of result).status ≢ 9 }
-    ensures listing { IsAfterwards (finish_of result).status → (p : GroupedClauses) × OfFile ((F.state files.old).held name.now) (IsReadAs p (F.state files.new).unread)
-        × TellsListing p bounds (O.got out.old) (O.got out.new) (finish_of result) }
+    ensures listing { IsAfterwards (finish_of result).status → (p : GroupedClauses)
+        × OfFile ((F.state files.old).held name.now) (IsReadFor (text_of evidence.entry) p (F.state files.new).unread)
+        × TellsListing p bounds (O.got out.old) (O.got out.new) (finish_of result)
+        × TellsEvidence p (text_of evidence.entry) (F.state files.new) (λ line. line_of result ≡ line) (finish_of result) }
     ensures refused { (finish_of result).status ≡ 5 → IsRefusal (OfFile ((F.state files.old).held name.now)) (λ line. line_of result ≡ line) }
     ensures read_fault { (finish_of result).status ≡ 6 → Rose (F.state files.old).read_faults (F.state files.new).read_faults }
-    ensures write_fault { (finish_of result).status ≡ 7 → Rose (O.faults out.old) (O.faults out.new) }
+    ensures write_fault { (finish_of result).status ≡ 7 → IsReportFault (λ line. line_of result ≡ line) (O.faults out.old) (O.faults out.new)
+        ⊎ IsEvidenceFault (text_of evidence.entry) (λ line. line_of result ≡ line) (F.state files.old).write_faults (F.state files.new).write_faults (O.got out.old) (O.got out.new) }
+    ensures memory { (finish_of result).status ≡ 8 → LeavesBegun ((F.state files.old).held name.now) (F.state files.old) (F.state files.new) }
     ensures quiet_reads { (finish_of result).status ≢ 6 → (F.state files.new).read_faults ≡ (F.state files.old).read_faults }
     ensures quiet_writes { (finish_of result).status ≢ 7 → O.faults out.new ≡ O.faults out.old }
+    ensures quiet_files { (finish_of result).status ≢ 7 → (F.state files.new).write_faults ≡ (F.state files.old).write_faults }
     ensures silent { IsSilent (finish_of result).status → O.got out.new ≡ O.got out.old }
     ensures learned { (finish_of result).spent ≡ learned_in (finish_of result).logs }
-    ensures line { (finish_of result).status ≢ 5 → line_of result ≡ error_line bounds (finish_of result).status }
-    ensures leaves { ReadingLeaves (F.state files.old) (F.state files.new) }
+    ensures line { (finish_of result).status ≢ 5 → (finish_of result).status ≢ 7 → line_of result ≡ error_line bounds (finish_of result).status }
+    ensures unasked { text_of evidence.entry ≡ None → ReadingLeaves (F.state files.old) (F.state files.new) }
+    ensures before { IsBefore (finish_of result).status → ReadingLeaves (F.state files.old) (F.state files.new) }
+    ensures names { (n : List ℕ) → text_of evidence.entry ≢ Some n → StaysAsTold ((F.state files.old).held n) ((F.state files.new).held n) }
 {
     match read_file(alloc, name, files) {
-        Ok(Read::Problem(problem)) => list_problem(alloc, &problem, bounds, out),
+        Ok(Read::Problem(problem)) => list_problem(alloc, &problem, bounds, evidence, files, out),
         Ok(Read::Refused(offence)) => refuse(alloc, offence),
         Ok(Read::Memory) => Ending::Memory,
         Err(Failed) => Ending::ReadFault,

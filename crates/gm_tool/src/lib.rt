@@ -27,6 +27,7 @@ mod marco;
 #[cfg(test)]
 mod plain;
 mod program;
+mod record_ids;
 mod records_report;
 mod refusal;
 #[cfg(test)]

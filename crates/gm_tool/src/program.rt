@@ -1,17 +1,18 @@
 //! The whole program, as one call.
-ghost use Rattle.std.specs.Prelude.{◌≡◌, ◌⊎◌, map, [], ◌∷◌, Some, None};
+ghost use Rattle.std.specs.Prelude.{◌≡◌, ◌≢◌, ◌⊎◌, ℕ, List, map, [], ◌∷◌, Some, None};
 ghost use Rattle.std.specs.String.{string_bytes};
 ghost use Rattle.gm_base.specs.Problem.{Problem};
 ghost use Rattle.gm_ports.specs.Faults.{Rose};
-ghost use Rattle.gm_ports.specs.FilesState.{ReadingLeaves};
+ghost use Rattle.gm_ports.specs.FilesState.{ReadingLeaves, StaysAsTold};
 ghost use Rattle.gcnf_text.specs.Grammar.{Reads};
 ghost use Rattle.gm_words.specs.Reading.{Listing as Listed, Checking as Checked, words_read, listing, checking};
 ghost use Rattle.gm_tool.specs.Closed.{learned_in};
 ghost use Rattle.gm_tool.specs.Checking.{IsChecked, IsEvidenceRefusal};
 ghost use Rattle.gm_tool.specs.Endings.{bare, error_line, input_fault_line, evidence_fault_line};
-ghost use Rattle.gm_tool.specs.Input.{OfFile, IsReadAs};
+ghost use Rattle.gm_tool.specs.Evidence.{TellsEvidence, LeavesBegun, IsReportFault, IsEvidenceFault};
+ghost use Rattle.gm_tool.specs.Input.{OfFile, IsReadFor};
 ghost use Rattle.gm_tool.specs.Listing.{IsAfterwards, IsAmong, TellsListing};
-ghost use Rattle.gm_tool.specs.Run.{OfNamed, TellsAccepted, ChecksAccepted, GetsLine, IsRefusal, IsStatus, IsSilent, IsFaultless, IsBefore, IsToldByStatus, bounds_for, bounds_of};
+ghost use Rattle.gm_tool.specs.Run.{OfNamed, TellsAccepted, ChecksAccepted, GetsLine, IsRefusal, IsStatus, IsSilent, IsFaultless, IsBefore, IsToldByStatus, bounds_for, bounds_of, evidence_asked};
 
 use crate::check_report::check_file;
 use crate::ending::{Ending, Finish, finish_of};
@@ -40,9 +41,10 @@ fn bounds_for(listing: Listing<'_>) -> Bounds
 /// `words` are those behind the program's name. Status 0 of `list` says that the file is accepted and was read to its end,
 /// and that `out` got exactly the report of all its minimal conflicts and all its minimal corrections, each once, in
 /// lexicographic order. Status 3 says that as many clauses were learnt as `--conflicts` allows, and status 4 that as many
-/// sets were recorded as `--limit` allows; `out` got a report of these sets, each of which is minimal. Status 0 of `check`
-/// says that file and evidence are accepted, and that `out` got the report of the sets that the evidence shows to be
-/// minimal, of all where it is complete.
+/// sets were recorded as `--limit` allows; `out` got a report of these sets, each of which is minimal. With these three the
+/// file of `--evidence`, where it is asked for, got the evidence of the sets first. Status 0 of `check` says that file and
+/// evidence are accepted, and that `out` got the report of the sets that the evidence shows to be minimal, of all where it
+/// is complete.
 pub fn run<R: Threads + Wait + Sync, F: Files, O: Sink, E: Sink>(
     _rt: &R,
     alloc: Global,
@@ -56,7 +58,10 @@ pub fn run<R: Threads + Wait + Sync, F: Files, O: Sink, E: Sink>(
 
     // What each status tells.
     ensures listing { (l : Listed) → words_read (map string_bytes words.now) ≡ Some (listing l) → IsAfterwards result.status →
-        (p : Problem) × OfFile ((F.state files.old).held l.file) (IsReadAs p (F.state files.new).unread) × TellsListing p (bounds_for l) (O.got out.old) (O.got out.new) result }
+        (p : Problem) × OfFile ((F.state files.old).held l.file) (IsReadFor l.evidence p (F.state files.new).unread) × TellsListing p (bounds_for l) (O.got out.old) (O.got out.new) result
+        × TellsEvidence p l.evidence (F.state files.new) (λ line. GetsLine line (E.got err.old) (E.got err.new) (E.faults err.old) (E.faults err.new)) result }
+    ensures begun { (l : Listed) → words_read (map string_bytes words.now) ≡ Some (listing l) → result.status ≡ 8 →
+        LeavesBegun ((F.state files.old).held l.file) (F.state files.old) (F.state files.new) }
     ensures checking { (c : Checked) → words_read (map string_bytes words.now) ≡ Some (checking c) → IsAfterwards result.status →
         (p : Problem) × OfFile ((F.state files.old).held c.file) (λ text. Reads text p) × IsChecked p ((F.state files.old).held c.evidence) result.status (O.got out.old) (O.got out.new) }
     ensures nothing_listed { IsBefore result.status → result ≡ bare result.status }
@@ -68,26 +73,33 @@ pub fn run<R: Threads + Wait + Sync, F: Files, O: Sink, E: Sink>(
         × OfFile ((F.state files.old).held c.file) (λ text. Reads text p)
         × IsEvidenceRefusal p ((F.state files.old).held c.evidence) (λ line. GetsLine line (E.got err.old) (E.got err.new) (E.faults err.old) (E.faults err.new)) }
     ensures read_fault { result.status ≡ 6 → Rose (F.state files.old).read_faults (F.state files.new).read_faults }
-    ensures write_fault { result.status ≡ 7 → Rose (O.faults out.old) (O.faults out.new) }
+    ensures write_fault { result.status ≡ 7 → IsReportFault (λ line. GetsLine line (E.got err.old) (E.got err.new) (E.faults err.old) (E.faults err.new)) (O.faults out.old) (O.faults out.new)
+        ⊎ IsEvidenceFault (evidence_asked (words_read (map string_bytes words.now))) (λ line. GetsLine line (E.got err.old) (E.got err.new) (E.faults err.old) (E.faults err.new))
+        (F.state files.old).write_faults (F.state files.new).write_faults (O.got out.old) (O.got out.new) }
 
     // When a status has to come.
     ensures without_reading { words_read (map string_bytes words.now) ≡ None → (result.status ≡ 2) ⊎ (result.status ≡ 8) }
-    ensures accepted { ¬ Rose (F.state files.old).read_faults (F.state files.new).read_faults → ¬ Rose (O.faults out.old) (O.faults out.new) →
+    ensures accepted { ¬ Rose (F.state files.old).read_faults (F.state files.new).read_faults → ¬ Rose (F.state files.old).write_faults (F.state files.new).write_faults →
+        ¬ Rose (O.faults out.old) (O.faults out.new) →
         TellsAccepted (words_read (map string_bytes words.now)) (F.state files.old) → IsAmong (0 ∷ 3 ∷ 4 ∷ 8 ∷ []) result.status }
 
     // What stays, and what standard error got.
     ensures untouched { words_read (map string_bytes words.now) ≡ None → F.state files.new ≡ F.state files.old }
-    ensures files { ReadingLeaves (F.state files.old) (F.state files.new) }
+    ensures unasked { evidence_asked (words_read (map string_bytes words.now)) ≡ None → ReadingLeaves (F.state files.old) (F.state files.new) }
+    ensures before { IsBefore result.status → ReadingLeaves (F.state files.old) (F.state files.new) }
+    ensures names { (name : List ℕ) → evidence_asked (words_read (map string_bytes words.now)) ≢ Some name → StaysAsTold ((F.state files.old).held name) ((F.state files.new).held name) }
     ensures silent { IsSilent result.status → O.got out.new ≡ O.got out.old }
     ensures no_read_fault_dropped { IsFaultless result.status → (F.state files.new).read_faults ≡ (F.state files.old).read_faults }
     ensures no_write_fault_dropped { IsFaultless result.status → O.faults out.new ≡ O.faults out.old }
+    ensures no_evidence_fault_dropped { IsFaultless result.status → (F.state files.new).write_faults ≡ (F.state files.old).write_faults }
     ensures error_line { IsToldByStatus result.status → GetsLine (error_line (bounds_of (words_read (map string_bytes words.now))) result.status) (E.got err.old) (E.got err.new) (E.faults err.old) (E.faults err.new) }
     ensures fault_line { result.status ≡ 6 → GetsLine input_fault_line (E.got err.old) (E.got err.new) (E.faults err.old) (E.faults err.new)
         ⊎ (GetsLine evidence_fault_line (E.got err.old) (E.got err.new) (E.faults err.old) (E.faults err.new) × ChecksAccepted (words_read (map string_bytes words.now)) (F.state files.old)) }
 {
     let ending = match read_words(alloc, words) {
         Ok(Some(Request::List(listing))) => {
-            list_file(alloc, listing.file, bounds_for(listing), files, out)
+            let bounds = bounds_for(listing);
+            list_file(alloc, listing.file, bounds, listing.evidence, files, out)
         }
         Ok(Some(Request::Check(checking))) => {
             check_file(alloc, checking.file, checking.evidence, files, out)

@@ -1,4 +1,5 @@
 mod checking;
+mod evidence;
 
 use super::*;
 use crate::plain::draw_problem;

@@ -1,17 +1,18 @@
-use Rattle.std.proofs.Common.{◌≡◌, ℕ, List, ◌∙◌, map, sym, ap, ap₂, subst, refl, option_map, Some, None, [], ◌∷◌, arith}
+use Rattle.std.proofs.Common.{◌≡◌, ℕ, List, ◌∙◌, map, sym, ap, ap₂, subst, refl, option_map, Some, None, [], ◌∷◌, inl, inr, arith}
 use Rattle.std.specs.String.{string_bytes}
 use Rattle.std.proofs.lemmas.Bool.{false≢true}
 use Rattle.gcnf_text.specs.Read.{IsRefused}
 use Rattle.gm_ports.specs.Faults.{Rose}
-use Rattle.gm_words.specs.Reading.{Asked, Listing, Checking, words_read, listing, checking}
+use Rattle.gm_ports.specs.FilesState.{ReadingLeaves}
+use Rattle.gm_ports.proofs.ToldLemmas.{ReadingLeaves-nothing}
+use Rattle.gm_words.specs.Reading.{words_read, listing}
 use Rattle.gm_words.specs.Requests.{asked_by}
 use Rattle.gm_tool.specs.declared.enumeration.Bounds.{Bounds}
-use Rattle.gm_tool.specs.declared.ending.Ending.{Ending}
 use Rattle.gm_tool.specs.declared.ending.Finish.{Finish}
 use Rattle.gm_tool.specs.Endings.{error_line, finish_of, line_of}
 use Rattle.gm_tool.specs.Listing.{IsAfterwards, IsAmong}
-use Rattle.gm_tool.specs.Run.{GetsLine, IsToldByStatus, TellsAccepted, bounds_for, bounds_of}
-use Rattle.gm_tool.proofs.RunLemmas.{named-from, same_listing, same_checking, not_both, not_none, listing-from, checking-from, ending_status, left_of, not_refused, not_refused-alone, not_refused-evidence}
+use Rattle.gm_tool.specs.Run.{GetsLine, IsToldByStatus, TellsAccepted, bounds_of, evidence_asked}
+use Rattle.gm_tool.proofs.RunLemmas.{named-from, same_listing, same_checking, not_both, listing-from, begun-from, report_fault-from, evidence_fault-from, checking-from, ending_status, left_of, not_refused, not_refused-alone, not_refused-evidence}
 use Rattle.gm_tool.proofs.program.run.Goals as goal
 use Rattle.gm_tool.proofs.program.run.Goals.{in-Ok-Some-List, in-Ok-Some-Check, in-Ok-None, in-Err}
 
@@ -20,21 +21,64 @@ pub returns-clause-listing : goal.returns-clause-listing
 returns-clause-listing g c = λ l asks afterwards.
     let files = g.F.Files.state c.args.files.now in
     let words = words_read (map string_bytes c.args.words.now) in
+    let Line : List ℕ → Type 0 = λ line. GetsLine line (g.E.Sink.got c.args.err.now) (g.E.Sink.got c.write_error_line.new.err) (g.E.Sink.faults c.args.err.now) (g.E.Sink.faults c.write_error_line.new.err) in
     elim c.match-read_words.branch [
       | in-Ok-Some-List w ↦
           let r = w.list_file-ending in
           let asked = sym (ap (option_map asked_by) (w.in-Ok-Some-List.field-0-is ∙ ap Some w.in-Ok-Some-List.field-0-0-is)) ∙ w.in-Ok-Some-List.ensures.asked in
-          listing-from files _ l w.bounds_for.result
-          (g.F.Files.state r.new.files).unread (g.F.Files.state c.match-read_words.files).unread
-          (g.O.Sink.got c.args.out.now) (g.O.Sink.got r.new.out) (g.O.Sink.got c.match-read_words.out) (finish_of r.result) c.finish_of.result
-          (same_listing words _ l asked asks) (ap₂ (λ (conflicts limit : ℕ). record { conflicts = conflicts; limit = limit }) w.bounds_for.ensures.conflicts w.bounds_for.ensures.limit)
-          (ap (λ f. (g.F.Files.state f).unread) w.files-is) (ap g.O.Sink.got w.out-is)
-          (c.finish_of.ensures ∙ ap finish_of w.ending-is) r.ensures.listing afterwards
+          listing-from files _ l w.bounds_for-bounds.result _ (g.F.Files.state r.new.files) (g.F.Files.state c.match-read_words.files)
+          (g.O.Sink.got c.args.out.now) (g.O.Sink.got r.new.out) (g.O.Sink.got c.match-read_words.out) _ Line (finish_of r.result) c.finish_of.result
+          (same_listing words _ l asked asks) (ap₂ (λ (conflicts limit : ℕ). record { conflicts = conflicts; limit = limit }) w.bounds_for-bounds.ensures.conflicts w.bounds_for-bounds.ensures.limit)
+          refl (ap g.F.Files.state w.files-is) (ap g.O.Sink.got w.out-is)
+          (c.finish_of.ensures ∙ ap finish_of w.ending-is) (λ line is. subst Line (ap line_of w.ending-is ∙ is) c.write_error_line.ensures) r.ensures.listing afterwards
       | in-Ok-Some-Check w ↦
           let asked = sym (ap (option_map asked_by) (w.in-Ok-Some-Check.field-0-is ∙ ap Some w.in-Ok-Some-Check.field-0-0-is)) ∙ w.in-Ok-Some-Check.ensures.asked in
           absurd (not_both words l _ (sym asks) (sym asked))
       | in-Ok-None w ↦ absurd (false≢true (subst (λ (f : Finish). IsAfterwards f.status) (c.finish_of.ensures ∙ ap finish_of w.ending-is) afterwards))
       | in-Err w ↦ absurd (false≢true (subst (λ (f : Finish). IsAfterwards f.status) (c.finish_of.ensures ∙ ap finish_of w.ending-is) afterwards))
+    ]
+
+-- what was begun of the evidence, where memory was wanting
+pub returns-clause-begun : goal.returns-clause-begun
+returns-clause-begun g c = λ l asks eight.
+    let files = g.F.Files.state c.args.files.now in
+    let words = words_read (map string_bytes c.args.words.now) in
+    elim c.match-read_words.branch [
+      | in-Ok-Some-List w ↦
+          let r = w.list_file-ending in
+          let asked = sym (ap (option_map asked_by) (w.in-Ok-Some-List.field-0-is ∙ ap Some w.in-Ok-Some-List.field-0-0-is)) ∙ w.in-Ok-Some-List.ensures.asked in
+          begun-from files _ l (g.F.Files.state r.new.files) (g.F.Files.state c.match-read_words.files) (finish_of r.result) c.finish_of.result
+          (same_listing words _ l asked asks) (ap g.F.Files.state w.files-is) (c.finish_of.ensures ∙ ap finish_of w.ending-is) r.ensures.memory eight
+      | in-Ok-Some-Check w ↦
+          let asked = sym (ap (option_map asked_by) (w.in-Ok-Some-Check.field-0-is ∙ ap Some w.in-Ok-Some-Check.field-0-0-is)) ∙ w.in-Ok-Some-Check.ensures.asked in
+          absurd (not_both words l _ (sym asks) (sym asked))
+      | in-Ok-None w ↦ inl (subst (λ f. ReadingLeaves files (g.F.Files.state f)) (sym w.files-is) (ReadingLeaves-nothing files))
+      | in-Err w ↦ inl (subst (λ f. ReadingLeaves files (g.F.Files.state f)) (sym w.files-is) (ReadingLeaves-nothing files))
+    ]
+
+-- a fault of writing has its cause and its line
+pub returns-clause-write_fault : goal.returns-clause-write_fault
+returns-clause-write_fault g c = λ seven.
+    let files = g.F.Files.state c.args.files.now in
+    let words = words_read (map string_bytes c.args.words.now) in
+    let Line : List ℕ → Type 0 = λ line. GetsLine line (g.E.Sink.got c.args.err.now) (g.E.Sink.got c.write_error_line.new.err) (g.E.Sink.faults c.args.err.now) (g.E.Sink.faults c.write_error_line.new.err) in
+    elim c.match-read_words.branch [
+      | in-Ok-Some-List w ↦
+          let r = w.list_file-ending in
+          let asked = sym (ap (option_map asked_by) (w.in-Ok-Some-List.field-0-is ∙ ap Some w.in-Ok-Some-List.field-0-0-is)) ∙ w.in-Ok-Some-List.ensures.asked in
+          let status = ap (λ (f : Finish). f.status) (c.finish_of.ensures ∙ ap finish_of w.ending-is) in
+          elim (r.ensures.write_fault (sym status ∙ seven)) [
+            | inl report ↦ inl (report_fault-from _ Line _ _ _ (ap g.O.Sink.faults w.out-is) (λ line is. subst Line (ap line_of w.ending-is ∙ is) c.write_error_line.ensures) report)
+            | inr evidence ↦
+                inr (evidence_fault-from _ _ _ Line _ _ _ _ _ _ (ap evidence_asked asked) (ap (λ f. (g.F.Files.state f).write_faults) w.files-is) (ap g.O.Sink.got w.out-is)
+                (λ line is. subst Line (ap line_of w.ending-is ∙ is) c.write_error_line.ensures) evidence)
+          ]
+      | in-Ok-Some-Check w ↦
+          let r = w.check_file-ending in
+          let status = ap (λ (f : Finish). f.status) (c.finish_of.ensures ∙ ap finish_of w.ending-is) in
+          inl (report_fault-from _ Line _ _ _ (ap g.O.Sink.faults w.out-is) (λ line is. subst Line (ap line_of w.ending-is ∙ is) c.write_error_line.ensures) (r.ensures.write_fault (sym status ∙ seven)))
+      | in-Ok-None w ↦ let status = ap (λ (f : Finish). f.status) (c.finish_of.ensures ∙ ap finish_of w.ending-is) in absurd (omega arith)
+      | in-Err w ↦ let status = ap (λ (f : Finish). f.status) (c.finish_of.ensures ∙ ap finish_of w.ending-is) in absurd (omega arith)
     ]
 
 -- what is told of the checked file and of the evidence
@@ -127,9 +171,9 @@ returns-clause-error_line g c = λ by_status.
           let asked = sym (ap (option_map asked_by) (w.in-Ok-Some-List.field-0-is ∙ ap Some w.in-Ok-Some-List.field-0-0-is)) ∙ w.in-Ok-Some-List.ensures.asked in
           let status = ap (λ (f : Finish). f.status) (c.finish_of.ensures ∙ ap finish_of w.ending-is) in
           ap line_of w.ending-is
-          ∙ r.ensures.line (λ five. false≢true (subst IsToldByStatus (status ∙ five) by_status))
+          ∙ r.ensures.line (λ five. false≢true (subst IsToldByStatus (status ∙ five) by_status)) (λ seven. false≢true (subst IsToldByStatus (status ∙ seven) by_status))
           ∙ ap (λ (b : Bounds). error_line b (finish_of r.result).status)
-          (ap₂ (λ (conflicts limit : ℕ). record { conflicts = conflicts; limit = limit }) w.bounds_for.ensures.conflicts w.bounds_for.ensures.limit ∙ ap bounds_of asked)
+          (ap₂ (λ (conflicts limit : ℕ). record { conflicts = conflicts; limit = limit }) w.bounds_for-bounds.ensures.conflicts w.bounds_for-bounds.ensures.limit ∙ ap bounds_of asked)
           ∙ ap (error_line (bounds_of words)) (sym status)
       | in-Ok-Some-Check w ↦
           let r = w.check_file-ending in
@@ -142,7 +186,7 @@ returns-clause-error_line g c = λ by_status.
 
 -- what is accepted is not refused
 pub returns-clause-accepted : goal.returns-clause-accepted
-returns-clause-accepted g c = λ no_read no_write tells.
+returns-clause-accepted g c = λ no_read no_evidence no_write tells.
     let files = g.F.Files.state c.args.files.now in
     elim c.match-read_words.branch [
       | in-Ok-Some-List w ↦
@@ -153,7 +197,11 @@ returns-clause-accepted g c = λ no_read no_write tells.
           (left_of (finish_of r.result).status (ending_status r.result) r.ensures.not_words
           (λ five. let h = r.ensures.refused five in not_refused-alone _ h.offence accepted h.first)
           (λ six. no_read (subst (λ f. Rose files.read_faults (g.F.Files.state f).read_faults) (sym w.files-is) (r.ensures.read_fault six)))
-          (λ seven. no_write (subst (λ o. Rose (g.O.Sink.faults c.args.out.now) (g.O.Sink.faults o)) (sym w.out-is) (r.ensures.write_fault seven)))
+          (λ seven.
+          elim (r.ensures.write_fault seven) [
+            | inl report ↦ no_write (subst (λ o. Rose (g.O.Sink.faults c.args.out.now) (g.O.Sink.faults o)) (sym w.out-is) report.rose)
+            | inr evidence ↦ no_evidence (subst (λ f. Rose files.write_faults (g.F.Files.state f).write_faults) (sym w.files-is) evidence.rose)
+          ])
           r.ensures.not_evidence)
       | in-Ok-Some-Check w ↦
           let r = w.check_file-ending in
@@ -164,7 +212,7 @@ returns-clause-accepted g c = λ no_read no_write tells.
           (λ two. false≢true (subst (IsAmong (0 ∷ 5 ∷ 6 ∷ 7 ∷ 8 ∷ 9 ∷ [])) two r.ensures.statuses))
           (λ five. let h = r.ensures.refused five in not_refused _ _ h.offence accepted h.first)
           (λ six. no_read (subst (λ f. Rose files.read_faults (g.F.Files.state f).read_faults) (sym w.files-is) (r.ensures.read_fault six)))
-          (λ seven. no_write (subst (λ o. Rose (g.O.Sink.faults c.args.out.now) (g.O.Sink.faults o)) (sym w.out-is) (r.ensures.write_fault seven)))
+          (λ seven. no_write (subst (λ o. Rose (g.O.Sink.faults c.args.out.now) (g.O.Sink.faults o)) (sym w.out-is) (r.ensures.write_fault seven).rose))
           (λ nine. let h = r.ensures.evidence_refused nine in not_refused-evidence files _ h.0 _ accepted h.1 h.2))
       | in-Ok-None w ↦
           let asked : None ≡ words_read (map string_bytes c.args.words.now) = sym (ap (option_map asked_by) w.in-Ok-None.field-0-is) ∙ w.in-Ok-None.ensures.asked in

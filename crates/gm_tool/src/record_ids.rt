@@ -1,0 +1,49 @@
+//! The ids in records.
+//!
+//! No id is above the greatest one that a text can hold: the type of a derivation keeps that. It is asked of each of them
+//! once, before its evidence is written.
+ghost use Rattle.std.specs.Prelude.{All, IfSome};
+ghost use Rattle.std.specs.List.{AllByRecursion};
+ghost use Rattle.sat_base.specs.Derivation.{HasIds};
+ghost use Rattle.evidence_text.specs.Readable.{HasRecordIds};
+
+use evidence_rec::{Proofs, Record};
+use map_core::Closing;
+
+/// That the ids of a closing are small enough. It does nothing: the facts are what its callers want.
+pub fn ids_fit(closing: &Closing)
+    ensures records { AllByRecursion HasRecordIds closing.now.records }
+    ensures proof { IfSome closing.now.proof HasIds }
+{
+    records_fit(closing.records.as_slice());
+    if let Some(proof) = &closing.proof {
+        let _ = proof.goal();
+    }
+}
+
+fn records_fit(records: &[Record])
+    ensures { AllByRecursion HasRecordIds records.now }
+{
+    for made in records {
+        record_fits(made);
+    }
+}
+
+fn record_fits(made: &Record)
+    ensures { HasRecordIds made.now }
+{
+    match made {
+        Record::Conflict { proof, .. } => {
+            let _ = proof.goal();
+        }
+        Record::Correction { proofs, .. } => proofs_fit(proofs),
+    }
+}
+
+fn proofs_fit(proofs: &Proofs)
+    ensures { AllByRecursion HasIds proofs.now }
+{
+    for at in 0..proofs.len() {
+        let _ = proofs.at(at).goal();
+    }
+}
