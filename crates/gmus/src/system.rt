@@ -2,7 +2,7 @@
 //!
 //! They tell nothing of their bytes, so what `run` says of bytes says nothing here: not that the listed problem is the one
 //! in the file, nor that its report was written, nor what evidence was read and checked. All else stays, and is said once more for this program alone.
-ghost use Rattle.std.specs.Prelude.{◌≡◌, ◌⊎◌, map, Some, None, MatchOption};
+ghost use Rattle.std.specs.Prelude.{◌≡◌, ◌≢◌, ◌⊎◌, map, Some, None, MatchOption};
 ghost use Rattle.std.specs.String.{string_bytes};
 ghost use Rattle.gm_base.specs.Problem.{Problem};
 ghost use Rattle.gm_ports.specs.Faults.{Rose};
@@ -10,7 +10,7 @@ ghost use Rattle.gm_words.specs.Reading.{Listing as Listed, Checking as Checked,
 ghost use Rattle.gm_tool.specs.Closed.{learned_in};
 ghost use Rattle.gm_tool.specs.Endings.{bare};
 ghost use Rattle.gm_tool.specs.Listing.{IsAfterwards, IsEnumerated};
-ghost use Rattle.gm_tool.specs.Run.{IsStatus, IsFaultless, IsBefore, bounds_for};
+ghost use Rattle.gm_tool.specs.Run.{IsStatus, IsFaultless, IsBefore, bounds_for, evidence_asked};
 
 use crate::files::RealFiles;
 use crate::sinks::StreamSink;
@@ -40,16 +40,18 @@ pub fn run_on_system<R: rt::Files + Threads + Wait + Sync, O: Print, E: Print>(
     ensures nothing_listed_in_check { (c : Checked) → words_read (map string_bytes words.now) ≡ Some (checking c) → result ≡ bare result.status }
     ensures bad_words { result.status ≡ 2 → words_read (map string_bytes words.now) ≡ None }
     ensures read_fault { result.status ≡ 6 → Rose files.old.read_faults files.new.read_faults }
-    ensures write_fault { result.status ≡ 7 → Rose out.old.faults out.new.faults }
+    ensures write_fault { result.status ≡ 7 → Rose out.old.faults out.new.faults
+        ⊎ ((evidence_asked (words_read (map string_bytes words.now)) ≢ None) × Rose files.old.write_faults files.new.write_faults) }
 
     // When a status has to come.
     ensures without_reading { words_read (map string_bytes words.now) ≡ None → (result.status ≡ 2) ⊎ (result.status ≡ 8) }
 
     // What stays.
     ensures untouched { words_read (map string_bytes words.now) ≡ None → files.new.read_faults ≡ files.old.read_faults }
-    ensures no_output { files.new.write_faults ≡ files.old.write_faults }
+    ensures no_output { evidence_asked (words_read (map string_bytes words.now)) ≡ None → files.new.write_faults ≡ files.old.write_faults }
     ensures no_read_fault_dropped { IsFaultless result.status → files.new.read_faults ≡ files.old.read_faults }
     ensures no_write_fault_dropped { IsFaultless result.status → out.new.faults ≡ out.old.faults }
+    ensures no_evidence_fault_dropped { IsFaultless result.status → files.new.write_faults ≡ files.old.write_faults }
 {
     run(rt, alloc, words, files, out, err)
 }
