@@ -7,7 +7,8 @@ ghost use Rattle.std.specs.List.{AllByRecursion};
 ghost use Rattle.sat_base.specs.Derivation.{HasIds};
 ghost use Rattle.evidence_text.specs.Readable.{HasRecordIds};
 
-use evidence_rec::{Proofs, Record};
+use evidence_rec::Record;
+use evidence_text::record_fits;
 use map_core::Closing;
 
 /// That the ids of a closing are small enough. It does nothing: the facts are what its callers want.
@@ -26,24 +27,5 @@ fn records_fit(records: &[Record])
 {
     for made in records {
         record_fits(made);
-    }
-}
-
-fn record_fits(made: &Record)
-    ensures { HasRecordIds made.now }
-{
-    match made {
-        Record::Conflict { proof, .. } => {
-            let _ = proof.goal();
-        }
-        Record::Correction { proofs, .. } => proofs_fit(proofs),
-    }
-}
-
-fn proofs_fit(proofs: &Proofs)
-    ensures { AllByRecursion HasIds proofs.now }
-{
-    for at in 0..proofs.len() {
-        let _ = proofs.at(at).goal();
     }
 }
