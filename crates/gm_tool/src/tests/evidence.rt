@@ -151,7 +151,7 @@ struct Fault<'a> {
 }
 
 // The evidence of the one correction of a problem without clauses.
-const LEAVE_NOTHING_OUT: &str = "p gmev 1 0 0 0\nm 0\nw 0 0\ne partial\n";
+const ONE_CORRECTION: &str = "p gmev 1 0 0 0\nm 0\nw 0 0\ne partial\n";
 
 const FAULTS: [Fault<'static>; 7] = [
     // The file is not opened.
@@ -208,7 +208,7 @@ const FAULTS: [Fault<'static>; 7] = [
         room: 1000,
         writes: &[6],
         out_writes: &[],
-        held: Some(LEAVE_NOTHING_OUT),
+        held: Some(ONE_CORRECTION),
         out: "",
         err: "gmus: write fault on evidence\n",
     },
@@ -218,7 +218,7 @@ const FAULTS: [Fault<'static>; 7] = [
         room: 1000,
         writes: &[],
         out_writes: &[2],
-        held: Some(LEAVE_NOTHING_OUT),
+        held: Some(ONE_CORRECTION),
         out: "p gmus 0\ns",
         err: "gmus: write fault on report\n",
     },
