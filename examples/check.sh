@@ -118,6 +118,32 @@ try 'a refused file with evidence' 5 'gmus: input refused: 5 GroupTooBig at line
 try 'no evidence' 6 'gmus: read fault on evidence' nothing check "$here/first.gcnf" lost
 try 'one name' 2 "$bad" nothing check "$here/first.gcnf"
 
+# Evidence that is asked for: whole and partial ones are accepted, by this program and by one that shares nothing with it.
+accepted() { # the problem, its evidence, and the report that both have to give
+    try "evidence of ${1##*/}" 0 '' "$3" check "$1" "$2"
+    if command -v python3 >/dev/null; then
+        python3 "$here/../tools/check_evidence.py" "$1" "$2" >out 2>err
+        status=$?
+        judge "evidence of ${1##*/}, by check_evidence.py" 0 '' "$3"
+    fi
+}
+for file in "$here"/*.gcnf pairs.gcnf; do
+    name=${file##*/}
+    report=${file%.gcnf}.report
+    try "$name with evidence" 0 '' "$report" list "$file" --evidence written
+    accepted "$file" written "$report"
+done
+try_partial 'a small budget with evidence' 3 'gmus: budget of 9 conflicts spent' pairs.report '' list --conflicts=9 pairs.gcnf --evidence=written
+accepted pairs.gcnf written partial
+try_partial 'a limit with evidence' 4 'gmus: limit of 5 records reached' "$here/laptop.report" 5 list "$here/laptop.gcnf" --limit 5 --evidence written
+accepted "$here/laptop.gcnf" written partial
+evidence_fault='gmus: write fault on evidence'
+try 'evidence into a folder' 7 "$evidence_fault" nothing list "$here/first.gcnf" --evidence .
+try 'evidence without a name' 7 "$evidence_fault" nothing list "$here/first.gcnf" --evidence=
+try 'evidence of a refused file' 5 'gmus: input refused: 5 GroupTooBig at line 2 byte 2' nothing list refused --evidence none
+[ -e none ] && differs 'evidence of a refused file' 'it was opened'
+[ ! -c /dev/full ] || try 'evidence on a full device' 7 "$evidence_fault" nothing list "$here/first.gcnf" --evidence /dev/full
+
 fault='gmus: write fault on report'
 if [ -c /dev/full ]; then
     "$program" list "$here/first.gcnf" >/dev/full 2>err </dev/null
