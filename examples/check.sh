@@ -192,6 +192,17 @@ else
 fi
 try 'the same with memory' 5 'gmus: input refused: 1 NoHeader at line 1 byte 8000001' nothing list long
 
+# Random problems, listed whole and partly with evidence that is checked.
+if command -v python3 >/dev/null; then
+    if python3 "$here/roundtrip.py" "$program" >out 2>err; then
+        echo "ok      random problems with evidence: $(cat out)"
+    else
+        differs 'random problems with evidence' "$(cat out err)"
+    fi
+else
+    echo 'skipped random problems: no python3'
+fi
+
 # Pipes whose reader is slow, takes few bytes, or goes away.
 if command -v python3 >/dev/null; then
     for reader in slow gone; do
