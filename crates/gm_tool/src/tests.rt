@@ -299,11 +299,12 @@ fn bounds_end_a_listing(rt: HostRuntime) -> Result<(), Fail> {
     Ok(())
 }
 
+// One clause is learnt under the group's selector, and one where the selector is decided as it was last held.
 #[test]
 fn budget_is_spent_to_the_last_clause(rt: HostRuntime) -> Result<(), Fail> {
-    let outcome = run_on(&rt, rt.alloc(), "list f --conflicts 1", plain(FOUR))?;
+    let outcome = run_on(&rt, rt.alloc(), "list f --conflicts 2", plain(FOUR))?;
     assert_eq!(rt; outcome.finish.status, 0);
-    assert_eq!(rt; outcome.finish.spent, 1);
+    assert_eq!(rt; outcome.finish.spent, 2);
     Ok(())
 }
 
