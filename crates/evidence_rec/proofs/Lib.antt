@@ -9,3 +9,4 @@ pub mod BlockLemmas
 pub mod Explored
 pub mod SetListLemmas
 pub mod HeldLemmas
+pub mod ColumnLemmas

@@ -7,3 +7,4 @@ pub mod Basis
 pub mod Rows
 pub mod Blocks
 pub mod Held
+pub mod Columns

@@ -21,6 +21,7 @@
 
 mod blocks;
 mod checking;
+mod columns;
 mod engine;
 pub mod laws;
 mod lines;

@@ -5,6 +5,7 @@ ghost use Rattle.evidence_rec.specs.Refusals.{at_line, witness_refusal, witnesse
 ghost use Rattle.evidence_rec.specs.Verdicts.{refusal_by};
 
 use crate::checking::Verdict;
+use crate::columns::witnesses_hold;
 use crate::lines::line_behind;
 use crate::lists::Witnesses;
 use gm_base::{Assign, GroupSet, Problem};
@@ -27,6 +28,8 @@ pub fn witness_verdict(problem: &Problem, set: &GroupSet, witness: &Assign, part
 }
 
 /// Whether the witnesses of a conflict, whose first line is `line`, satisfy what they have to, one for each group in order.
+///
+/// That all do is found for many of them at a time; which one is the first that doesn't, one by one.
 pub fn witnesses_verdict(
     alloc: Global,
     problem: &Problem,
@@ -38,6 +41,26 @@ pub fn witnesses_verdict(
     requires values { All (λ (w : List Bool). length w ≡ problem.now.vars) witnesses.now }
     ensures answer { IfOk result (λ v. refusal_by v ≡ witnesses_refusal problem.now set.now line set.now witnesses.now) }
     ensures is_set { IsGroupSet set.now }
+{
+    // This also tells that the set ascends.
+    let _groups = set.as_slice();
+    if witnesses_hold(alloc, problem, set, witnesses.as_slice())? {
+        return Ok(Verdict::Ok);
+    }
+    walk_verdict(alloc, problem, set, witnesses, line)
+}
+
+/// The same, one by one.
+fn walk_verdict(
+    alloc: Global,
+    problem: &Problem,
+    set: &GroupSet,
+    witnesses: &Witnesses,
+    line: u64,
+) -> Result<Verdict, AllocError>
+    requires shaped { length witnesses.now ≡ length set.now }
+    requires values { All (λ (w : List Bool). length w ≡ problem.now.vars) witnesses.now }
+    ensures { IfOk result (λ v. refusal_by v ≡ witnesses_refusal problem.now set.now line set.now witnesses.now) }
 {
     let groups = set.as_slice();
     for at in 0..groups.len() {

@@ -1,4 +1,4 @@
-use Rattle.std.proofs.Common.{◌≡◌, true, not, ◌∙◌, sym, ap, eqb}
+use Rattle.std.proofs.Common.{not, ◌∙◌, sym, ap, eqb}
 use Rattle.std.proofs.lemmas.Bool.{and_parts}
 use Rattle.gm_base.specs.Sets.{has}
 use Rattle.gm_base.proofs.SetLemmas.{has-without}

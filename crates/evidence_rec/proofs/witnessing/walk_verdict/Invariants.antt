@@ -1,6 +1,6 @@
 use Rattle.std.proofs.Common.{◌≡◌, ◌+◌, drop}
 use Rattle.evidence_rec.specs.Refusals.{witnesses_refusal}
-use Rattle.evidence_rec.proofs.witnessing.witnesses_verdict.Given as goal
+use Rattle.evidence_rec.proofs.witnessing.walk_verdict.Given as goal
 
 -- the witnesses so far are not refused, so that those from here on say it all
 abbrev pub invariant-loop-at : goal.invariant-loop-at
