@@ -40,7 +40,7 @@ fn read_witness_line(
     }
 }
 
-/// Of each group its witness.
+/// Of each group its witness, in just as much memory as they need.
 #[tactic(auto, unfolding(crate::specs::Reading::witnesses_at))]
 fn read_witnesses(
     alloc: Global,
@@ -51,15 +51,15 @@ fn read_witnesses(
     ensures witnesses { Gives (λ ws. ws) result (left_of lines.new) (witnesses_at vars set.now (left_of lines.old).at (left_of lines.old).lines) }
     ensures rest { OnOk result (rest_of lines.new ≡ rest_of lines.old) }
 {
-    let mut witnesses = Witnesses::new(alloc);
+    let mut witnesses = Vec::with_capacity(alloc, set.len())?;
     for g in set.as_slice() {
         let witness = read_witness_line(alloc, lines, vars, *g)?;
         witnesses.push(witness)?;
     }
-    Ok(witnesses)
+    Ok(Witnesses::from_vec(witnesses))
 }
 
-/// Of each group its refutation.
+/// Of each group its refutation, in just as much memory as they need.
 #[tactic(auto, unfolding(crate::specs::Reading::refutations_at))]
 fn read_refutations(
     alloc: Global,
@@ -71,12 +71,12 @@ fn read_refutations(
     ensures proofs { Gives (λ ds. ds) result (left_of lines.new) (refutations_at vars set.now (left_of lines.old).at (left_of lines.old).lines) }
     ensures rest { OnOk result (rest_of lines.new ≡ rest_of lines.old) }
 {
-    let mut proofs = Proofs::new(alloc);
+    let mut proofs = Vec::with_capacity(alloc, set.len())?;
     for g in set.as_slice() {
         let proof = read_proof(alloc, lines, vars, Goal::Refutes(*g))?;
         proofs.push(proof)?;
     }
-    Ok(proofs)
+    Ok(Proofs::from_vec(proofs))
 }
 
 /// The set of a record's first line.
