@@ -13,7 +13,7 @@ ghost use Rattle.sat_base.specs.Derivation.{clause_of};
 ghost use Rattle.sat_base.specs.Database.{known_of};
 ghost use Rattle.lrat_steps.specs.Log.{Forgot, step_of, steps_of, step_at, lits_of, hints_of, kind_of, learned_count, inputs_of, db_of};
 ghost use Rattle.lrat_steps.specs.Forgetting.{IsLiveLearned, live_count};
-ghost use Rattle.lrat_steps.specs.Cone.{inputs_up_to};
+ghost use Rattle.lrat_steps.specs.Cone.{inputs_up_to, IsBackward};
 ghost use Rattle.lrat_steps.specs.Honest.{IsHonest};
 ghost use Rattle.lrat_steps.specs.Trimmed.{IsTrimmed};
 
@@ -201,8 +201,31 @@ impl Log {
         requires within { goal ≤ length (steps_of self.now) }
         ensures { IfOk result (λ d. (lits : List ℤ) → clause_of (known_of (db_of self.now)) goal ≡ Some lits → IsTrimmed self.now lits d) }
     {
+        let goal = self.origin(goal);
         let cone = cone_of(self, alloc, goal)?;
         derivation_of(self, alloc, cone.as_slice(), goal)
+    }
+
+    // The step whose clause the step of an id only says again; the id itself where there is none. So a core that is an input
+    // needs no step.
+    fn origin(&self, id: u64) -> u64
+        requires backward { IsBackward (steps_of self.now) }
+        requires from_one { 0 < id }
+        requires within { id ≤ length (steps_of self.now) }
+        ensures from_one { 0 < result }
+        ensures within { result ≤ length (steps_of self.now) }
+        ensures same { lits_of (step_at self.now result) ≡ lits_of (step_at self.now id) }
+    {
+        let hints = self.hints(id);
+        if hints.len() != 1 {
+            return id;
+        }
+        let only = u64::from(hints[0]);
+        if self.lits(only) == self.lits(id) {
+            only
+        } else {
+            id
+        }
     }
 
     // How many steps there are, how many of them are inputs, and how many inputs there are up to a step: few enough for
