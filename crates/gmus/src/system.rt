@@ -1,14 +1,16 @@
 //! The program over the system's files and streams.
 //!
 //! They tell nothing of their bytes, so what `run` says of bytes says nothing here: not that the listed problem is the one
-//! in the file, nor that its report was written, nor what evidence was read and checked. All else stays, and is said once more for this program alone.
-ghost use Rattle.std.specs.Prelude.{◌≡◌, ◌≢◌, ◌⊎◌, map, Some, None, MatchOption};
+//! in the file, nor that its report or its evidence was written, nor what evidence was read and checked. All else stays, and
+//! is said once more for this program alone: of evidence, that an audit says yes to the text that is to be written.
+ghost use Rattle.std.specs.Prelude.{◌≡◌, ◌≢◌, ◌⊎◌, map, Some, None, MatchOption, IfSome};
 ghost use Rattle.std.specs.String.{string_bytes};
 ghost use Rattle.gm_base.specs.Problem.{Problem};
 ghost use Rattle.gm_ports.specs.Faults.{Rose};
 ghost use Rattle.gm_words.specs.Reading.{Listing as Listed, Checking as Checked, words_read, listing, checking};
 ghost use Rattle.gm_tool.specs.Closed.{learned_in};
 ghost use Rattle.gm_tool.specs.Endings.{bare};
+ghost use Rattle.gm_tool.specs.Evidence.{IsValid};
 ghost use Rattle.gm_tool.specs.Listing.{IsAfterwards, IsEnumerated};
 ghost use Rattle.gm_tool.specs.Run.{IsStatus, IsFaultless, IsBefore, bounds_for, evidence_asked};
 
@@ -35,7 +37,8 @@ pub fn run_on_system<R: rt::Files + Threads + Wait + Sync, O: Print, E: Print>(
 
     // What each status tells.
     ensures enumerated { (l : Listed) → words_read (map string_bytes words.now) ≡ Some (listing l) → IsAfterwards result.status →
-        (p : Problem) × MatchOption result.closing ⊥ (IsEnumerated p (bounds_for l) result.status result.logs) }
+        (p : Problem) × MatchOption result.closing ⊥ (IsEnumerated p (bounds_for l) result.status result.logs)
+        × IfSome l.evidence (λ _. MatchOption result.closing ⊥ (IsValid p)) }
     ensures nothing_listed { IsBefore result.status → result ≡ bare result.status }
     ensures nothing_listed_in_check { (c : Checked) → words_read (map string_bytes words.now) ≡ Some (checking c) → result ≡ bare result.status }
     ensures bad_words { result.status ≡ 2 → words_read (map string_bytes words.now) ≡ None }

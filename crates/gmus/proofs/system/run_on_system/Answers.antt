@@ -1,0 +1,9 @@
+use Rattle.gm_tool.specs.Run.{bounds_for}
+use Rattle.gmus.proofs.EvidenceLemmas.{enumerated-closing, valid-evidence}
+use Rattle.gmus.proofs.system.run_on_system.Goals as goal
+
+-- the files tell nothing of what was written, but that it is valid is told of the sets
+pub returns-clause-enumerated : goal.returns-clause-enumerated
+returns-clause-enumerated g c = λ l asked after.
+    let (p, of_file, listed, evidence) = c.run.ensures.listing l asked after in
+    (p, enumerated-closing p (bounds_for l) c.run.result.status c.run.result.logs _ _ c.run.result.closing listed, valid-evidence p l.evidence _ _ c.run.result evidence)
