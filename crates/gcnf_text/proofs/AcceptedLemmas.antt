@@ -66,7 +66,7 @@ clause_goes_on s c ks end is more few behind =
     (goes_on (table.Group s) (table.Close s) (Number (pos c.group)) _ end group
     (goes_on (table.Close s) (table.Literals s) CloseBrace _ end refl literals))
 
-literal_count-cons : (c : Clause) (cs : List Clause) → literal_count (c ∷ cs) ≡ length c.lits + literal_count cs
+pub literal_count-cons : (c : Clause) (cs : List Clause) → literal_count (c ∷ cs) ≡ length c.lits + literal_count cs
 literal_count-cons c cs = sum_by-cons (λ (d : Clause). length d.lits) c cs
 
 clauses_go_on : (s : Sofar) (cs : List Clause) (end : Place) → AllByRecursion (IsClause s.vars s.groups) cs

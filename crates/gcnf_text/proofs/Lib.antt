@@ -4,3 +4,5 @@ pub mod AcceptedLemmas
 pub mod SameLemmas
 pub mod TableLemmas
 pub mod StopLemmas
+pub mod PlainLemmas
+pub mod PlainLengthLemmas

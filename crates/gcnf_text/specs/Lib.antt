@@ -5,3 +5,4 @@ pub mod Read
 pub mod Steps
 pub mod Laws
 pub mod Rows
+pub mod Plain

@@ -1,13 +1,16 @@
 -- Worked texts, computed from the definitions. The wanted answers were worked out by hand.
-use Rattle.std.specs.Prelude.{◌≡◌, ℕ, [], codes, Option, Some, None}
+use Rattle.std.specs.Prelude.{◌≡◌, ℕ, [], ◌∷◌, codes, pos, negsuc, Option, Some, None}
 use Rattle.std.proofs.Common.{refl}
+use Rattle.std.specs.Fmt.{digits}
 use Rattle.token_text.specs.Tokens.{tokens_of}
-use Rattle.gm_base.specs.Rows.{four_clauses}
+use Rattle.gm_base.specs.Problem.{Problem}
+use Rattle.gm_base.specs.Rows.{four_clauses, in_group}
 use Rattle.gcnf_text.specs.declared.offence.Limit.TheVariants as limit
 use Rattle.gcnf_text.specs.declared.offence.Offence.{Offence}
 use Rattle.gcnf_text.specs.declared.reader.TheConstants.{MAX_BYTES}
 use Rattle.gcnf_text.specs.Grammar.{kinds_of, max_bytes, problem_kinds}
 use Rattle.gcnf_text.specs.Table.{first_offence, offence_at}
+use Rattle.gcnf_text.specs.Plain.{plain_text}
 
 -- an offence that is above no limit, by its number, line and byte
 abbrev pub at : ℕ → ℕ → ℕ → Option Offence
@@ -51,3 +54,14 @@ not_well_formed = (refl, refl)
 -- the constant that callers give as the limit of their reading is the limit of the definition
 pub byte_limit : MAX_BYTES ≡ max_bytes
 byte_limit = refl
+
+-- plain texts: an empty clause has a line, and repeated and clashing literals stay
+abbrev pub lines_of_all_kinds : Problem
+lines_of_all_kinds = record { vars = 12; groups = 10; clauses = in_group 10 [] ∷ in_group 0 (pos 12 ∷ negsuc 11 ∷ pos 12 ∷ []) ∷ [] }
+
+pub plain_texts :
+    (plain_text four_clauses ≡ codes "p gcnf 2 4 4\n{1} 1 0\n{2} -1 0\n{3} -1 2 0\n{4} -2 0\n")
+    × (plain_text (record { vars = 0; groups = 0; clauses = [] }) ≡ codes "p gcnf 0 0 0\n")
+    × (plain_text lines_of_all_kinds ≡ codes "p gcnf 12 2 10\n{10} 0\n{0} 12 -12 12 0\n")
+unfolding digits
+plain_texts = (refl, refl, refl)

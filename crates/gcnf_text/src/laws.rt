@@ -1,5 +1,6 @@
 //! Laws over the definitions alone. Each is the contract of a function that has no code.
 ghost use Rattle.gcnf_text.specs.Laws.{FaultlessIsRead, ReadsOne, FirstOffenceStops};
+ghost use Rattle.gcnf_text.specs.Plain.{PlainIsRead};
 
 /// A text without an offence is one of a problem.
 pub fn faultless_is_read()
@@ -14,4 +15,9 @@ pub fn reads_one_problem()
 /// The first offence of a text within the limit of bytes stands where no text of a problem goes on.
 pub fn first_offence_stops()
     ensures { FirstOffenceStops }
+{}
+
+/// The plain text of a problem within the limits is one of that problem, and within the limit of bytes.
+pub fn plain_text_is_read()
+    ensures { PlainIsRead }
 {}

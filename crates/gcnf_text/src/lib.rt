@@ -1,4 +1,4 @@
-//! The reader of problems in GCNF.
+//! The reader of problems in GCNF, and the writer of their plain text.
 //!
 //! GCNF is the group-oriented CNF of the MUS track of the SAT competition 2011, in this project's profile. A text has a
 //! header, and then clauses with their groups in braces:
@@ -21,20 +21,24 @@
 //! }
 //! ```
 //!
+//! [`write_gcnf`] writes the one plain text of a problem, which is read as that problem again.
+//!
 //! Start reading at `specs/Grammar.antt`, which says of which problem a text is, and at `specs/Table.antt`, which says
 //! what a text's first offence is; `specs/Read.antt` says what the three answers mean, `specs/Laws.antt` what a first
-//! offence is worth, and `specs/Rows.antt` has worked texts. What a token is, and what its place, is for the crate
-//! `token_text`.
+//! offence is worth, `specs/Plain.antt` which text is plain, and `specs/Rows.antt` has worked texts. What a token is, and
+//! what its place, is for the crate `token_text`.
 #![tactic(auto)]
 
 mod clause;
 mod header;
 pub mod laws;
 mod offence;
+mod plain;
 mod progress;
 mod reader;
 
 pub use offence::{Limit, Offence};
+pub use plain::write_gcnf;
 pub use reader::{MAX_BYTES, Read, read_gcnf};
 
 #[cfg(test)]

@@ -1,4 +1,4 @@
-use crate::{Limit, Offence, Read, read_gcnf};
+use crate::{Limit, Offence, Read, read_gcnf, write_gcnf};
 use gm_base::{Clause, Problem};
 use std::alloc::{AllocError, Global};
 use std::test::Fail;
@@ -390,5 +390,40 @@ fn numbers_may_have_many_digits(rt: HostRuntime) -> Result<(), Fail> {
     let nines = long_literal(rt.alloc(), b'9')?;
     let read = read_gcnf(rt.alloc(), nines.as_slice());
     assert!(rt; is_refused(&read, 4, None, 2, 5), "{read:?}");
+    Ok(())
+}
+
+#[test]
+fn plain_text_has_a_line_for_each_clause(rt: HostRuntime) -> Result<(), Fail> {
+    let rows: [(&[u8], &[u8]); 6] = [
+        (
+            b"c lenient\np gcnf 2 4 4\r\n{ 1 }1 0\r\n  c between\n{2} -1 0 {3} -1\n2 0\n{4} -2 0\n",
+            b"p gcnf 2 4 4\n{1} 1 0\n{2} -1 0\n{3} -1 2 0\n{4} -2 0\n",
+        ),
+        (b"p gcnf 0 0 0", b"p gcnf 0 0 0\n"),
+        (b"p gcnf 0 1 1 {1} 0", b"p gcnf 0 1 1\n{1} 0\n"),
+        (
+            b"p gcnf 3 1 0{0}1 1 -1 1 0",
+            b"p gcnf 3 1 0\n{0} 1 1 -1 1 0\n",
+        ),
+        (
+            b"p gcnf 02 1 01\n{001} 0000000000000000000002 -01 00\n",
+            b"p gcnf 2 1 1\n{1} 2 -1 0\n",
+        ),
+        (
+            b"p gcnf 65536 1 16384 {16384} 65536 -65536 1024 0",
+            b"p gcnf 65536 1 16384\n{16384} 65536 -65536 1024 0\n",
+        ),
+    ];
+    for (at, (text, wanted)) in rows.into_iter().enumerate() {
+        let Read::Problem(problem) = read_gcnf(rt.alloc(), text) else {
+            return Err(Fail::from("no problem"));
+        };
+        let written = write_gcnf(rt.alloc(), &problem)?;
+        assert!(rt;
+            written.as_slice() == wanted,
+            "row {at} is written otherwise"
+        );
+    }
     Ok(())
 }
