@@ -6,3 +6,4 @@ pub mod TableLemmas
 pub mod StopLemmas
 pub mod PlainLemmas
 pub mod PlainLengthLemmas
+pub mod ChainLemmas

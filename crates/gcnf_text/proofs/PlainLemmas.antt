@@ -1,5 +1,5 @@
 -- The tokens of a plain text, from its end to its start: each word is cut off where a blank, LF or a brace comes behind it.
-use Rattle.std.proofs.Common.{◌≡◌, ℕ, suc, ◌+◌, ◌^◌, ◌<◌, ◌≤◌, Bool, true, false, ◌&&◌, cond, eqb, List, [], ◌∷◌, ◌++◌, map, length, take, drop, min, refl, sym, ◌∙◌, ap, subst, arith, inr, Some, None, ℤ, pos, negsuc, codes, append_assoc}
+use Rattle.std.proofs.Common.{◌≡◌, ℕ, suc, ◌+◌, ◌^◌, ◌<◌, ◌≤◌, true, false, ◌&&◌, cond, eqb, List, [], ◌∷◌, ◌++◌, map, length, take, drop, min, refl, sym, ◌∙◌, ap, subst, arith, inr, Some, None, ℤ, pos, negsuc, codes, append_assoc}
 use Rattle.std.specs.Prelude.{nat_lt, neg_ℤ, Option, slice_get}
 use Rattle.std.specs.List.{AllByRecursion, flat_map, take_while}
 use Rattle.std.specs.Option.{option_map_or}
@@ -15,7 +15,7 @@ use Rattle.std.proofs.lemmas.List.Sums.{take_while-cons}
 use Rattle.std.proofs.lemmas.Option.{get_or_from_slice_get, slice_get_within}
 use Rattle.std.proofs.lemmas.Fmt.{decimal_is_IsNumeral, decimal_nonempty, digits_decimal, digits_value-decimal}
 use Rattle.std.proofs.lemmas.Str.Parse.{IsNumeralModel, digit_from_value, numerals_by_value, tells_all_ascii_digits}
-use Rattle.token_text.specs.Kinds.{Kind, Word, Number, OpenBrace, CloseBrace, greatest, kind_of, number_of, value_of}
+use Rattle.token_text.specs.Kinds.{Kind, Word, Number, OpenBrace, CloseBrace, greatest, kind_of, value_of}
 use Rattle.token_text.specs.Tokens.{is_brace, is_plain, is_space, token_bytes, tokens_of}
 use Rattle.token_text.specs.Left.{Left}
 use Rattle.token_text.specs.Cursor.{left_from}
@@ -28,7 +28,7 @@ use Rattle.gm_base.specs.declared.clause.Clause.{Clause}
 use Rattle.gm_base.specs.Problem.{Problem, IsClause, IsProblem}
 use Rattle.sat_base.specs.Literals.{AreLiterals, IsLiteral}
 use Rattle.gcnf_text.specs.Grammar.{IsWithinLimits, clause_kinds, kinds_of, problem_kinds}
-use Rattle.gcnf_text.specs.Plain.{clause_line, header_line, literals_text, plain_text}
+use Rattle.gcnf_text.specs.Plain.{clause_line, literals_text, plain_text}
 
 -- ---- what bytes spell
 

@@ -1,5 +1,5 @@
 -- How long a plain text can be: 7 bytes for a literal, 10 for a clause beside its literals, and 27 for the header.
-use Rattle.std.proofs.Common.{◌≡◌, ℕ, suc, ◌+◌, ◌*◌, ◌^◌, ◌<◌, ◌≤◌, List, [], ◌∷◌, ◌++◌, length, arith, ℤ, pos, negsuc, codes, ◌∙◌, ap}
+use Rattle.std.proofs.Common.{◌≡◌, ℕ, suc, ◌+◌, ◌*◌, ◌≤◌, List, [], ◌∷◌, ◌++◌, length, arith, ℤ, pos, negsuc, codes}
 use Rattle.std.specs.List.{AllByRecursion, flat_map}
 use Rattle.std.specs.Fmt.{decimal, signed_decimal}
 use Rattle.std.proofs.lemmas.Fmt.{length-decimal-le}
@@ -7,7 +7,7 @@ use Rattle.std.proofs.lemmas.List.{length-append}
 use Rattle.gm_base.specs.declared.clause.Clause.{Clause}
 use Rattle.gm_base.specs.Problem.{Problem, IsClause, IsProblem}
 use Rattle.sat_base.specs.Literals.{AreLiterals, IsLiteral}
-use Rattle.gcnf_text.specs.Grammar.{IsWithinLimits, Reads, literal_count, max_bytes, max_groups, max_vars}
+use Rattle.gcnf_text.specs.Grammar.{IsWithinLimits, literal_count, max_bytes, max_groups, max_vars}
 use Rattle.gcnf_text.specs.Plain.{PlainIsRead, clause_line, header_line, literals_text, plain_text}
 use Rattle.gcnf_text.proofs.AcceptedLemmas.{literal_count-cons}
 use Rattle.gcnf_text.proofs.PlainLemmas.{kinds_of-plain}

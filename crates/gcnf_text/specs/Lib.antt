@@ -6,3 +6,4 @@ pub mod Steps
 pub mod Laws
 pub mod Rows
 pub mod Plain
+pub mod Chain

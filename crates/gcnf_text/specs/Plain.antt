@@ -1,6 +1,6 @@
 -- The plain text of a problem (GCNF, the group-oriented CNF of the MUS track of the SAT competition 2011): the header and
 -- a line a clause, with single blanks, no comments, and no leading zeros. Each problem has one.
-use Rattle.std.specs.Prelude.{ℕ, ℤ, ◌≤◌, List, ◌++◌, length, codes}
+use Rattle.std.specs.Prelude.{ℕ, ℤ, List, ◌++◌, length, codes}
 use Rattle.std.specs.List.{flat_map}
 use Rattle.std.specs.Fmt.{decimal, signed_decimal}
 use Rattle.gm_base.specs.declared.clause.Clause.{Clause}

@@ -11,6 +11,7 @@ use Rattle.gcnf_text.specs.declared.reader.TheConstants.{MAX_BYTES}
 use Rattle.gcnf_text.specs.Grammar.{kinds_of, max_bytes, problem_kinds}
 use Rattle.gcnf_text.specs.Table.{first_offence, offence_at}
 use Rattle.gcnf_text.specs.Plain.{plain_text}
+use Rattle.gcnf_text.specs.Chain.{chain_widths, links_from, made_case, states}
 
 -- an offence that is above no limit, by its number, line and byte
 abbrev pub at : ℕ → ℕ → ℕ → Option Offence
@@ -65,3 +66,20 @@ pub plain_texts :
     × (plain_text lines_of_all_kinds ≡ codes "p gcnf 12 2 10\n{10} 0\n{0} 12 -12 12 0\n")
 unfolding digits
 plain_texts = (refl, refl, refl)
+
+-- the chain of seed 7 and size 12: the states, the widths, and the link of each group
+pub chain_of_seed_7 :
+    (states 13 7
+    ≡ 599 ∷ 44999 ∷ 32612 ∷ 21105 ∷ 10061 ∷ 33742 ∷ 40318 ∷ 9222 ∷ 36354 ∷ 39607 ∷ 21434 ∷ 34736 ∷ 49331 ∷ [])
+    × (chain_widths 7 12 ≡ 1 ∷ 1 ∷ 1 ∷ 2 ∷ 1 ∷ 1 ∷ 1 ∷ 2 ∷ 2 ∷ 1 ∷ 1 ∷ 1 ∷ 1 ∷ [])
+    × (links_from 0 (chain_widths 7 12) ≡ 0 ∷ 1 ∷ 2 ∷ 3 ∷ 3 ∷ 4 ∷ 5 ∷ 6 ∷ 7 ∷ 7 ∷ 8 ∷ 8 ∷ 9 ∷ 10 ∷ 11 ∷ 12 ∷ [])
+chain_of_seed_7 = (refl, refl, refl)
+
+-- no link of seed 0 and size 1 is wide; of seed 900 the first is
+pub small_chains :
+    (plain_text (made_case 0 1)
+    ≡ codes "p gcnf 5 8 2\n{1} 1 2 3 0\n{1} 1 2 -3 0\n{1} 1 -2 3 0\n{1} 1 -2 -3 0\n{2} -1 4 5 0\n{2} -1 4 -5 0\n{2} -1 -4 5 0\n{2} -1 -4 -5 0\n")
+    × (states 2 900 ≡ 2037 ∷ 21775 ∷ [])
+    × (chain_widths 900 1 ≡ 2 ∷ 1 ∷ [])
+unfolding digits
+small_chains = (refl, refl, refl)

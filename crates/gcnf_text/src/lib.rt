@@ -21,14 +21,16 @@
 //! }
 //! ```
 //!
-//! [`write_gcnf`] writes the one plain text of a problem, which is read as that problem again.
+//! [`write_gcnf`] writes the one plain text of a problem, which is read as that problem again, and [`make_case`] makes a
+//! problem of any size from a number, to try a listing on.
 //!
 //! Start reading at `specs/Grammar.antt`, which says of which problem a text is, and at `specs/Table.antt`, which says
 //! what a text's first offence is; `specs/Read.antt` says what the three answers mean, `specs/Laws.antt` what a first
-//! offence is worth, `specs/Plain.antt` which text is plain, and `specs/Rows.antt` has worked texts. What a token is, and
-//! what its place, is for the crate `token_text`.
+//! offence is worth, `specs/Plain.antt` which text is plain, `specs/Chain.antt` which problem a number makes, and
+//! `specs/Rows.antt` has worked texts. What a token is, and what its place, is for the crate `token_text`.
 #![tactic(auto)]
 
+mod chain;
 mod clause;
 mod header;
 pub mod laws;
@@ -37,6 +39,7 @@ mod plain;
 mod progress;
 mod reader;
 
+pub use chain::make_case;
 pub use offence::{Limit, Offence};
 pub use plain::write_gcnf;
 pub use reader::{MAX_BYTES, Read, read_gcnf};

@@ -1,4 +1,4 @@
-use crate::{Limit, Offence, Read, read_gcnf, write_gcnf};
+use crate::{Limit, Offence, Read, make_case, read_gcnf, write_gcnf};
 use gm_base::{Clause, Problem};
 use std::alloc::{AllocError, Global};
 use std::test::Fail;
@@ -425,5 +425,74 @@ fn plain_text_has_a_line_for_each_clause(rt: HostRuntime) -> Result<(), Fail> {
             "row {at} is written otherwise"
         );
     }
+    Ok(())
+}
+
+const TWO_GROUPS: &str = "p gcnf 5 8 2
+{1} 1 2 3 0
+{1} 1 2 -3 0
+{1} 1 -2 3 0
+{1} 1 -2 -3 0
+{2} -1 4 5 0
+{2} -1 4 -5 0
+{2} -1 -4 5 0
+{2} -1 -4 -5 0
+";
+
+const FIRST_LINK_IS_WIDE: &str = "p gcnf 7 12 3
+{1} 1 2 3 0
+{1} 1 2 -3 0
+{1} 1 -2 3 0
+{1} 1 -2 -3 0
+{2} 1 4 5 0
+{2} 1 4 -5 0
+{2} 1 -4 5 0
+{2} 1 -4 -5 0
+{3} -1 6 7 0
+{3} -1 6 -7 0
+{3} -1 -6 7 0
+{3} -1 -6 -7 0
+";
+
+// 65,537 and the greatest seed leave the remainder 0.
+#[test]
+fn small_chains_have_these_texts(rt: HostRuntime) -> Result<(), Fail> {
+    let rows = [
+        (0, TWO_GROUPS),
+        (65_537, TWO_GROUPS),
+        (u64::MAX, TWO_GROUPS),
+        (900, FIRST_LINK_IS_WIDE),
+    ];
+    for (seed, wanted) in rows {
+        let problem = make_case(rt.alloc(), seed, 1)?;
+        let text = write_gcnf(rt.alloc(), &problem)?;
+        assert!(rt;
+            text.as_slice() == wanted.as_bytes(),
+            "the chain of seed {seed}"
+        );
+    }
+    Ok(())
+}
+
+// Of seed 7 and size 12 the links 3, 7 and 8 are wide, so groups 4 and 5 are of link 3, and group 16 is of the last one.
+// The greatest size has the most links that are wide.
+#[test]
+fn wide_links_have_two_groups(rt: HostRuntime) -> Result<(), Fail> {
+    let problem = make_case(rt.alloc(), 7, 12)?;
+    assert_eq!(rt;
+        (problem.vars(), problem.groups(), problem.len()),
+        (44, 16, 64)
+    );
+    let rows: [(usize, Line); 5] = [
+        (3, (1, &[1, -13, -14])),
+        (12, (4, &[-3, 4, 19, 20])),
+        (17, (5, &[-3, 4, 21, -22])),
+        (20, (6, &[-4, 5, 23, 24])),
+        (62, (16, &[-12, -43, 44])),
+    ];
+    for (at, line) in rows {
+        assert!(rt; is_clause(problem.clause(at), &line), "clause {at}");
+    }
+    assert_eq!(rt; make_case(rt.alloc(), 1, 1000)?.groups(), 1009);
     Ok(())
 }

@@ -1,8 +1,4 @@
-use Rattle.std.proofs.Common.{rules, ◌∙◌, ap, sym, ◌+◌, ◌++◌, take, arith}
-use Rattle.std.specs.List.{flat_map}
-use Rattle.std.proofs.lemmas.List.{flat_map_more, take_more}
-use Rattle.std.proofs.lemmas.Option.{get_or_from_slice_get, slice_get_within}
-use Rattle.gcnf_text.specs.Plain.{clause_line}
+use Rattle.std.proofs.Common.{◌∙◌}
 use Rattle.gcnf_text.proofs.PlainLemmas.{clauses-further}
 use Rattle.gcnf_text.proofs.plain.push_clauses.Goals as goal
 
