@@ -1,6 +1,6 @@
 -- What an added clause changes in the list of the clauses, and that all of them are over the variables.
-use Rattle.std.proofs.Common.{suc, refl, sym, ap, ap₂, ◌∙◌, arith, subst, inl, inr, drop, ◌≡◌, ℕ, ℤ, ◌-◌, List, [], ◌∷◌, ◌++◌, length, map, get_or, All, slice_range}
-use Rattle.std.proofs.lemmas.List.{map_push}
+use Rattle.std.proofs.Common.{suc, refl, sym, ap, ap₂, ◌∙◌, arith, subst, inl, inr, drop, length-drop, ◌≡◌, ℕ, ℤ, ◌-◌, List, [], ◌∷◌, ◌++◌, length, map, get_or, All, slice_range}
+use Rattle.std.proofs.lemmas.List.{map_push, length-take-le}
 use Rattle.std.proofs.lemmas.List.Elements.{All-drop, All-take}
 use Rattle.std.specs.List.{AllByRecursion}
 use Rattle.sat_base.proofs.SpanLemmas.{range_before, range_at_end}
@@ -48,3 +48,9 @@ pub over_all : (vars : ℕ) (lits : List ℤ) (records : List ClauseRecord) → 
 over_all vars lits [] h c i = absurd i
 over_all vars lits (r ∷ records) h c (inl same) = subst (λ (d : StoredClause). AreLiterals vars d.lits) (sym same) (over_cut vars lits r.start r.end h)
 over_all vars lits (r ∷ records) h c (inr later) = over_all vars lits records h c later
+
+-- what a record within the literals cuts is as long as it says
+pub long_cut : (vars last : ℕ) (ls : List ℤ) (r : ClauseRecord) → IsWithin vars (length ls) last r → length (cut_by ls r).lits ≡ r.end - r.start
+long_cut vars last ls r w =
+    let within = w.within in
+    length-take-le (r.end - r.start) (drop r.start ls) (omega (arith, within, length-drop r.start ls))

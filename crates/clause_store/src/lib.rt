@@ -13,6 +13,7 @@
 #![tactic(auto)]
 
 mod links;
+mod positions;
 mod store;
 #[cfg(test)]
 mod tests;

@@ -35,8 +35,8 @@ pub(crate) struct ClauseRecord {
     pub next: [u32; 2],
     pub start: u32,
     pub end: u32,
-    /// Of a clause of three literals: their rows in one number, from which two of them tell the third. Of a longer one it is
-    /// kept for the place at which a search for a literal is to begin.
+    /// Of a clause of three literals: their rows in one number, from which two of them tell the third. Of another one: the
+    /// place at which a search for a literal is to begin.
     pub third: u32,
     pub live: bool,
     pub is_watched: bool,

@@ -130,3 +130,22 @@ fn two_literals_of_three_tell_the_third(rt: HostRuntime) -> Result<(), AllocErro
     assert!(rt; store.third(four, a, b).is_none());
     Ok(())
 }
+
+#[test]
+fn position_is_the_one_that_was_set(rt: HostRuntime) -> Result<(), AllocError> {
+    let alloc = rt.alloc();
+    let mut store = Store::new(alloc, 5)?;
+    let (a, b, c, d) = (Lit::new(1), Lit::new(-2), Lit::new(3), Lit::new(5));
+    let three = store.add(&[a, b, c], true)?;
+    let four = store.add(&[a, b, c, d], true)?;
+    assert!(rt; store.position(four) == 0);
+    // the place set, and the one that is read: none beyond the end
+    let rows: [(usize, usize); 4] = [(3, 3), (1, 1), (4, 4), (9, 4)];
+    for (place, read) in rows {
+        store.set_position(four, place);
+        assert!(rt; store.position(four) == read, "{place}");
+    }
+    store.set_position(three, 2);
+    assert!(rt; store.third(three, a, b) == Some(c));
+    Ok(())
+}

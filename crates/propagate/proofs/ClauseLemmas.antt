@@ -38,16 +38,16 @@ pair_false t (x ∷ y ∷ []) a b two i j ne f = λ l k. elim (of_two x y a b l 
 pair_false t (x ∷ y ∷ z ∷ zs) a b two i j ne f = absurd (omega (arith, two))
 
 -- the third literal of a clause can be watched where it is neither false nor the other one
-pub third_found : (vars : ℕ) (t c : List ℤ) (a b third : ℤ) (o : Option ℤ) → IsLeft c a b third → IsLiteral vars third
-    → IfSome o (λ lit. (lit ≡ third) × (third ≢ b) × (¬ In (neg_ℤ third) t)) → IfSome o (CanWatch vars t c b)
+pub third_found : (vars : ℕ) (t c : List ℤ) (a b third : ℤ) (o : Option (ℤ × ℕ)) → IsLeft c a b third → IsLiteral vars third
+    → IfSome o (λ at. (at.0 ≡ third) × (third ≢ b) × (¬ In (neg_ℤ third) t)) → IfSome o (λ at. CanWatch vars t c b at.0)
 third_found vars t c a b third None left literal h = tt
-third_found vars t c a b third (Some lit) left literal h =
+third_found vars t c a b third (Some at) left literal h =
     subst (CanWatch vars t c b) (sym h.0) (record { stands = left.stands; differs = h.1; not_false = h.2; literal = literal })
 
 -- and where it is one of these, all but the other one are false
-pub third_false : (t c : List ℤ) (a b third : ℤ) (o : Option ℤ) → IsLeft c a b third → In (neg_ℤ a) t
+pub third_false : (t c : List ℤ) (a b third : ℤ) (o : Option (ℤ × ℕ)) → IsLeft c a b third → In (neg_ℤ a) t
     → IfNone o ((third ≡ b) ⊎ In (neg_ℤ third) t) → IfNone o (AllFalseBut t c b)
-third_false t c a b third (Some lit) left f h = tt
+third_false t c a b third (Some at) left f h = tt
 third_false t c a b third None left f h = λ l i. elim (left.others l i) [
   | inl is_a ↦ inr (subst (λ (m : ℤ). In (neg_ℤ m) t) (sym is_a) f)
   | inr other ↦ elim other [
@@ -56,7 +56,7 @@ third_false t c a b third None left f h = λ l i. elim (left.others l i) [
   ]
 ]
 
-pub but_of : (t c d : List ℤ) (b : ℤ) (o : Option ℤ) → c ≡ d → IfNone o (AllFalseBut t c b) → IfNone o (AllFalseBut t d b)
+pub but_of : (t c d : List ℤ) (b : ℤ) (o : Option (ℤ × ℕ)) → c ≡ d → IfNone o (AllFalseBut t c b) → IfNone o (AllFalseBut t d b)
 but_of t c d b o same h = subst (λ (ls : List ℤ). IfNone o (AllFalseBut t ls b)) same h
 
 -- one literal more that is false, or the one that is left out
@@ -83,3 +83,9 @@ value_is_none t l (Some false) e f h = absurd (false≢true (sym f))
 -- where the one that was left out is false, all are
 pub but_false : (t c : List ℤ) (other : ℤ) → AllFalseBut t c other → In (neg_ℤ other) t → AllFalse t c
 but_false t c other all f = λ l i. elim (all l i) [ inl e ↦ subst (λ (m : ℤ). In (neg_ℤ m) t) (sym e) f | inr g ↦ g ]
+
+-- once around from a place
+pub but_around : (t c : List ℤ) (from : ℕ) (other : ℤ) (o : Option (ℤ × ℕ)) → (AllFalseBut t (take from c) other → AllFalseBut t (take (length c) c) other)
+    → IfNone o (AllFalseBut t (take 0 c) other → AllFalseBut t (take from c) other) → IfNone o (AllFalseBut t c other)
+but_around t c from other (Some at) behind before = tt
+but_around t c from other None behind before = but_all t c (length c) other (omega arith) (behind (before (λ l i. absurd i)))

@@ -21,7 +21,7 @@ pub record CanWatch (vars : ℕ) (trues clause : List ℤ) (other to : ℤ) : Ty
 -- what a look at a clause tells, of which one watched literal is false and the other is this one
 abbrev pub Visits : ℕ → List ℤ → List ℤ → ℤ → Finding → Type 0
 Visits vars trues clause other finding.Satisfied = In other trues
-Visits vars trues clause other (finding.Moved to) = CanWatch vars trues clause other to
+Visits vars trues clause other (finding.Moved to position) = CanWatch vars trues clause other to
 Visits vars trues clause other finding.Forcing = IsUnset trues other × AllFalseBut trues clause other
 Visits vars trues clause other finding.Falsified = AllFalse trues clause
 

@@ -128,10 +128,11 @@ fn step(
             before: Some(id),
             at,
         }),
-        Finding::Moved(to) => {
+        Finding::Moved(to, position) => {
             unlink(store, falsified, before, at);
             append(store, id, place, to);
             store.set_watched(id, Some(paired(place, to, other)));
+            store.set_position(id, position);
             Some(Cursor { before, at })
         }
         Finding::Forcing => {

@@ -75,6 +75,15 @@ impl Bench {
         self.trail.decide(lit);
         self.propagate()
     }
+
+    // Takes back all levels.
+    fn back(&mut self)
+        requires { IsKept self.old.store self.old.trail }
+        ensures kept { IsKept self.new.store self.new.trail }
+        ensures vars { self.new.store.vars ≡ self.old.store.vars }
+    {
+        self.trail.back_to(0);
+    }
 }
 
 #[test]
@@ -139,6 +148,26 @@ fn watch_moves_to_the_end_of_another_list(rt: HostRuntime) -> Result<(), AllocEr
     assert!(rt; bench.store.tail(Lit::new(3)) == Some(2));
     assert!(rt; bench.decide(Lit::new(-2)) == 0);
     assert!(rt; bench.trail.value(Lit::new(3)) == Some(true));
+    Ok(())
+}
+
+#[test]
+fn search_begins_where_the_last_one_ended(rt: HostRuntime) -> Result<(), AllocError> {
+    let mut bench = Bench::new(rt.alloc(), 5)?;
+    bench.add(&[
+        Lit::new(1),
+        Lit::new(2),
+        Lit::new(3),
+        Lit::new(4),
+        Lit::new(5),
+    ])?;
+    // the variable whose literal is made false, and that of the literal which is watched in its place
+    let rows: [(i32, i32); 4] = [(1, 3), (3, 4), (4, 5), (5, 1)];
+    for (variable, watched) in rows {
+        assert!(rt; bench.decide(literal(-variable)) == 0, "{variable}");
+        assert!(rt; bench.store.head(literal(watched)) == Some(1), "{variable}");
+        bench.back();
+    }
     Ok(())
 }
 

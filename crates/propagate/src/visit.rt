@@ -1,5 +1,5 @@
 //! A look at one clause, of which one watched literal is false.
-ghost use Rattle.std.specs.Prelude.{◌≡◌, ◌≢◌, ◌⊎◌, true, false, neg_ℤ, IfSome, IfNone};
+ghost use Rattle.std.specs.Prelude.{◌≡◌, ◌≢◌, ◌⊎◌, ◌≤◌, true, false, neg_ℤ, take, length, IfSome, IfNone};
 ghost use Rattle.sat_base.specs.Members.{In};
 ghost use Rattle.sat_base.specs.Literals.{AreLiterals, IsLiteral};
 ghost use Rattle.sat_base.specs.Units.{AllFalseBut};
@@ -16,8 +16,8 @@ use trail_book::Trail;
 pub enum Finding {
     /// The other watched literal is true.
     Satisfied,
-    /// It can watch this literal instead of the false one.
-    Moved(Lit),
+    /// It can watch this literal instead of the false one. The search for it ended at this place.
+    Moved(Lit, usize),
     /// It forces the other watched literal.
     Forcing,
     /// All its literals are false.
@@ -36,8 +36,8 @@ pub fn visit(store: &Store, trail: &Trail, id: u64, falsified: Lit, other: Lit) 
     if value == Some(true) {
         return Finding::Satisfied;
     }
-    if let Some(lit) = replacement(store, trail, id, falsified, other) {
-        return Finding::Moved(lit);
+    if let Some((lit, place)) = replacement(store, trail, id, falsified, other) {
+        return Finding::Moved(lit, place);
     }
     if value == Some(false) {
         Finding::Falsified
@@ -46,45 +46,95 @@ pub fn visit(store: &Store, trail: &Trail, id: u64, falsified: Lit, other: Lit) 
     }
 }
 
-// A literal that is neither false nor `other`. Of a clause of three literals it is the third one, or none.
-fn replacement(store: &Store, trail: &Trail, id: u64, falsified: Lit, other: Lit) -> Option<Lit>
+// A literal that is neither false nor `other`, and a place for the next search. Of a clause of three literals it is the
+// third one, or none.
+fn replacement(
+    store: &Store,
+    trail: &Trail,
+    id: u64,
+    falsified: Lit,
+    other: Lit,
+) -> Option<(Lit, usize)>
     requires vars { store.now.vars ≡ trail.now.vars }
     requires id { IsId store.now.clauses id }
     requires watch { IsFalseWatch (trues trail.now.entries) (clause_at store.now.clauses id).lits falsified other }
-    ensures found { IfSome result (CanWatch trail.now.vars (trues trail.now.entries) (clause_at store.now.clauses id).lits other) }
+    ensures found { IfSome result (λ at. CanWatch trail.now.vars (trues trail.now.entries) (clause_at store.now.clauses id).lits other at.0) }
     ensures none { IfNone result (AllFalseBut (trues trail.now.entries) (clause_at store.now.clauses id).lits other) }
 {
     let _vars = store.vars(); // The literals of its clauses are over the variables.
     match store.third(id, falsified, other) {
         Some(third) => third_open(trail, third, other),
-        None => among(store.lits(id), trail, falsified, other),
+        None => among(store.lits(id), trail, store.position(id), falsified, other),
     }
 }
 
-fn third_open(trail: &Trail, third: Lit, other: Lit) -> Option<Lit>
+fn third_open(trail: &Trail, third: Lit, other: Lit) -> Option<(Lit, usize)>
     requires { IsLiteral trail.now.vars third }
-    ensures found { IfSome result (λ lit. (lit ≡ third) × (third ≢ other) × (¬ In (neg_ℤ third) (trues trail.now.entries))) }
+    ensures found { IfSome result (λ at. (at.0 ≡ third) × (third ≢ other) × (¬ In (neg_ℤ third) (trues trail.now.entries))) }
     ensures none { IfNone result ((third ≡ other) ⊎ In (neg_ℤ third) (trues trail.now.entries)) }
 {
     if may_watch(trail, third, other) {
-        Some(third)
+        Some((third, 0))
     } else {
         None
     }
 }
 
 // The same of a clause of any length. A clause of two literals has none, and its literals are not read.
-fn among(clause: &[Lit], trail: &Trail, falsified: Lit, other: Lit) -> Option<Lit>
+fn among(
+    clause: &[Lit],
+    trail: &Trail,
+    from: usize,
+    falsified: Lit,
+    other: Lit,
+) -> Option<(Lit, usize)>
     requires literals { AreLiterals trail.now.vars clause.now }
+    requires from { from ≤ length clause.now }
     requires watch { IsFalseWatch (trues trail.now.entries) clause.now falsified other }
-    ensures found { IfSome result (CanWatch trail.now.vars (trues trail.now.entries) clause.now other) }
+    ensures found { IfSome result (λ at. CanWatch trail.now.vars (trues trail.now.entries) clause.now other at.0) }
     ensures none { IfNone result (AllFalseBut (trues trail.now.entries) clause.now other) }
 {
     if clause.len() == 2 {
         None
     } else {
-        other_open(trail, clause, other)
+        around(clause, trail, from, other)
     }
+}
+
+// Searches from a place on, and then from the first place up to it.
+fn around(clause: &[Lit], trail: &Trail, from: usize, other: Lit) -> Option<(Lit, usize)>
+    requires literals { AreLiterals trail.now.vars clause.now }
+    requires from { from ≤ length clause.now }
+    ensures found { IfSome result (λ at. CanWatch trail.now.vars (trues trail.now.entries) clause.now other at.0) }
+    ensures none { IfNone result (AllFalseBut (trues trail.now.entries) clause.now other) }
+{
+    match open_between(clause, trail, from, clause.len(), other) {
+        Some(at) => Some(at),
+        None => open_between(clause, trail, 0, from, other),
+    }
+}
+
+// A literal from one place on and before another that is neither false nor `other`, and its place.
+fn open_between(
+    clause: &[Lit],
+    trail: &Trail,
+    from: usize,
+    to: usize,
+    other: Lit,
+) -> Option<(Lit, usize)>
+    requires literals { AreLiterals trail.now.vars clause.now }
+    requires from { from ≤ to }
+    requires to { to ≤ length clause.now }
+    ensures found { IfSome result (λ at. CanWatch trail.now.vars (trues trail.now.entries) clause.now other at.0) }
+    ensures none { IfNone result (AllFalseBut (trues trail.now.entries) (take from clause.now) other → AllFalseBut (trues trail.now.entries) (take to clause.now) other) }
+{
+    for place in from..to {
+        let lit = clause[place];
+        if may_watch(trail, lit, other) {
+            return Some((lit, place));
+        }
+    }
+    None
 }
 
 /// The first literal of the clause that is neither false nor `other`.

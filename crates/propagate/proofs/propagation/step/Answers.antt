@@ -1,9 +1,11 @@
 use Rattle.std.proofs.Common.{suc, refl, sym, subst, inl, inr, List}
 use Rattle.sat_base.specs.Members.{In}
+use Rattle.clause_store.specs.Clauses.{Clauses}
 use Rattle.clause_store.specs.Links.{link_of}
 use Rattle.trail_book.specs.Trail.{trues}
 use Rattle.trail_book.specs.declared.entry.Entry.{Entry}
 use Rattle.propagate.specs.Propagation.{Grows}
+use Rattle.propagate.specs.Walk.{IsWalk}
 use Rattle.propagate.proofs.GrowsLemmas.{grows-refl}
 use Rattle.propagate.proofs.WalkLemmas.{at_id, at_live, at_watched, watch_pair, walk_assign}
 use Rattle.propagate.proofs.StepLemmas.{reason_at, falsified_at, before_ok, node_at, stays, moved, moves_away, tail_after}
@@ -65,10 +67,11 @@ pub returns-in-Moved-clause-walk : goal.returns-in-Moved-clause-walk
 returns-in-Moved-clause-walk c =
     let r = c.requires in
     let e = c.place_of-place.ensures in
-    moved c.args.store.now c.unlink.new.store c.append.new.store c.set_watched.new.self c.args.trail.now c.args.falsified c.in-Moved.to c.place_of-place.result.1 (link_of c.args.before) c.args.id c.args.left
+    subst (λ (s : Clauses). IsWalk s c.args.trail.now c.args.falsified (link_of c.args.before) (link_of c.next-at.result) c.args.left) (sym c.set_position.ensures)
+    (moved c.args.store.now c.unlink.new.store c.append.new.store c.set_watched.new.self c.args.trail.now c.args.falsified c.in-Moved.to c.place_of-place.result.1 (link_of c.args.before) c.args.id c.args.left
     c.place_of-place.result.0 (link_of c.next-at.result) c.paired.result r.walk r.from_one e.place e.first e.second e.other c.vars-vars.ensures.trail c.in-Moved.ensures c.next-at.ensures.next
     c.unlink.ensures.unlinks c.unlink.ensures.rest c.append.ensures.appends c.append.ensures.rest c.set_watched.ensures.set c.set_watched.ensures.others c.set_watched.ensures.rest
-    c.paired.ensures.first c.paired.ensures.second
+    c.paired.ensures.first c.paired.ensures.second)
 
 pub returns-in-Forcing-clause-walk : goal.returns-in-Forcing-clause-walk
 returns-in-Forcing-clause-walk c =
