@@ -1,23 +1,16 @@
 -- What a learnt clause has to show to be watched.
-use Rattle.std.proofs.Common.{◌≡◌, ◌≢◌, ◌⊎◌, ℕ, zero, suc, ◌+◌, ◌-◌, ◌*◌, ◌/◌, ◌%◌, ◌<◌, ◌≤◌, List, [], ◌∷◌, ◌++◌, Option, true, false, length, Some, None, refl, sym, ◌∙◌, ap, subst, inl, inr, arith}
+use Rattle.std.proofs.Common.{◌≡◌, ◌≢◌, ℕ, zero, suc, ◌+◌, ◌-◌, ◌<◌, ◌≤◌, List, ◌∷◌, length, Some, None, refl, sym, ◌∙◌, ap, subst, inl, inr, arith}
 use Rattle.std.specs.Prelude.{ℤ, neg_ℤ, pos, negsuc}
 use Rattle.sat_base.specs.Literals.{var_of}
 use Rattle.sat_base.specs.Units.{IsUnset, HasValue, AllFalseBut}
 use Rattle.sat_base.specs.Database.{StoredClause}
-use Rattle.clause_store.specs.Clauses.{Clauses, clause_at, IsId}
-use Rattle.clause_store.specs.Links.{KeepsLinks, watched_at, head_of, tail_of, literal_by}
-use Rattle.propagate.specs.Watches.{IsKeptBut, IsKept}
-use Rattle.propagate.specs.Entrance.{IsUnwatched}
-use Rattle.propagate.proofs.KeptLemmas.{clause_new, kept_added, kept_settled}
-use Rattle.propagate.proofs.WalkLemmas.{not_zero}
 use Rattle.learn_step.specs.Learnt.{IsLearnt}
 use Rattle.cdcl_core.specs.Entrance.{IsLatest, IsAsserting}
 use Rattle.learn_step.proofs.PlaceLemmas.{false_kept, false_open, place_false, top_oldest_all}
-use Rattle.std.proofs.lemmas.Bool.{cases_lt, false≢true}
-use Rattle.std.proofs.lemmas.List.{length_push}
+use Rattle.std.proofs.lemmas.Bool.{cases_lt}
 use Rattle.sat_base.specs.Members.{In}
 use Rattle.trail_book.specs.declared.entry.Entry.{Entry}
-use Rattle.trail_book.specs.Trail.{Trail, trues, top, keep, oldest, IsTrail, IsPlace}
+use Rattle.trail_book.specs.Trail.{trues, top, keep, oldest, IsTrail, IsPlace}
 use Rattle.trail_book.proofs.TrailLemmas.{keep-whole, keep-skip, lit-keep_more, top-keep_exact}
 use Rattle.trail_book.proofs.PlaceLemmas.{oldest_skip}
 use Rattle.propagate.specs.Watches.{IsGuarded}

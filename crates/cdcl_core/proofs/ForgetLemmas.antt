@@ -1,25 +1,23 @@
 -- What forgetting a clause that forces nothing keeps.
-use Rattle.std.proofs.Common.{◌≡◌, ◌≢◌, ℕ, zero, suc, ◌+◌, ◌-◌, ◌<◌, ◌≤◌, Bool, true, false, List, [], ◌∷◌, ◌++◌, length, get_or, set, take, Option, Some, None, refl, sym, ◌∙◌, ap, subst, inl, inr, arith}
+use Rattle.std.proofs.Common.{◌≡◌, ◌≢◌, ℕ, zero, suc, ◌+◌, ◌-◌, ◌<◌, ◌≤◌, true, false, List, [], ◌∷◌, ◌++◌, length, get_or, set, take, Option, Some, None, refl, sym, ◌∙◌, ap, subst, inl, inr, arith}
 use Rattle.std.specs.Prelude.{ℤ}
 use Rattle.sat_base.specs.Members.{In}
 use Rattle.sat_base.specs.Literals.{AreLiterals}
 use Rattle.sat_base.specs.Derivation.{clause_of}
-use Rattle.sat_base.specs.Database.{StoredClause, known_of, IsLive, AreOver}
+use Rattle.sat_base.specs.Database.{StoredClause, IsLive}
 use Rattle.sat_base.specs.Forgotten.{not_live, named, forgotten}
 use Rattle.std.proofs.lemmas.List.{take_all}
 use Rattle.sat_base.proofs.DatabaseLemmas.{In-take_more}
-use Rattle.sat_base.proofs.ForgottenLemmas.{length-forgotten, known-forgotten, live-before, clause-before}
-use Rattle.clause_store.specs.Clauses.{Clauses, IsId, clause_at}
+use Rattle.sat_base.proofs.ForgottenLemmas.{known-forgotten, live-before, clause-before}
+use Rattle.clause_store.specs.Clauses.{IsId, clause_at}
 use Rattle.trail_book.specs.declared.entry.Entry.{Entry}
 use Rattle.trail_book.specs.Trail.{trues}
 use Rattle.learn_step.specs.Reasons.{HasUnit}
 use Rattle.lrat_steps.specs.declared.step.StepKind.TheVariants as step_kind
-use Rattle.lrat_steps.specs.Log.{LogStep, Forgot, kind_of, steps_of, step_at, db_of, learned_count}
-use Rattle.lrat_steps.specs.Forgetting.{IsLiveLearned, IsForgettable, MayForget, live_count}
+use Rattle.lrat_steps.specs.Log.{LogStep, Forgot, kind_of, steps_of, step_at, learned_count}
+use Rattle.lrat_steps.specs.Forgetting.{IsForgettable, MayForget, live_count}
 use Rattle.lrat_steps.specs.Honest.{IsHonest}
 use Rattle.lrat_steps.proofs.LogLemmas.{db_len, db_of-push, inputs-push_forgot, learned-push, honest-forgot}
-use Rattle.propagate.specs.Rebuild.{IsStale}
-use Rattle.propagate.proofs.RebuildLemmas.{stale_forgotten}
 use Rattle.cdcl_core.specs.Answers.{IsHonestlyPaid}
 use Rattle.cdcl_core.specs.State.{IsSoundEntry, IsSound, IsRecorded, IsRoot}
 

@@ -1,5 +1,5 @@
 -- How a learnt clause comes to be watched.
-use Rattle.std.specs.Prelude.{◌≡◌, ◌≢◌, ◌<◌, ℕ, List, ℤ, neg_ℤ}
+use Rattle.std.specs.Prelude.{◌≢◌, ◌<◌, List, ℤ, neg_ℤ}
 use Rattle.sat_base.specs.Members.{In}
 use Rattle.sat_base.specs.Units.{AllFalseBut, IsUnset}
 use Rattle.trail_book.specs.declared.entry.Entry.{Entry}

@@ -19,6 +19,7 @@ use crate::solved::Solved;
 use crate::steps::{add_step, log_core};
 use learn_step::{Origin, learn};
 use lrat_steps::LogStep;
+use propagate::back_to;
 use sat_base::{Lit, Purse};
 use std::alloc::{AllocError, Global};
 
@@ -84,7 +85,7 @@ impl Search {
         purse.left -= 1;
         self.assumed_true = reached_at(learnt.back_level, self.assumed_levels, self.assumed_true);
         self.assumed_levels = self.assumed_levels.min(learnt.back_level);
-        self.trail.back_to(learnt.back_level);
+        back_to(&mut self.store, &mut self.trail, learnt.back_level);
         let first = learnt.lits[0];
         enter_learnt(
             &mut self.store,

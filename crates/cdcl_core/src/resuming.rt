@@ -14,7 +14,7 @@ ghost use Rattle.cdcl_core.specs.Search.{IsSearch, IsReady, IsAtRoot};
 ghost use Rattle.cdcl_core.specs.Resuming.{IsShared};
 
 use crate::search::Search;
-use propagate::level_of;
+use propagate::{back_to, level_of};
 use sat_base::Lit;
 use trail_book::Trail;
 
@@ -35,7 +35,7 @@ impl Search {
             return;
         }
         self.assumed_levels = levels;
-        self.trail.back_to(levels);
+        back_to(&mut self.store, &mut self.trail, levels);
     }
 
     /// Takes back all levels.
@@ -49,7 +49,7 @@ impl Search {
     {
         self.assumed_levels = 0;
         self.assumed_true = 0;
-        self.trail.back_to(0);
+        back_to(&mut self.store, &mut self.trail, 0);
     }
 }
 

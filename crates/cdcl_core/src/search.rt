@@ -141,7 +141,7 @@ impl Search {
         ensures vars { self.new.trail.vars ≡ self.old.trail.vars }
         ensures true_first { self.new.true_first ≡ self.old.true_first }
     {
-        let told = propagate(&mut self.store, &mut self.trail);
+        let told = propagate(&mut self.store, &mut self.trail, self.true_first);
         if self.trail.top() == 0 {
             self.log_units(alloc)?;
         }

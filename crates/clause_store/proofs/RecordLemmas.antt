@@ -1,12 +1,14 @@
 -- What an added clause changes in the list of the clauses, and that all of them are over the variables.
-use Rattle.std.proofs.Common.{suc, refl, sym, ap, ap₂, ◌∙◌, arith, subst, inl, inr, drop, length-drop, ◌≡◌, ℕ, ℤ, ◌-◌, List, [], ◌∷◌, ◌++◌, length, map, get_or, All, slice_range}
+use Rattle.std.proofs.Common.{suc, refl, sym, ap, ap₂, ◌∙◌, arith, subst, inl, inr, drop, length-drop, length-set, set, ◌≡◌, ℕ, ℤ, ◌-◌, List, [], ◌∷◌, ◌++◌, length, map, get_or, All, slice_range}
 use Rattle.std.proofs.lemmas.List.{map_push, length-take-le}
-use Rattle.std.proofs.lemmas.List.Elements.{All-drop, All-take}
+use Rattle.std.proofs.lemmas.List.Elements.{All-drop, All-take, All-set}
 use Rattle.std.specs.List.{AllByRecursion}
 use Rattle.sat_base.proofs.SpanLemmas.{range_before, range_at_end}
 use Rattle.sat_base.specs.Literals.{IsLiteral, AreLiterals}
 use Rattle.sat_base.specs.Database.{StoredClause, AreOver}
-use Rattle.clause_store.specs.Inner.{cut_by, IsWithin, HasMix}
+use Rattle.std.specs.Vec.{with_item}
+use Rattle.clause_store.specs.Inner.{cut_by, IsWithin, HasMix, IsLaidOut}
+use Rattle.clause_store.specs.declared.store.Store.TheInside.{Inside}
 use Rattle.clause_store.specs.Thirds.{mix_of}
 use Rattle.clause_store.specs.declared.store.ClauseRecord.{ClauseRecord}
 
@@ -54,3 +56,23 @@ pub long_cut : (vars last : ℕ) (ls : List ℤ) (r : ClauseRecord) → IsWithin
 long_cut vars last ls r w =
     let within = w.within in
     length-take-le (r.end - r.start) (drop r.start ls) (omega (arith, within, length-drop r.start ls))
+
+-- one record is another that fits
+pub laid_set : (a : Inside) (i : ℕ) (y : ClauseRecord) → IsLaidOut a → IsWithin a.vars (length a.lits.items) (length a.records.items) y → HasMix a.lits.items y → IsLaidOut (record a { records = with_item a.records i y })
+laid_set a i y inv fits mixed =
+    let records = a.records.items in
+    let long : length (set records i y) ≡ length records = length-set records i y in
+    record {
+      small = inv.small;
+      over = inv.over;
+      within = subst (λ (n : ℕ). All (IsWithin a.vars (length a.lits.items) n) (set records i y)) (sym long) (All-set (IsWithin a.vars (length a.lits.items) (length records)) records i y fits inv.within);
+      mixes = All-set (HasMix a.lits.items) records i y mixed inv.mixes;
+      counted = inv.counted;
+      lits_counted = inv.lits_counted;
+      a_head_each = inv.a_head_each;
+      a_tail_each = inv.a_tail_each;
+      a_park_each = inv.a_park_each;
+      heads = rw long inv.heads;
+      tails = rw long inv.tails;
+      parks = rw long inv.parks;
+    }

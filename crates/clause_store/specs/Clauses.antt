@@ -12,6 +12,8 @@ pub record Clauses : Type 0 where
   -- by literal: the first clause of its list and the last one, or 0
   pub heads : List ℕ
   pub tails : List ℕ
+  -- the first clause of the list of those that are parked under it, or 0
+  pub parks : List ℕ
   -- a clause that is false at level 0, or 0
   pub false_id : ℕ
   -- how many more clauses fit

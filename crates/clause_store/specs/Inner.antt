@@ -44,6 +44,7 @@ store_of a =
       nexts = map (λ r. r.next) a.records.items;
       heads = a.heads.items;
       tails = a.tails.items;
+      parks = a.parks.items;
       false_id = a.false_id;
       room = min (vec_capacity a.records) most - vec_len a.records;
       literal_room = min (vec_capacity a.lits) most - vec_len a.lits;
@@ -58,5 +59,7 @@ pub record IsLaidOut (a : Inside) : Type 0 where
   pub lits_counted : vec_len a.lits ≤ most
   pub a_head_each : length a.heads.items ≡ 2 * a.vars + 2
   pub a_tail_each : length a.tails.items ≡ 2 * a.vars + 2
+  pub a_park_each : length a.parks.items ≡ 2 * a.vars + 2
   pub heads : All (λ id. id ≤ length a.records.items) a.heads.items
   pub tails : All (λ id. id ≤ length a.records.items) a.tails.items
+  pub parks : All (λ id. id ≤ length a.records.items) a.parks.items

@@ -37,6 +37,10 @@ head_of store lit = slice_index_or store.heads (row_of lit) 0
 abbrev pub tail_of : Clauses → ℤ → ℕ
 tail_of store lit = slice_index_or store.tails (row_of lit) 0
 
+-- the first clause that is parked under a literal, or 0
+abbrev pub park_of : Clauses → ℤ → ℕ
+park_of store lit = slice_index_or store.parks (row_of lit) 0
+
 -- an id, or 0 for none
 abbrev pub link_of : Option ℕ → ℕ
 link_of None = 0
@@ -52,4 +56,5 @@ pub record KeepsLinks (old new : Clauses) : Type 0 where
   pub nexts : (node : ℕ) → next_of new node ≡ next_of old node
   pub heads : new.heads ≡ old.heads
   pub tails : new.tails ≡ old.tails
+  pub parks : new.parks ≡ old.parks
   pub false_id : new.false_id ≡ old.false_id

@@ -5,7 +5,7 @@
 ghost use Rattle.std.specs.Prelude.{◌≡◌, ◌≢◌, ℕ, ℤ, ◌+◌, ◌-◌, ◌*◌, ◌<◌, ◌≤◌, ◌^◌, Some, None, IfSome, length};
 ghost use Rattle.sat_base.specs.Literals.{IsLiteral};
 ghost use Rattle.clause_store.specs.Clauses.{Clauses, IsId};
-ghost use Rattle.clause_store.specs.Links.{watched_at, watch_of, next_of, row_of, head_of, tail_of, link_of, IsLink};
+ghost use Rattle.clause_store.specs.Links.{watched_at, watch_of, next_of, row_of, head_of, tail_of, park_of, link_of, IsLink};
 
 use crate::store::Store;
 use sat_base::Lit;
@@ -173,6 +173,28 @@ impl Store {
     {
         let tail = &mut self.tails[row_of(lit)];
         *tail = number_of(to) as u32;
+    }
+
+    /// The first clause that is parked under a literal.
+    pub fn parked(&self, lit: Lit) -> Option<u64>
+        requires { IsLiteral self.now.vars lit }
+        ensures first { link_of result ≡ park_of self.now lit }
+        ensures from_one { IfSome result (λ id. 0 < id) }
+        ensures within { IsLink self.now result }
+    {
+        id_or_none(u64::from(self.parks[row_of(lit)]))
+    }
+
+    /// Has this clause be the first one that is parked under a literal, or none.
+    pub fn set_parked(&mut self, lit: Lit, to: Option<u64>)
+        requires lit { IsLiteral self.old.vars lit }
+        requires to { IsLink self.old to }
+        ensures set { park_of self.new lit ≡ link_of to }
+        ensures others { (other : ℤ) → other ≢ lit → park_of self.new other ≡ park_of self.old other }
+        ensures rest { self.new ≡ record self.old { parks = self.new.parks } }
+    {
+        let first = &mut self.parks[row_of(lit)];
+        *first = number_of(to) as u32;
     }
 
     /// The clause that was last kept as false at level 0.

@@ -10,13 +10,16 @@
 //! of each list. By which link a list goes on is told by the watched literals. So a watch moves with no memory taken, and
 //! where the other watched literal decides, a visit touches the record alone (`links.rt`).
 //!
+//! A watch can be parked instead: then its link goes on in another list, of those that are parked under a literal, of which
+//! a third table has the first one.
+//!
 //! Places in the list of literals and ids are kept in 32 bits. A store that would outgrow them answers want of memory.
 ghost use Rattle.std.specs.Prelude.{◌≡◌, ℕ, ℤ, ◌+◌, ◌<◌, ◌≤◌, ◌^◌, ◌++◌, ◌∷◌, [], None, length, IfOk, OnOk, OnErr, IsOk};
 ghost use Rattle.sat_base.specs.Literals.{AreLiterals};
 ghost use Rattle.sat_base.specs.Database.{AreOver};
 ghost use Rattle.sat_base.specs.Forgotten.{forgotten};
 ghost use Rattle.clause_store.specs.Clauses.{clause_at, IsId, HasRoomFor};
-ghost use Rattle.clause_store.specs.Links.{watched_at, next_of, head_of, tail_of, KeepsLinks};
+ghost use Rattle.clause_store.specs.Links.{watched_at, next_of, head_of, tail_of, park_of, KeepsLinks};
 
 use crate::thirds::mix;
 use sat_base::Lit;
@@ -51,6 +54,7 @@ pub struct Store {
     // By literal, in two rows for each variable.
     pub(crate) heads: Vec<u32>,
     pub(crate) tails: Vec<u32>,
+    pub(crate) parks: Vec<u32>,
     pub(crate) false_id: u64,
 }
 
@@ -76,6 +80,7 @@ impl Store {
         ensures nexts { IfOk result (λ store. (node : ℕ) → next_of store node ≡ 0) }
         ensures heads { IfOk result (λ store. (lit : ℤ) → head_of store lit ≡ 0) }
         ensures tails { IfOk result (λ store. (lit : ℤ) → tail_of store lit ≡ 0) }
+        ensures parks { IfOk result (λ store. (lit : ℤ) → park_of store lit ≡ 0) }
         ensures false_id { IfOk result (λ store. store.false_id ≡ 0) }
     {
         let rows = 2 * vars as usize + 2;
@@ -85,6 +90,7 @@ impl Store {
             records: Vec::new(alloc),
             heads: vec![in alloc; 0u32; rows]?,
             tails: vec![in alloc; 0u32; rows]?,
+            parks: vec![in alloc; 0u32; rows]?,
             false_id: 0,
         })
     }

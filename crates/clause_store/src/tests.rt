@@ -92,6 +92,11 @@ fn readers_give_what_was_last_set(rt: HostRuntime) -> Result<(), AllocError> {
     assert!(rt; store.tail(lit) == Some(second));
     assert!(rt; store.tail(Lit::new(3)).is_none());
     assert!(rt; store.false_id() == Some(first));
+    assert!(rt; store.parked(lit).is_none());
+    store.set_parked(lit, Some(second));
+    assert!(rt; store.parked(lit) == Some(second));
+    assert!(rt; store.parked(lit.negated()).is_none());
+    assert!(rt; store.head(lit) == Some(first));
     Ok(())
 }
 

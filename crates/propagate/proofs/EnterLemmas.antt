@@ -1,5 +1,5 @@
 -- How far the trail goes back to have a clause be watched.
-use Rattle.std.proofs.Common.{◌≡◌, ◌≢◌, ◌⊎◌, ℕ, ◌+◌, ◌-◌, ◌<◌, ◌≤◌, List, [], ◌∷◌, length, take, get_or, Option, Some, None, refl, sym, ◌∙◌, ap, subst, inl, inr, arith}
+use Rattle.std.proofs.Common.{◌≡◌, ◌≢◌, ◌⊎◌, ℕ, ◌+◌, ◌<◌, ◌≤◌, List, [], ◌∷◌, length, take, get_or, Option, Some, None, refl, sym, ◌∙◌, ap, subst, inl, inr, arith}
 use Rattle.std.specs.Prelude.{ℤ, pos, negsuc, neg_ℤ, IfSome, IfNone}
 use Rattle.std.proofs.lemmas.Bool.{cases_lt}
 use Rattle.std.proofs.lemmas.Bool.Decides.{leb_tells}
@@ -7,11 +7,11 @@ use Rattle.std.proofs.lemmas.List.{take_all}
 use Rattle.sat_base.specs.Members.{In}
 use Rattle.sat_base.specs.Literals.{var_of}
 use Rattle.sat_base.specs.Database.{StoredClause}
-use Rattle.sat_base.specs.Units.{HasValue, IsUnset, AllFalse, AllFalseBut, HasTwo, IsLoose, IsReason, IsConsequence}
+use Rattle.sat_base.specs.Units.{HasValue, AllFalse, AllFalseBut, HasTwo, IsLoose, IsReason, IsConsequence}
 use Rattle.sat_base.proofs.DatabaseLemmas.{In-take_more}
 use Rattle.trail_book.specs.declared.entry.Entry.{Entry}
 use Rattle.trail_book.specs.Trail.{trues, top, keep, oldest, IsTrail, IsPlace}
-use Rattle.trail_book.proofs.TrailLemmas.{keep-whole, keep-skip, top-keep, top-keep_exact, lit-keep_in, lit-keep_more, level_after-at_least, same_var, trail_consistent}
+use Rattle.trail_book.proofs.TrailLemmas.{keep-whole, keep-skip, top-keep_exact, lit-keep_in, lit-keep_more, level_after-at_least, same_var, trail_consistent}
 use Rattle.trail_book.proofs.PlaceLemmas.{oldest_skip, oldest_whole, place_unskip}
 use Rattle.propagate.specs.Propagation.{Grows}
 use Rattle.propagate.specs.Watches.{IsGuarded}

@@ -47,7 +47,7 @@ module _ (s : Clauses) (t : Trail) (k : IsKept s t) (done : t.done ≡ length t.
       let whole = oldest_whole t.entries t.done done in
       let all = keep-whole (top t.entries) t.entries (omega arith) in
       lit-keep_in (top t.entries) t.entries (watch_of s m)
-      (k.watches.guarded n m p w (subst (λ (xs : List Entry). In (neg_ℤ (watch_of s n)) (trues xs)) (sym whole) f) (top t.entries) (subst (λ (xs : List Entry). In (neg_ℤ (watch_of s n)) (trues xs)) (sym all) f))
+      (k.hung.watches.guarded n m p w (subst (λ (xs : List Entry). In (neg_ℤ (watch_of s n)) (trues xs)) (sym whole) f) (top t.entries) (subst (λ (xs : List Entry). In (neg_ℤ (watch_of s n)) (trues xs)) (sym all) f))
 
   watched_loose : (id : ℕ) (pair : ℤ × ℤ) → watched_at s id ≡ Some pair → IsId s.clauses id → IsLoose (trues t.entries) (clause_at s.clauses id).lits
   watched_loose id pair is is_id =
@@ -59,13 +59,13 @@ module _ (s : Clauses) (t : Trail) (k : IsKept s t) (done : t.done ≡ length t.
       let q : IsPair m n = record { same = omega arith; differ = omega arith } in
       let wn : IsWatch s n = λ e. some_none pair (sym is ∙ ap (watched_at s) (sym half_n) ∙ e) in
       let wm = other_watch s n m p wn in
-      let in_n = subst (λ (i : ℕ). In (watch_of s n) (clause_at s.clauses i).lits) half_n (k.watches.stands n wn) in
-      let in_m = subst (λ (i : ℕ). In (watch_of s m) (clause_at s.clauses i).lits) half_m (k.watches.stands m wm) in
+      let in_n = subst (λ (i : ℕ). In (watch_of s n) (clause_at s.clauses i).lits) half_n (k.hung.watches.stands n wn) in
+      let in_m = subst (λ (i : ℕ). In (watch_of s m) (clause_at s.clauses i).lits) half_m (k.hung.watches.stands m wm) in
       elim (cases_in (neg_ℤ (watch_of s n)) (trues t.entries)) [
         | inl f ↦ inl (watch_of s m, in_m, guards n m p wn f)
         | inr open_n ↦ elim (cases_in (neg_ℤ (watch_of s m)) (trues t.entries)) [
           | inl f ↦ inl (watch_of s n, in_n, guards m n q wm f)
-          | inr open_m ↦ inr (record { one = watch_of s n; other = watch_of s m; one_in = in_n; other_in = in_m; differ = k.watches.differ n m p wn; one_open = open_n; other_open = open_m })
+          | inr open_m ↦ inr (record { one = watch_of s n; other = watch_of s m; one_in = in_n; other_in = in_m; differ = k.hung.watches.differ n m p wn; one_open = open_n; other_open = open_m })
         ]
       ]
 

@@ -6,6 +6,8 @@ pub mod KeptLemmas
 pub mod WalkLemmas
 pub mod MoveLemmas
 pub mod StepLemmas
+pub mod ParkLemmas
+pub mod ReturnLemmas
 pub mod LengthLemmas
 pub mod FixpointLemmas
 pub mod EntranceLemmas

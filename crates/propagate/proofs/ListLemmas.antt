@@ -1,13 +1,15 @@
 -- Lists of watches, where a watch leaves one or comes to one.
-use Rattle.std.proofs.Common.{◌≡◌, ◌≢◌, ℕ, ◌/◌, ◌<◌, List, [], ◌∷◌, ◌++◌, refl, ap, sym, subst, ◌∙◌, inl, inr, arith}
-use Rattle.std.specs.Prelude.{ℤ}
+use Rattle.std.proofs.Common.{◌≡◌, ◌≢◌, ◌⊎◌, ℕ, ◌/◌, ◌<◌, List, [], ◌∷◌, ◌++◌, refl, ap, sym, subst, ◌∙◌, inl, inr, arith}
+use Rattle.std.specs.Prelude.{ℤ, Bool, true, false, eqb, if◌then◌else◌}
+use Rattle.std.proofs.lemmas.Bool.{false≢true}
+use Rattle.std.proofs.lemmas.Bool.Decides.{eqb_tells}
 use Rattle.sat_base.specs.Members.{In}
 use Rattle.sat_base.proofs.Members.{In-append_left, In-append_right, In-append_cases}
 use Rattle.clause_store.specs.Clauses.{Clauses}
 use Rattle.clause_store.specs.Links.{next_of, head_of, tail_of}
 use Rattle.propagate.specs.Lists.{IsApart, IsChain, last_of}
 use Rattle.propagate.specs.Watches.{IsLinked}
-use Rattle.propagate.specs.Walk.{Unlinks, Appends}
+use Rattle.propagate.specs.Walk.{Unlinks, Appends, Parks}
 
 -- links that agree at each of the watches lead along the same ones
 pub chain_same : (next next' : ℕ → ℕ) (h : ℕ) (ns : List ℕ) → ((m : ℕ) → In m ns → next' m ≡ next m) → IsChain next h ns → IsChain next' h ns
@@ -180,3 +182,41 @@ module _ (s s' : Clauses) (lit : ℤ) (node n : ℕ) (r : Appends s s' lit node 
     end = r.tail ∙ ap (λ (k : ℕ). k / 2) (sym (last_append 0 ns n []));
     apart = apart_push n ns l.apart out;
   }
+
+-- ---- a watch is parked
+
+module _ (s s' : Clauses) (b : ℤ) (n : ℕ) (r : Parks s s' b n) (rest : s' ≡ record s { nexts = s'.nexts; parks = s'.parks }) where
+  -- a list of which it is not
+  pub parks_other : (y : ℤ) (ns : List ℕ) → ¬ In n ns → IsLinked s y ns → IsLinked s' y ns
+  parks_other y ns out l = record {
+    chain = subst (λ (h : ℕ). IsChain (next_of s') h ns) (sym (ap (λ (x : Clauses). head_of x y) rest)) (chain_same (next_of s) (next_of s') (head_of s y) ns (λ m i. r.nexts m (other_than n ns out m i)) l.chain);
+    end = ap (λ (x : Clauses). tail_of x y) rest ∙ l.end;
+    apart = l.apart;
+  }
+
+pub bool_cases : (b : Bool) → (b ≡ true) ⊎ (b ≡ false)
+bool_cases true = inl refl
+bool_cases false = inr refl
+
+-- a watch that is parked is not the last one of those that are not
+pub last_unparked : (parked : ℕ → Bool) (ns : List ℕ) (k : ℕ) → ((m : ℕ) → In m ns → parked m ≡ false) → parked k ≡ true → 0 < k / 2 → k ≢ last_of 0 ns
+last_unparked parked [] k all is some e = omega (arith, e, some)
+last_unparked parked (x ∷ xs) k all is some e = false≢true (sym (all (last_of x xs) (last_in x xs)) ∙ ap parked (sym e) ∙ is)
+
+-- the same, but for one watch
+pub set_at : (ℕ → Bool) → ℕ → Bool → ℕ → Bool
+set_at parked n b m = if eqb m n then b else parked m
+
+choose_same : (c x y : Bool) → c ≡ true → (if c then x else y) ≡ x
+choose_same c x y e = rw e refl
+
+choose_other : (c x y : Bool) → c ≡ false → (if c then x else y) ≡ y
+choose_other c x y e = rw e refl
+
+pub set_at-same : (parked : ℕ → Bool) (n : ℕ) (b : Bool) (m : ℕ) → m ≡ n → set_at parked n b m ≡ b
+unfolding set_at
+set_at-same parked n b m e = elim (eqb_tells m n) [ inl x ↦ choose_same (eqb m n) b (parked m) x.0 | inr x ↦ absurd (x.1 e) ]
+
+pub set_at-other : (parked : ℕ → Bool) (n : ℕ) (b : Bool) (m : ℕ) → m ≢ n → set_at parked n b m ≡ parked m
+unfolding set_at
+set_at-other parked n b m ne = elim (eqb_tells m n) [ inl x ↦ absurd (ne x.1) | inr x ↦ choose_other (eqb m n) b (parked m) x.0 ]

@@ -1,5 +1,5 @@
 -- A watch that moves from the list of a false literal to that of another.
-use Rattle.std.proofs.Common.{◌≡◌, ◌≢◌, ◌⊎◌, ℕ, ◌/◌, List, [], ◌∷◌, ◌++◌, refl, sym, ◌∙◌, ap, subst, inl, inr, arith, true}
+use Rattle.std.proofs.Common.{◌≡◌, ◌≢◌, ◌⊎◌, ℕ, ◌/◌, ◌<◌, List, [], ◌∷◌, ◌++◌, refl, sym, ◌∙◌, ap, subst, inl, inr, arith, true}
 use Rattle.std.specs.Prelude.{ℤ, neg_ℤ, Decides, Bool, false}
 use Rattle.std.specs.Ordering.{int_eq}
 use Rattle.std.proofs.lemmas.Bool.{cases_eq, false≢true}
@@ -8,14 +8,14 @@ use Rattle.sat_base.specs.Members.{In}
 use Rattle.sat_base.specs.Literals.{IsLiteral}
 use Rattle.sat_base.proofs.Members.{In-append_left, In-append_right, In-append_cases}
 use Rattle.clause_store.specs.Clauses.{Clauses, clause_at, IsId}
-use Rattle.clause_store.specs.Links.{watch_of, next_of, head_of}
+use Rattle.clause_store.specs.Links.{watch_of, next_of, head_of, park_of}
 use Rattle.trail_book.specs.declared.entry.Entry.{Entry}
 use Rattle.trail_book.specs.Trail.{trues, keep, oldest, IsTrail}
 use Rattle.trail_book.proofs.TrailLemmas.{trail_consistent, lit-keep_in}
 use Rattle.propagate.specs.Lists.{IsPair, IsChain, last_of}
-use Rattle.propagate.specs.Watches.{IsLinked, AreWatchesOf, IsListed, IsWatch, AreWatches}
+use Rattle.propagate.specs.Watches.{IsLinked, AreWatchesOf, IsListed, AreParked, IsWatch, AreWatches}
 use Rattle.propagate.specs.Walk.{Unlinks, Appends}
-use Rattle.propagate.proofs.ListLemmas.{AreNodes, last_in, in_with, in_without, apart_here, chain_same, chain_behind, last_before, unlinked, unlinked_other, appended, appended_other}
+use Rattle.propagate.proofs.ListLemmas.{AreNodes, last_in, in_with, in_without, apart_here, chain_same, chain_behind, last_before, unlinked, unlinked_other, appended, appended_other, last_unparked}
 use Rattle.propagate.proofs.WalkLemmas.{is_watch, are_nodes}
 
 from_test : {P : Type 0} → (b : Bool) → Decides b P → P ⊎ (P → ⊥)
@@ -27,14 +27,17 @@ cases_literal x y = from_test (int_eq x y) (Decides-int_eq x y)
 
 -- the watch n watches `to` now, and the lists of its old literal and of its new one have changed: s is before, s₁ where it has left, s₂ where it
 -- has come, and s₃ where it watches the new one
-module _ (s s₁ s₂ s₃ : Clauses) (es : List Entry) (done vars : ℕ) (z to other : ℤ) (n m : ℕ) (seen rest : List ℕ)
-    (ws : AreWatches s es done) (lists : (lit : ℤ) → IsLiteral s.vars lit → IsListed s lit)
+module _ (s s₁ s₂ s₃ : Clauses) (es : List Entry) (done vars : ℕ) (parked : ℕ → Bool) (z to other : ℤ) (n m : ℕ) (seen rest : List ℕ)
+    (ws : AreWatches s es done) (lists : (lit : ℤ) → IsLiteral s.vars lit → IsListed s parked lit)
     (z_literal : IsLiteral s.vars z) (to_literal : IsLiteral s.vars to) (ne : to ≢ z)
-    (linked : IsLinked s z (seen ++ n ∷ rest)) (all : AreWatchesOf s z (seen ++ n ∷ rest))
+    (linked : IsLinked s z (seen ++ n ∷ rest)) (all : AreWatchesOf s parked z (seen ++ n ∷ rest))
     (un : Unlinks s s₁ z (last_of 0 seen) (next_of s n)) (un_rest : s₁ ≡ record s { nexts = s₁.nexts; heads = s₁.heads; tails = s₁.tails })
     (on : Appends s₁ s₂ to (last_of 0 (lists to to_literal).nodes) n) (on_rest : s₂ ≡ record s₁ { nexts = s₂.nexts; heads = s₂.heads; tails = s₂.tails })
     (new : watch_of s₃ n ≡ to) (old : (k : ℕ) → k ≢ n → watch_of s₃ k ≡ watch_of s k) (last_rest : s₃ ≡ record s₂ { watched = s₃.watched })
     (was_watch : (k : ℕ) → IsWatch s₃ k → IsWatch s k) where
+  hangs : parked n ≡ false
+  hangs = all.unparked n (In-append_right n seen (n ∷ rest) (inl refl))
+
   here : watch_of s n ≡ z
   here = all.members n (In-append_right n seen (n ∷ rest) (inl refl))
 
@@ -80,16 +83,17 @@ module _ (s s₁ s₂ s₃ : Clauses) (es : List Entry) (done vars : ℕ) (z to 
       (last_to_out z (seen ++ rest) z_literal z_not_to members_without) (apart_here n seen rest linked.apart)
       (unlinked s s₁ z (last_of 0 seen) (next_of s n) un seen n rest refl refl nodes_z linked))
 
-  pub watches_left : AreWatchesOf s₃ z (seen ++ rest)
+  pub watches_left : AreWatchesOf s₃ parked z (seen ++ rest)
   watches_left = record {
     members = λ k i. old k (λ e. apart_here n seen rest linked.apart (subst (λ (x : ℕ). In x (seen ++ rest)) e i)) ∙ members_without k i;
-    complete = λ k w. elim (cases_eq k n) [
+    unparked = λ k i. all.unparked k (in_with k n seen rest i);
+    complete = λ k w u. elim (cases_eq k n) [
       | inl e ↦ absurd (ne (sym new ∙ ap (watch_of s₃) (sym e) ∙ w))
-      | inr d ↦ in_without k n seen rest d (all.complete k (sym (old k d) ∙ w))
+      | inr d ↦ in_without k n seen rest d (all.complete k (sym (old k d) ∙ w) u)
     ];
   }
 
-  list_to : IsListed s₃ to
+  list_to : IsListed s₃ parked to
   list_to =
       let l = lists to to_literal in
       let nodes = are_nodes s es done to l.nodes ws to_literal l.watches.members in
@@ -106,14 +110,18 @@ module _ (s s₁ s₂ s₃ : Clauses) (es : List Entry) (done vars : ℕ) (z to 
               | inr j ↦ elim j [ inl e ↦ absurd (d e) | inr x ↦ absurd x ]
             ]
           ];
-          complete = λ k w. elim (cases_eq k n) [
+          unparked = λ k i. elim (In-append_cases k l.nodes (n ∷ []) i) [
+            | inl j ↦ l.watches.unparked k j
+            | inr j ↦ elim j [ inl e ↦ ap parked e ∙ hangs | inr x ↦ absurd x ]
+          ];
+          complete = λ k w u. elim (cases_eq k n) [
             | inl e ↦ In-append_right k l.nodes (n ∷ []) (inl e)
-            | inr d ↦ In-append_left k l.nodes (n ∷ []) (l.watches.complete k (sym (old k d) ∙ w))
+            | inr d ↦ In-append_left k l.nodes (n ∷ []) (l.watches.complete k (sym (old k d) ∙ w) u)
           ];
         };
       }
 
-  list_other : (y : ℤ) → IsLiteral s.vars y → y ≢ z → y ≢ to → IsListed s₃ y
+  list_other : (y : ℤ) → IsLiteral s.vars y → y ≢ z → y ≢ to → IsListed s₃ parked y
   list_other y is dz dt =
       let l = lists y is in
       let nodes = are_nodes s es done y l.nodes ws is l.watches.members in
@@ -124,18 +132,19 @@ module _ (s s₁ s₂ s₃ : Clauses) (es : List Entry) (done vars : ℕ) (z to 
             (unlinked_other s s₁ z (last_of 0 seen) (next_of s n) un y l.nodes dz nodes (last_seen_out y l.nodes is dz l.watches.members) l.linked));
         watches = record {
           members = λ k i. old k (λ e. out (subst (λ (x : ℕ). In x l.nodes) e i)) ∙ l.watches.members k i;
-          complete = λ k w. elim (cases_eq k n) [
+          unparked = l.watches.unparked;
+          complete = λ k w u. elim (cases_eq k n) [
             | inl e ↦ absurd (dt (sym w ∙ ap (watch_of s₃) e ∙ new))
-            | inr d ↦ l.watches.complete k (sym (old k d) ∙ w)
+            | inr d ↦ l.watches.complete k (sym (old k d) ∙ w) u
           ];
         };
       }
 
-  pub all_listed : (y : ℤ) → IsLiteral s.vars y → IsListed s₃ y
+  pub all_listed : (y : ℤ) → IsLiteral s.vars y → IsListed s₃ parked y
   all_listed y is = elim (cases_literal y z) [
-    | inl e ↦ subst (λ (x : ℤ). IsListed s₃ x) (sym e) (record { nodes = seen ++ rest; linked = list_left; watches = watches_left })
+    | inl e ↦ subst (λ (x : ℤ). IsListed s₃ parked x) (sym e) (record { nodes = seen ++ rest; linked = list_left; watches = watches_left })
     | inr dz ↦ elim (cases_literal y to) [
-      | inl e ↦ subst (λ (x : ℤ). IsListed s₃ x) (sym e) list_to
+      | inl e ↦ subst (λ (x : ℤ). IsListed s₃ parked x) (sym e) list_to
       | inr dt ↦ list_other y is dz dt
     ]
   ]
@@ -152,6 +161,28 @@ module _ (s s₁ s₂ s₃ : Clauses) (es : List Entry) (done vars : ℕ) (z to 
       let out_to : k ≢ last_of 0 (lists to to_literal).nodes = λ e. last_to_out z (k ∷ []) z_literal z_not_to (λ j h. elim h [ inl f ↦ ap (watch_of s) f ∙ w | inr x ↦ absurd x ]) (inl (sym e)) in
       ap (λ (x : Clauses). next_of x k) last_rest ∙ on.nexts k k_some out_to out ∙ un.nexts k k_some (last_before seen n rest linked.apart nodes_z k i))
       (chain_behind (next_of s) (head_of s z) seen n rest linked.chain)
+
+  -- what is parked stays so, where the other watch of this clause is not
+  park_same : (y : ℤ) → park_of s₃ y ≡ park_of s y
+  park_same y = ap (λ (x : Clauses). park_of x y) last_rest ∙ ap (λ (x : Clauses). park_of x y) on_rest ∙ ap (λ (x : Clauses). park_of x y) un_rest
+
+  next_parked : (k : ℕ) → parked k ≡ true → 0 < k / 2 → next_of s₃ k ≡ next_of s k
+  next_parked k p some =
+      let k_some : k ≢ 0 = omega (arith, some) in
+      let out : k ≢ n = λ e. false≢true (sym hangs ∙ ap parked (sym e) ∙ p) in
+      ap (λ (x : Clauses). next_of x k) last_rest
+      ∙ on.nexts k k_some (last_unparked parked (lists to to_literal).nodes k (lists to to_literal).watches.unparked p some) out
+      ∙ un.nexts k k_some (last_unparked parked seen k (λ j i. all.unparked j (In-append_left j seen (n ∷ rest) i)) p some)
+
+  pub parked_left : ((k : ℕ) → parked k ≡ true → 0 < k / 2) → ((k : ℕ) → IsPair k n → parked k ≡ true → ⊥) → (y : ℤ) → AreParked s parked y (park_of s y) → AreParked s₃ parked y (park_of s₃ y)
+  parked_left some mate y u = record {
+    nodes = u.nodes;
+    chain = subst (λ (h : ℕ). IsChain (next_of s₃) h u.nodes) (sym (park_same y))
+        (chain_same (next_of s) (next_of s₃) (park_of s y) u.nodes (λ k i. let p = (u.members k i).is_parked in next_parked k p (some k p)) u.chain);
+    apart = u.apart;
+    members = λ k i. let x = u.members k i in record { is_parked = x.is_parked; under = λ j q. old j (λ e. mate k (subst (λ (i : ℕ). IsPair k i) e q) x.is_parked) ∙ x.under j q };
+    complete = λ k x. u.complete k (record { is_parked = x.is_parked; under = λ j q. sym (old j (λ e. mate k (subst (λ (i : ℕ). IsPair k i) e q) x.is_parked)) ∙ x.under j q });
+  }
 
   pub clauses_same : s₃.clauses ≡ s.clauses
   clauses_same = ap (λ (x : Clauses). x.clauses) last_rest ∙ ap (λ (x : Clauses). x.clauses) on_rest ∙ ap (λ (x : Clauses). x.clauses) un_rest

@@ -10,7 +10,7 @@ use Rattle.sat_base.specs.Forgotten.{not_live, named, forgotten}
 use Rattle.sat_base.proofs.Members.{In-append_left, In-append_right, In-append_cases}
 use Rattle.sat_base.proofs.ForgottenLemmas.{length-forgotten}
 use Rattle.clause_store.specs.Clauses.{Clauses, clause_at, no_clause, IsId}
-use Rattle.clause_store.specs.Links.{watched_at, watch_of, head_of, tail_of, literal_by}
+use Rattle.clause_store.specs.Links.{watched_at, watch_of, head_of, tail_of, park_of, literal_by}
 use Rattle.trail_book.specs.Trail.{Trail}
 use Rattle.propagate.specs.Lists.{last_of}
 use Rattle.propagate.specs.Watches.{IsLinked, IsWatch, IsSettled, IsKept}
@@ -28,10 +28,10 @@ stale_kept s t k = record {
   vars = k.vars;
   done = k.done;
   fresh = k.fresh;
-  id = k.watches.id;
-  stands = k.watches.stands;
-  differ = k.watches.differ;
-  guarded = k.watches.guarded;
+  id = k.hung.watches.id;
+  stands = k.hung.watches.stands;
+  differ = k.hung.watches.differ;
+  guarded = k.hung.watches.guarded;
   settled = λ none id is live idle. let low = is.from_one in k.settled none id (λ e. absurd (omega arith)) is live idle;
   false_clause = k.false_clause;
 }
@@ -72,8 +72,8 @@ tail_watched s t b lit r is some = at l.nodes l.linked.end l.members
     at (x ∷ xs) e all = watched_some s (last_of x xs) (tail_of s lit) (sym e) (is_watch s lit (last_of x xs) is (all (last_of x xs) (last_in x xs)))
 
 -- it does not look at links
-stale_links : (s : Clauses) (t : Trail) (nexts : List (List ℕ)) (heads tails : List ℕ) → IsStale s t → IsStale (record s { nexts = nexts; heads = heads; tails = tails }) t
-stale_links s t nexts heads tails k = record {
+stale_links : (s : Clauses) (t : Trail) (nexts : List (List ℕ)) (heads tails parks : List ℕ) → IsStale s t → IsStale (record s { nexts = nexts; heads = heads; tails = tails; parks = parks }) t
+stale_links s t nexts heads tails parks k = record {
   vars = k.vars;
   done = k.done;
   fresh = k.fresh;
@@ -86,7 +86,7 @@ stale_links s t nexts heads tails k = record {
 }
 
 stale_rest : (s s' : Clauses) (t : Trail) → s' ≡ record s { nexts = s'.nexts; heads = s'.heads; tails = s'.tails } → IsStale s t → IsStale s' t
-stale_rest s s' t e k = subst (λ (x : Clauses). IsStale x t) (sym e) (stale_links s t s'.nexts s'.heads s'.tails k)
+stale_rest s s' t e k = subst (λ (x : Clauses). IsStale x t) (sym e) (stale_links s t s'.nexts s'.heads s'.tails s.parks k)
 
 -- one more watch comes to the list of its literal
 module _ (s s' : Clauses) (t : Trail) (n : ℕ) (lit : ℤ) (r : IsRelisted s t n) (w : watch_of s n ≡ lit) (is : IsLiteral s.vars lit) (live : (clause_at s.clauses (n / 2)).live ≡ true)
@@ -149,6 +149,7 @@ module _ (s s' : Clauses) (t : Trail) (n : ℕ) (lit : ℤ) (r : IsRelisted s t 
       | inl e ↦ subst (IsListedTo s' (n + 1)) (sym e) own
       | inr d ↦ other y y_is d
     ];
+    parks = λ y y_is. ap (λ (x : Clauses). park_of x y) rest ∙ r.parks y (subst (λ (v : ℕ). IsLiteral v y) (ap (λ (x : Clauses). x.vars) rest) y_is);
     live = λ m lt x. subst (λ (db : List StoredClause). (clause_at db (m / 2)).live ≡ true) (sym (ap (λ (k : Clauses). k.clauses) rest)) (elim (cases_lt m n) [
       | inl under ↦ r.live m under (λ e. x (ap (λ (k : Clauses). watched_at k (m / 2)) rest ∙ e))
       | inr over ↦ let e : n ≡ m = omega arith in subst (λ (k : ℕ). (clause_at s.clauses (k / 2)).live ≡ true) e live
@@ -169,6 +170,7 @@ relisted_skip s t id r idle = record {
       | inr over ↦ let half : m / 2 ≡ id = omega arith in absurd (is_watch s y m is x (ap (watched_at s) half ∙ idle))
     ];
   };
+  parks = r.parks;
   live = λ m lt x. elim (cases_lt m (2 * id)) [
     | inl under ↦ r.live m under x
     | inr over ↦ let half : m / 2 ≡ id = omega arith in absurd (x (ap (watched_at s) half ∙ idle))
@@ -222,15 +224,16 @@ module _ (s s' : Clauses) (t : Trail) (id : ℕ) (r : IsRelisted s t (2 * id)) (
           below = k.below;
           complete = λ m lt x. k.complete m lt (sym (same_watch m (λ e. absurd (omega arith))) ∙ x);
         };
+        parks = λ y y_is. ap (λ (x : Clauses). park_of x y) rest ∙ r.parks y (subst (λ (v : ℕ). IsLiteral v y) (ap (λ (x : Clauses). x.vars) rest) y_is);
         live = λ m lt w. subst (λ (db : List StoredClause). (clause_at db (m / 2)).live ≡ true) (sym clauses_are) (r.live m lt (was_watch m w));
       })
       set
 
 -- at first all lists are empty
 pub relisted_first : (s s' : Clauses) (t : Trail) → IsStale s t → ((y : ℤ) → IsLiteral s.vars y → head_of s' y ≡ 0) → ((y : ℤ) → IsLiteral s.vars y → tail_of s' y ≡ 0)
-    → s' ≡ record s { heads = s'.heads; tails = s'.tails } → IsRelisted s' t 2
-relisted_first s s' t k heads tails rest =
-    let stale : IsStale s' t = subst (λ (x : Clauses). IsStale x t) (sym rest) (stale_links s t s.nexts s'.heads s'.tails k) in
+    → ((y : ℤ) → IsLiteral s.vars y → park_of s' y ≡ 0) → s' ≡ record s { heads = s'.heads; tails = s'.tails; parks = s'.parks } → IsRelisted s' t 2
+relisted_first s s' t k heads tails parks rest =
+    let stale : IsStale s' t = subst (λ (x : Clauses). IsStale x t) (sym rest) (stale_links s t s.nexts s'.heads s'.tails s'.parks k) in
     record {
       stale = stale;
       listed = λ y is'. let is : IsLiteral s.vars y = subst (λ (v : ℕ). IsLiteral v y) (ap (λ (x : Clauses). x.vars) rest) is' in record {
@@ -240,6 +243,7 @@ relisted_first s s' t k heads tails rest =
         below = λ m i. absurd i;
         complete = λ m lt x. let low = (stale.id m (is_watch s' y m is' x)).from_one in absurd (omega arith);
       };
+      parks = λ y y_is. parks y (subst (λ (v : ℕ). IsLiteral v y) (ap (λ (x : Clauses). x.vars) rest) y_is);
       live = λ m lt w. let low = (stale.id m w).from_one in absurd (omega arith);
     }
 
@@ -249,17 +253,23 @@ relisted_all s t id r all = record {
   vars = r.stale.vars;
   done = r.stale.done;
   fresh = r.stale.fresh;
-  listed = λ y is. let k = r.listed y is in record {
-    nodes = k.nodes;
-    linked = k.linked;
-    watches = record { members = k.members; complete = λ n w. k.complete n (under n (is_watch s y n is w)) w };
-  };
-  watches = record {
-    id = r.stale.id;
-    live = λ n w. r.live n (under n w) w;
-    stands = r.stale.stands;
-    differ = r.stale.differ;
-    guarded = r.stale.guarded;
+  hung = record {
+    parked = λ n. false;
+    listed = λ y is. let k = r.listed y is in record {
+      nodes = k.nodes;
+      linked = k.linked;
+      watches = record { members = k.members; unparked = λ n i. refl; complete = λ n w u. k.complete n (under n (is_watch s y n is w)) w };
+    };
+    under = λ y is. record { nodes = []; chain = r.parks y is; apart = tt; members = λ n i. absurd i; complete = λ n u. absurd (false≢true u.is_parked) };
+    satisfied = λ n m p q. absurd (false≢true p);
+    parked_watch = λ n p. absurd (false≢true p);
+    watches = record {
+      id = r.stale.id;
+      live = λ n w. r.live n (under n w) w;
+      stands = r.stale.stands;
+      differ = r.stale.differ;
+      guarded = r.stale.guarded;
+    };
   };
   settled = λ none i ne is live idle. r.stale.settled none i is live idle;
   false_clause = r.stale.false_clause;

@@ -17,7 +17,7 @@ use Rattle.propagate.specs.Watches.{IsLinked, AreWatchesOf, IsListed, IsWatch, I
 use Rattle.propagate.specs.Walk.{IsNode, Unlinks, Appends, CanWatch, IsWalk}
 use Rattle.propagate.proofs.ListLemmas.{last_in}
 use Rattle.propagate.proofs.WalkLemmas.{is_watch, watched_some, node_is, node_of_last, stands_at, node, is_node, at_watched, now_false, advance}
-use Rattle.propagate.proofs.MoveLemmas.{list_left, watches_left, all_listed, chain_left, moved_watches}
+use Rattle.propagate.proofs.MoveLemmas.{list_left, watches_left, all_listed, parked_left, chain_left, moved_watches}
 
 -- a live clause that forces a literal is its reason
 pub reason_at : (db : List StoredClause) (trues : List ℤ) (id : ℕ) (lit : ℤ) → IsId db id → (clause_at db id).live ≡ true → In lit (clause_at db id).lits → AllFalseBut trues (clause_at db id).lits lit
@@ -54,14 +54,14 @@ before_ok s t z (Some i) id fuel w some = at w.seen w.before_is (λ k j. w.watch
     at (x ∷ xs) e all =
         let last = last_of x xs in
         let is = is_watch s z last w.literal (all last (last_in x xs)) in
-        (subst (λ (j : ℕ). IsId s.clauses j) (sym e) (w.kept.watches.id last is), watched_some s last i (sym e) is)
+        (subst (λ (j : ℕ). IsId s.clauses j) (sym e) (w.kept.hung.watches.id last is), watched_some s last i (sym e) is)
 
 -- so is the last one of any list
 pub tail_ok : (s : Clauses) (t : Trail) (but : ℕ) (lit : ℤ) → IsKeptBut s t but → IsLiteral s.vars lit → tail_of s lit ≢ 0 → watched_at s (tail_of s lit) ≢ None
 tail_ok s t but lit k is some = at l.nodes l.linked.end l.watches.members
   where
-    l : IsListed s lit
-    l = k.listed lit is
+    l : IsListed s k.hung.parked lit
+    l = k.hung.listed lit is
 
     at : (ns : List ℕ) → tail_of s lit ≡ last_of 0 ns / 2 → ((n : ℕ) → In n ns → watch_of s n ≡ lit) → watched_at s (tail_of s lit) ≢ None
     at [] e all = absurd (some (omega (arith, e)))
@@ -115,11 +115,11 @@ watch_rest s s₁ k e = ap (λ (x : Clauses). watch_of x k) e
 
 -- the last watch of a list, where only links have changed
 pub tail_node : (s s₁ : Clauses) (t : Trail) (but : ℕ) (z to : ℤ) (k : IsKeptBut s t but) (is : IsLiteral s.vars to) → to ≢ z → ((y : ℤ) → y ≢ z → tail_of s₁ y ≡ tail_of s y)
-    → s₁ ≡ record s { nexts = s₁.nexts; heads = s₁.heads; tails = s₁.tails } → IsNode s₁ to (tail_of s₁ to) (last_of 0 (k.listed to is).nodes)
+    → s₁ ≡ record s { nexts = s₁.nexts; heads = s₁.heads; tails = s₁.tails } → IsNode s₁ to (tail_of s₁ to) (last_of 0 (k.hung.listed to is).nodes)
 tail_node s s₁ t but z to k is ne tails rest =
-    let l = k.listed to is in
+    let l = k.hung.listed to is in
     let last = last_of 0 l.nodes in
-    let node = node_of_last s t.entries t.done to l.nodes k.watches is l.watches.members in
+    let node = node_of_last s t.entries t.done to l.nodes k.hung.watches is l.watches.members in
     let end : tail_of s₁ to ≡ last / 2 = tails to ne ∙ l.linked.end in
     record {
       half = sym end;
@@ -136,7 +136,7 @@ moves_away s t z to other before id fuel w some can e = can.not_false (subst (λ
 pub walk_before : (s : Clauses) (t : Trail) (z : ℤ) (before id fuel : ℕ) (w : IsWalk s t z before id fuel) → IsNode s z before (last_of 0 w.seen)
 walk_before s t z before id fuel w =
     subst (λ (i : ℕ). IsNode s z i (last_of 0 w.seen)) (sym w.before_is)
-    (node_of_last s t.entries t.done z w.seen w.kept.watches w.literal (λ k i. w.watches.members k (In-append_left k w.seen w.ahead i)))
+    (node_of_last s t.entries t.done z w.seen w.kept.hung.watches w.literal (λ k i. w.watches.members k (In-append_left k w.seen w.ahead i)))
 
 -- where a watch has left a list, the last clause of another list is watched still
 pub tail_after : (s s₁ : Clauses) (t : Trail) (z to : ℤ) (before id fuel goes : ℕ) (w : IsWalk s t z before id fuel) → to ≢ z → IsLiteral s.vars to → ((node : ℕ) → IsNode s z before node → Unlinks s s₁ z node goes)
@@ -185,14 +185,14 @@ module _ (s s₁ s₂ s₃ : Clauses) (t : Trail) (z to other : ℤ) (before id 
   linked : IsLinked s z (w.seen ++ (2 * id + place) ∷ (stands_at (next_of s) id w.ahead some w.at_is).1)
   linked = subst (λ (ns : List ℕ). IsLinked s z ns) whole w.linked
 
-  all : AreWatchesOf s z (w.seen ++ (2 * id + place) ∷ (stands_at (next_of s) id w.ahead some w.at_is).1)
-  all = subst (λ (ns : List ℕ). AreWatchesOf s z ns) whole w.watches
+  all : AreWatchesOf s w.kept.hung.parked z (w.seen ++ (2 * id + place) ∷ (stands_at (next_of s) id w.ahead some w.at_is).1)
+  all = subst (λ (ns : List ℕ). AreWatchesOf s w.kept.hung.parked z ns) whole w.watches
 
   leaves : Unlinks s s₁ z (last_of 0 w.seen) (next_of s (2 * id + place))
   leaves = subst (λ (g : ℕ). Unlinks s s₁ z (last_of 0 w.seen) g) goes_is (un (last_of 0 w.seen) (walk_before s t z before id (suc fuel) w))
 
-  comes : Appends s₁ s₂ to (last_of 0 (w.kept.listed to can.literal).nodes) (2 * id + place)
-  comes = on (last_of 0 (w.kept.listed to can.literal).nodes) (tail_node s s₁ t 0 z to w.kept can.literal not_z leaves.tails un_rest)
+  comes : Appends s₁ s₂ to (last_of 0 (w.kept.hung.listed to can.literal).nodes) (2 * id + place)
+  comes = on (last_of 0 (w.kept.hung.listed to can.literal).nodes) (tail_node s s₁ t 0 z to w.kept can.literal not_z leaves.tails un_rest)
 
   was_watch : (k : ℕ) → IsWatch s₃ k → IsWatch s k
   was_watch k i e = elim (cases_eq (k / 2) id) [
@@ -215,17 +215,49 @@ module _ (s s₁ s₂ s₃ : Clauses) (t : Trail) (z to other : ℤ) (before id 
   none_some : ◌≡◌ {A = Option (ℤ × ℤ)} (Some pair) None → ⊥
   none_some e = cc
 
-  kept : IsKept s₃ t
+  here_z : watch_of s (2 * id + place) ≡ z
+  here_z = all.members (2 * id + place) (In-append_right (2 * id + place) w.seen ((2 * id + place) ∷ (stands_at (next_of s) id w.ahead some w.at_is).1) (inl refl))
+
+  -- the literal is false, so no watch is parked under it
+  z_not_true : ¬ In z (trues t.entries)
+  z_not_true i = trail_consistent t.vars t.entries trail z i (now_false s t z before id (suc fuel) w some)
+
+  mate_hangs : (k : ℕ) → IsPair k (2 * id + place) → w.kept.hung.parked k ≡ true → ⊥
+  mate_hangs k p is = z_not_true (subst (λ (l : ℤ). In l (trues t.entries)) here_z (w.kept.hung.satisfied k (2 * id + place) is p))
+
+  parked_some : (k : ℕ) → w.kept.hung.parked k ≡ true → 0 < k / 2
+  parked_some k p = (w.kept.hung.watches.id k (w.kept.hung.parked_watch k p)).from_one
+
+  parked_true : (a b : ℕ) → w.kept.hung.parked a ≡ true → IsPair a b → In (watch_of s₃ b) (trues t.entries)
+  parked_true a b p q = elim (cases_eq b (2 * id + place)) [
+    | inl e ↦ absurd (mate_hangs a (subst (λ (x : ℕ). IsPair a x) e q) p)
+    | inr d ↦ subst (λ (l : ℤ). In l (trues t.entries)) (sym (old b d)) (w.kept.hung.satisfied a b p q)
+  ]
+
+  is_still : (k : ℕ) → IsWatch s k → IsWatch s₃ k
+  is_still k i e = elim (cases_eq (k / 2) id) [
+    | inl half_k ↦ none_some (sym set ∙ ap (watched_at s₃) (sym half_k) ∙ e)
+    | inr far ↦ i (sym (watched_rest s s₁ s₂ (k / 2) un_rest on_rest) ∙ sym (others (k / 2) far) ∙ e)
+  ]
+
+  abbrev kept : IsKept s₃ t
   kept = record {
     vars = vars_are ∙ w.kept.vars;
     done = w.kept.done;
     fresh = w.kept.fresh;
-    listed = λ lit is. all_listed s s₁ s₂ s₃ t.entries t.done t.vars z to other (2 * id + place) 0 w.seen (stands_at (next_of s) id w.ahead some w.at_is).1 w.kept.watches w.kept.listed w.literal can.literal not_z linked all leaves un_rest comes on_rest new old last_rest was_watch lit
-        (subst (λ (v : ℕ). IsLiteral v lit) vars_are is);
-    watches = moved_watches s s₁ s₂ s₃ t.entries t.done t.vars z to other (2 * id + place) 0 w.seen (stands_at (next_of s) id w.ahead some w.at_is).1 w.kept.watches w.kept.listed w.literal can.literal not_z linked all leaves un_rest comes on_rest new old last_rest was_watch trail
-        (now_false s t z before id (suc fuel) w some) can.not_false
-        (let half_m : (2 * id + place) / 2 ≡ id = omega (arith, two) in subst (λ (i : ℕ). In to (clause_at s.clauses i).lits) (sym half_m) can.stands)
-        (λ k p e. let same = p.same in let differ = p.differ in can.differs (e ∙ mate_was k (omega (arith, same, two)) (λ f. differ (sym f))));
+    hung = record {
+      parked = w.kept.hung.parked;
+      under = λ lit is. parked_left s s₁ s₂ s₃ t.entries t.done t.vars w.kept.hung.parked z to other (2 * id + place) 0 w.seen (stands_at (next_of s) id w.ahead some w.at_is).1 w.kept.hung.watches w.kept.hung.listed w.literal can.literal not_z linked all leaves un_rest comes on_rest new old last_rest was_watch parked_some mate_hangs lit
+          (w.kept.hung.under lit (subst (λ (v : ℕ). IsLiteral v lit) vars_are is));
+      satisfied = parked_true;
+      parked_watch = λ k p. is_still k (w.kept.hung.parked_watch k p);
+      listed = λ lit is. all_listed s s₁ s₂ s₃ t.entries t.done t.vars w.kept.hung.parked z to other (2 * id + place) 0 w.seen (stands_at (next_of s) id w.ahead some w.at_is).1 w.kept.hung.watches w.kept.hung.listed w.literal can.literal not_z linked all leaves un_rest comes on_rest new old last_rest was_watch lit
+          (subst (λ (v : ℕ). IsLiteral v lit) vars_are is);
+      watches = moved_watches s s₁ s₂ s₃ t.entries t.done t.vars w.kept.hung.parked z to other (2 * id + place) 0 w.seen (stands_at (next_of s) id w.ahead some w.at_is).1 w.kept.hung.watches w.kept.hung.listed w.literal can.literal not_z linked all leaves un_rest comes on_rest new old last_rest was_watch trail
+          (now_false s t z before id (suc fuel) w some) can.not_false
+          (let half_m : (2 * id + place) / 2 ≡ id = omega (arith, two) in subst (λ (i : ℕ). In to (clause_at s.clauses i).lits) (sym half_m) can.stands)
+          (λ k p e. let same = p.same in let differ = p.differ in can.differs (e ∙ mate_was k (omega (arith, same, two)) (λ f. differ (sym f))));
+    };
     settled = λ none i ne is live idle. elim (cases_eq i id) [
       | inl e ↦ absurd (none_some (sym set ∙ ap (watched_at s₃) (sym e) ∙ idle))
       | inr far ↦
@@ -249,11 +281,11 @@ module _ (s s₁ s₂ s₃ : Clauses) (t : Trail) (z to other : ℤ) (before id 
         now = w.now;
         seen = w.seen;
         ahead = (stands_at (next_of s) id w.ahead some w.at_is).1;
-        linked = list_left s s₁ s₂ s₃ t.entries t.done t.vars z to other (2 * id + place) 0 w.seen (stands_at (next_of s) id w.ahead some w.at_is).1 w.kept.watches w.kept.listed w.literal can.literal not_z linked all leaves un_rest comes on_rest new old last_rest was_watch;
-        watches = watches_left s s₁ s₂ s₃ t.entries t.done t.vars z to other (2 * id + place) 0 w.seen (stands_at (next_of s) id w.ahead some w.at_is).1 w.kept.watches w.kept.listed w.literal can.literal not_z linked all leaves un_rest comes on_rest new old last_rest was_watch;
+        linked = list_left s s₁ s₂ s₃ t.entries t.done t.vars w.kept.hung.parked z to other (2 * id + place) 0 w.seen (stands_at (next_of s) id w.ahead some w.at_is).1 w.kept.hung.watches w.kept.hung.listed w.literal can.literal not_z linked all leaves un_rest comes on_rest new old last_rest was_watch;
+        watches = watches_left s s₁ s₂ s₃ t.entries t.done t.vars w.kept.hung.parked z to other (2 * id + place) 0 w.seen (stands_at (next_of s) id w.ahead some w.at_is).1 w.kept.hung.watches w.kept.hung.listed w.literal can.literal not_z linked all leaves un_rest comes on_rest new old last_rest was_watch;
         before_is = w.before_is;
         at_is = subst (λ (g : ℕ). IsChain (next_of s₃) g (stands_at (next_of s) id w.ahead some w.at_is).1) (sym goes_is)
-            (chain_left s s₁ s₂ s₃ t.entries t.done t.vars z to other (2 * id + place) 0 w.seen (stands_at (next_of s) id w.ahead some w.at_is).1 w.kept.watches w.kept.listed w.literal can.literal not_z linked all leaves un_rest comes on_rest new old last_rest was_watch);
+            (chain_left s s₁ s₂ s₃ t.entries t.done t.vars w.kept.hung.parked z to other (2 * id + place) 0 w.seen (stands_at (next_of s) id w.ahead some w.at_is).1 w.kept.hung.watches w.kept.hung.listed w.literal can.literal not_z linked all leaves un_rest comes on_rest new old last_rest was_watch);
         shielded = λ a b p i. seen_true a b p i;
         enough = omega (arith, enough, long);
       }
@@ -262,7 +294,6 @@ module _ (s s₁ s₂ s₃ : Clauses) (t : Trail) (z to other : ℤ) (before id 
       seen_true a b p i = elim (cases_eq b (2 * id + place)) [
         | inl e ↦
             let on_z : In (watch_of s b) (trues t.entries) = w.shielded a b p i in
-            let here_z : watch_of s (2 * id + place) ≡ z = all.members (2 * id + place) (In-append_right (2 * id + place) w.seen ((2 * id + place) ∷ (stands_at (next_of s) id w.ahead some w.at_is).1) (inl refl)) in
             absurd (trail_consistent t.vars t.entries trail z (subst (λ (l : ℤ). In l (trues t.entries)) (ap (watch_of s) e ∙ here_z) on_z) (now_false s t z before id (suc fuel) w some))
         | inr d ↦ subst (λ (l : ℤ). In l (trues t.entries)) (sym (old b d)) (w.shielded a b p i)
       ]

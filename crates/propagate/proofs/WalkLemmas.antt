@@ -1,6 +1,6 @@
 -- The walk along the list of a literal that has become false.
 use Rattle.std.proofs.Common.{◌≡◌, ◌≢◌, ◌⊎◌, ℕ, suc, ◌+◌, ◌-◌, ◌*◌, ◌/◌, ◌%◌, ◌<◌, ◌≤◌, List, [], ◌∷◌, ◌++◌, length, Option, Some, None, refl, sym, ◌∙◌, ap, subst, inl, inr, arith, true}
-use Rattle.std.specs.Prelude.{ℤ, neg_ℤ, pos}
+use Rattle.std.specs.Prelude.{ℤ, neg_ℤ, pos, false}
 use Rattle.std.proofs.lemmas.Bool.{cases_eq}
 use Rattle.std.proofs.Math.IntN.{neg_ℤ-neg_ℤ}
 use Rattle.sat_base.specs.Members.{In}
@@ -14,7 +14,7 @@ use Rattle.trail_book.proofs.PlaceLemmas.{oldest_skip}
 use Rattle.propagate.specs.Lists.{IsPair, IsApart, IsChain, last_of}
 use Rattle.propagate.specs.Watches.{IsLinked, AreWatchesOf, IsWatch, AreWatches, IsKept}
 use Rattle.propagate.specs.Walk.{IsNode, IsFalseWatch, IsWalk}
-use Rattle.propagate.proofs.ListLemmas.{last_in, last_append, append_cons, AreNodes}
+use Rattle.propagate.proofs.ListLemmas.{last_in, last_append, append_cons, AreNodes, bool_cases}
 use Rattle.propagate.proofs.LevelLemmas.{oldest_in, waits_at_top}
 use Rattle.propagate.proofs.KeptLemmas.{kept_assign}
 
@@ -104,13 +104,13 @@ module _ (s : Clauses) (t : Trail) (z : ℤ) (before id fuel : ℕ) (w : IsWalk 
   watches = w.watches.members node here
 
   pub is_node : IsNode s z id node
-  is_node = subst (λ (i : ℕ). IsNode s z i node) half (node_of s t.entries t.done z node w.kept.watches w.literal watches)
+  is_node = subst (λ (i : ℕ). IsNode s z i node) half (node_of s t.entries t.done z node w.kept.hung.watches w.literal watches)
 
   pub at_id : IsId s.clauses id
-  at_id = subst (λ (i : ℕ). IsId s.clauses i) half (w.kept.watches.id node (is_watch s z node w.literal watches))
+  at_id = subst (λ (i : ℕ). IsId s.clauses i) half (w.kept.hung.watches.id node (is_watch s z node w.literal watches))
 
   pub at_live : (clause_at s.clauses id).live ≡ true
-  at_live = subst (λ (i : ℕ). (clause_at s.clauses i).live ≡ true) half (w.kept.watches.live node (is_watch s z node w.literal watches))
+  at_live = subst (λ (i : ℕ). (clause_at s.clauses i).live ≡ true) half (w.kept.hung.watches.live node (is_watch s z node w.literal watches))
 
   pub at_watched : watched_at s id ≢ None
   at_watched = watched_some s node id half (is_watch s z node w.literal watches)
@@ -131,9 +131,9 @@ module _ (s : Clauses) (t : Trail) (z : ℤ) (before id fuel : ℕ) (w : IsWalk 
       let wm = other_watch s n m p wn in
       let half_m : m / 2 ≡ id = omega arith in
       record {
-        stands = subst (λ (l : ℤ). In l (clause_at s.clauses id).lits) watches (subst (λ (i : ℕ). In (watch_of s n) (clause_at s.clauses i).lits) half (w.kept.watches.stands n wn));
-        other_stands = subst (λ (l : ℤ). In l (clause_at s.clauses id).lits) (sym is) (subst (λ (i : ℕ). In (watch_of s m) (clause_at s.clauses i).lits) half_m (w.kept.watches.stands m wm));
-        differ = λ f. w.kept.watches.differ n m p wn (watches ∙ f ∙ is);
+        stands = subst (λ (l : ℤ). In l (clause_at s.clauses id).lits) watches (subst (λ (i : ℕ). In (watch_of s n) (clause_at s.clauses i).lits) half (w.kept.hung.watches.stands n wn));
+        other_stands = subst (λ (l : ℤ). In l (clause_at s.clauses id).lits) (sym is) (subst (λ (i : ℕ). In (watch_of s m) (clause_at s.clauses i).lits) half_m (w.kept.hung.watches.stands m wm));
+        differ = λ f. w.kept.hung.watches.differ n m p wn (watches ∙ f ∙ is);
         is_false = now_false;
       }
 
@@ -158,7 +158,7 @@ advance s t z before id fuel w some other =
       seen = w.seen ++ n ∷ [];
       ahead = rest;
       linked = subst (λ (ns : List ℕ). IsLinked s z ns) whole w.linked;
-      watches = subst (λ (ns : List ℕ). AreWatchesOf s z ns) whole w.watches;
+      watches = subst (λ (ns : List ℕ). AreWatchesOf s w.kept.hung.parked z ns) whole w.watches;
       before_is = sym half ∙ ap (λ (k : ℕ). k / 2) (sym (last_append 0 w.seen n []));
       at_is = chain.1;
       shielded = λ k m p i. elim (In-append_cases k w.seen (n ∷ []) i) [
@@ -198,7 +198,7 @@ walk_assign s t t' z before id fuel lit reason entries vars done w =
 pub begin_walk : (s : Clauses) (t : Trail) (z : ℤ) (fuel : ℕ) → IsKept s t → s.false_id ≡ 0 → (is : IsLiteral s.vars z) → t.done < length t.entries → trues (oldest (t.done + 1) t.entries) ≡ neg_ℤ z ∷ trues (oldest t.done t.entries)
     → ((ns : List ℕ) → AreNodes ns → IsApart ns → ((n : ℕ) → In n ns → IsId s.clauses (n / 2)) → length ns ≤ fuel) → IsWalk s t z 0 (head_of s z) fuel
 begin_walk s t z fuel k none is waiting now fits =
-    let l = k.listed z is in
+    let l = k.hung.listed z is in
     record {
       kept = k;
       none = none;
@@ -212,7 +212,7 @@ begin_walk s t z fuel k none is waiting now fits =
       before_is = refl;
       at_is = l.linked.chain;
       shielded = λ n m p i. absurd i;
-      enough = fits l.nodes (are_nodes s t.entries t.done z l.nodes k.watches is l.watches.members) l.linked.apart (λ n i. k.watches.id n (is_watch s z n is (l.watches.members n i)));
+      enough = fits l.nodes (are_nodes s t.entries t.done z l.nodes k.hung.watches is l.watches.members) l.linked.apart (λ n i. k.hung.watches.id n (is_watch s z n is (l.watches.members n i)));
     }
 
 -- while there is a clause, there is a step left
@@ -223,15 +223,22 @@ some_left s t z before id fuel some w =
     let enough = w.enough in
     omega (arith, long, enough)
 
-no_more : (s : Clauses) (t : Trail) (z : ℤ) (before fuel : ℕ) (w : IsWalk s t z before 0 fuel) → (n : ℕ) → watch_of s n ≡ z → In n w.seen
-no_more s t z before fuel w n is = at w.ahead w.at_is w.watches
+no_more : (s : Clauses) (t : Trail) (z : ℤ) (before fuel : ℕ) (w : IsWalk s t z before 0 fuel) → (n : ℕ) → watch_of s n ≡ z → w.kept.hung.parked n ≡ false → In n w.seen
+no_more s t z before fuel w n is hangs = at w.ahead w.at_is w.watches
   where
-    at : (ahead : List ℕ) → IsChain (next_of s) 0 ahead → AreWatchesOf s z (w.seen ++ ahead) → In n w.seen
-    at [] c all = elim (In-append_cases n w.seen [] (all.complete n is)) [ inl i ↦ i | inr i ↦ absurd i ]
+    at : (ahead : List ℕ) → IsChain (next_of s) 0 ahead → AreWatchesOf s w.kept.hung.parked z (w.seen ++ ahead) → In n w.seen
+    at [] c all = elim (In-append_cases n w.seen [] (all.complete n is hangs)) [ inl i ↦ i | inr i ↦ absurd i ]
     at (m ∷ ms) c all =
         let w_m = all.members m (In-append_right m w.seen (m ∷ ms) (inl refl)) in
-        let low = (w.kept.watches.id m (is_watch s z m w.literal w_m)).from_one in
+        let low = (w.kept.hung.watches.id m (is_watch s z m w.literal w_m)).from_one in
         absurd (omega (arith, c.0, low))
+
+-- the other watch of a clause that watches the literal is true: it was seen, or the watch is parked under it
+satisfied_at : (s : Clauses) (t : Trail) (z : ℤ) (before fuel : ℕ) (w : IsWalk s t z before 0 fuel) (n m : ℕ) → IsPair n m → watch_of s n ≡ z → In (watch_of s m) (trues t.entries)
+satisfied_at s t z before fuel w n m p is = elim (bool_cases (w.kept.hung.parked n)) [
+  | inl parked ↦ w.kept.hung.satisfied n m parked p
+  | inr hangs ↦ w.shielded n m p (no_more s t z before fuel w n is hangs)
+]
 
 -- at its end the literal has been propagated
 pub propagated : (s : Clauses) (t : Trail) (z : ℤ) (before fuel : ℕ) → IsTrail t.vars t.entries → IsWalk s t z before 0 fuel → IsKept s (record t { done = t.done + 1 })
@@ -242,19 +249,25 @@ propagated s t z before fuel trail w =
       vars = k.vars;
       done = omega (arith, waiting);
       fresh = λ level below. let old = k.fresh level below in omega (arith, old);
-      listed = k.listed;
-      watches = record {
-        id = k.watches.id;
-        live = k.watches.live;
-        stands = k.watches.stands;
-        differ = k.watches.differ;
-        guarded = λ n m p wn was level i. elim (in_head (neg_ℤ (watch_of s n)) (trues (oldest t.done t.entries)) (neg_ℤ z) (trues (oldest (t.done + 1) t.entries)) w.now was) [
-          | inl new ↦
-              let same : watch_of s n ≡ z = sym (neg_ℤ-neg_ℤ (watch_of s n)) ∙ ap neg_ℤ new ∙ neg_ℤ-neg_ℤ z in
-              let all = waits_at_top t.vars t.done t.entries (neg_ℤ z) trail w.now k.fresh level (subst (λ (l : ℤ). In l (trues (keep level t.entries))) new i) in
-              subst (λ (xs : List Entry). In (watch_of s m) (trues xs)) (sym all) (w.shielded n m p (no_more s t z before fuel w n same))
-          | inr old ↦ k.watches.guarded n m p wn old level i
-        ];
+      hung = record {
+        parked = k.hung.parked;
+        listed = k.hung.listed;
+        under = k.hung.under;
+        satisfied = k.hung.satisfied;
+        parked_watch = k.hung.parked_watch;
+        watches = record {
+          id = k.hung.watches.id;
+          live = k.hung.watches.live;
+          stands = k.hung.watches.stands;
+          differ = k.hung.watches.differ;
+          guarded = λ n m p wn was level i. elim (in_head (neg_ℤ (watch_of s n)) (trues (oldest t.done t.entries)) (neg_ℤ z) (trues (oldest (t.done + 1) t.entries)) w.now was) [
+            | inl new ↦
+                let same : watch_of s n ≡ z = sym (neg_ℤ-neg_ℤ (watch_of s n)) ∙ ap neg_ℤ new ∙ neg_ℤ-neg_ℤ z in
+                let all = waits_at_top t.vars t.done t.entries (neg_ℤ z) trail w.now k.fresh level (subst (λ (l : ℤ). In l (trues (keep level t.entries))) new i) in
+                subst (λ (xs : List Entry). In (watch_of s m) (trues xs)) (sym all) (satisfied_at s t z before fuel w n m p same)
+            | inr old ↦ k.hung.watches.guarded n m p wn old level i
+          ];
+        };
       };
       settled = k.settled;
       false_clause = k.false_clause;

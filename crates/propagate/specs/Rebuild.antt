@@ -3,7 +3,7 @@ use Rattle.std.specs.Prelude.{◌≡◌, ◌≢◌, ℕ, ◌/◌, ◌<◌, ◌�
 use Rattle.sat_base.specs.Literals.{IsLiteral}
 use Rattle.sat_base.specs.Members.{In}
 use Rattle.clause_store.specs.Clauses.{Clauses, clause_at, IsId}
-use Rattle.clause_store.specs.Links.{watched_at, watch_of}
+use Rattle.clause_store.specs.Links.{watched_at, watch_of, park_of}
 use Rattle.trail_book.specs.Trail.{Trail, top, keep}
 use Rattle.propagate.specs.Lists.{IsPair}
 use Rattle.propagate.specs.Watches.{IsLinked, IsGuarded, IsWatch, IsSettled, IsFalseAtRoot}
@@ -28,8 +28,9 @@ pub record IsListedTo (store : Clauses) (bound : ℕ) (lit : ℤ) : Type 0 where
   pub below : (n : ℕ) → In n nodes → n < bound
   pub complete : (n : ℕ) → n < bound → watch_of store n ≡ lit → In n nodes
 
--- the lists are built anew of the watches below a number, which are of live clauses
+-- the lists are built anew of the watches below a number, which are of live clauses, and none is parked
 pub record IsRelisted (store : Clauses) (trail : Trail) (bound : ℕ) : Type 0 where
   pub stale : IsStale store trail
   pub listed : (lit : ℤ) → IsLiteral store.vars lit → IsListedTo store bound lit
+  pub parks : (lit : ℤ) → IsLiteral store.vars lit → park_of store lit ≡ 0
   pub live : (n : ℕ) → n < bound → IsWatch store n → (clause_at store.clauses (n / 2)).live ≡ true

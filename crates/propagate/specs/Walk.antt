@@ -1,13 +1,13 @@
 -- The steps of a walk along the list of a literal that is false.
-use Rattle.std.specs.Prelude.{◌≡◌, ◌≢◌, ℕ, ◌+◌, ◌/◌, ◌<◌, ◌≤◌, List, ◌∷◌, ◌++◌, length, ℤ, neg_ℤ}
+use Rattle.std.specs.Prelude.{◌≡◌, ◌≢◌, ℕ, ◌+◌, ◌/◌, ◌<◌, ◌≤◌, Bool, true, List, ◌∷◌, ◌++◌, length, ℤ, neg_ℤ}
 use Rattle.sat_base.specs.Literals.{IsLiteral}
 use Rattle.sat_base.specs.Members.{In}
 use Rattle.sat_base.specs.Units.{AllFalse, AllFalseBut, IsUnset}
 use Rattle.clause_store.specs.Clauses.{Clauses}
-use Rattle.clause_store.specs.Links.{watch_of, next_of, head_of, tail_of}
+use Rattle.clause_store.specs.Links.{watch_of, next_of, head_of, tail_of, park_of}
 use Rattle.trail_book.specs.Trail.{Trail, trues, oldest}
 use Rattle.propagate.specs.Lists.{IsPair, IsChain, last_of}
-use Rattle.propagate.specs.Watches.{IsLinked, AreWatchesOf, IsKept}
+use Rattle.propagate.specs.Watches.{IsLinked, AreWatchesOf, IsListed, AreParked, IsWatch, AreWatches, IsKept}
 use Rattle.propagate.specs.declared.visit.Finding.{Finding}
 use Rattle.propagate.specs.declared.visit.Finding.TheVariants as finding
 
@@ -21,6 +21,7 @@ pub record CanWatch (vars : ℕ) (trues clause : List ℤ) (other to : ℤ) : Ty
 -- what a look at a clause tells, of which one watched literal is false and the other is this one
 abbrev pub Visits : ℕ → List ℤ → List ℤ → ℤ → Finding → Type 0
 Visits vars trues clause other finding.Satisfied = In other trues
+Visits vars trues clause other finding.Settled = In other trues
 Visits vars trues clause other (finding.Moved to position) = CanWatch vars trues clause other to
 Visits vars trues clause other finding.Forcing = IsUnset trues other × AllFalseBut trues clause other
 Visits vars trues clause other finding.Falsified = AllFalse trues clause
@@ -69,6 +70,26 @@ pub record Appends (old new : Clauses) (lit : ℤ) (node n : ℕ) : Type 0 where
   pub tail : tail_of new lit ≡ n / 2
   pub tails : (y : ℤ) → y ≢ lit → tail_of new y ≡ tail_of old y
 
+-- the watch `n` is the first one that is parked under the literal
+pub record Parks (old new : Clauses) (lit : ℤ) (n : ℕ) : Type 0 where
+  pub first : park_of new lit ≡ n / 2
+  pub parks : (y : ℤ) → y ≢ lit → park_of new y ≡ park_of old y
+  pub next : next_of new n ≡ park_of old lit
+  pub nexts : (m : ℕ) → m ≢ n → next_of new m ≡ next_of old m
+
+-- what was parked under the literal, from this clause on, is still to come back to the lists
+pub record IsReturning (store : Clauses) (trail : Trail) (lit : ℤ) (at fuel : ℕ) : Type 0 where
+  pub literal : IsLiteral store.vars lit
+  pub parked : ℕ → Bool
+  pub listed : (y : ℤ) → IsLiteral store.vars y → IsListed store parked y
+  pub under : (y : ℤ) → IsLiteral store.vars y → y ≢ lit → AreParked store parked y (park_of store y)
+  pub here : AreParked store parked lit at
+  pub taken : park_of store lit ≡ 0
+  pub satisfied : (n m : ℕ) → parked n ≡ true → IsPair n m → In (watch_of store m) (trues trail.entries)
+  pub parked_watch : (n : ℕ) → parked n ≡ true → IsWatch store n
+  pub watches : AreWatches store trail.entries trail.done
+  pub enough : length here.nodes ≤ fuel
+
 -- the walk along the list of the literal has seen these watches, behind which the others follow; the literal is false
 -- and the next one to be propagated, and the other watched literal is true wherever a watch was seen
 pub record IsWalk (store : Clauses) (trail : Trail) (lit : ℤ) (before at fuel : ℕ) : Type 0 where
@@ -80,7 +101,7 @@ pub record IsWalk (store : Clauses) (trail : Trail) (lit : ℤ) (before at fuel 
   pub seen : List ℕ
   pub ahead : List ℕ
   pub linked : IsLinked store lit (seen ++ ahead)
-  pub watches : AreWatchesOf store lit (seen ++ ahead)
+  pub watches : AreWatchesOf store kept.hung.parked lit (seen ++ ahead)
   pub before_is : before ≡ last_of 0 seen / 2
   pub at_is : IsChain (next_of store) at ahead
   pub shielded : (n m : ℕ) → IsPair n m → In n seen → In (watch_of store m) (trues trail.entries)

@@ -1,10 +1,13 @@
 -- What a solver keeps of its watches between its steps (two watched literals: Chaff, Moskewicz and others 2001).
-use Rattle.std.specs.Prelude.{◌≡◌, ◌≢◌, ℕ, ◌/◌, ◌<◌, ◌≤◌, true, List, length, ℤ, neg_ℤ, None}
+--
+-- A watch hangs at one place: in the list of its literal, or, where it is parked, under the other watched literal of its
+-- clause, which is true.
+use Rattle.std.specs.Prelude.{◌≡◌, ◌≢◌, ℕ, ◌/◌, ◌<◌, ◌≤◌, Bool, true, false, List, length, ℤ, neg_ℤ, None}
 use Rattle.sat_base.specs.Literals.{IsLiteral}
 use Rattle.sat_base.specs.Members.{In}
 use Rattle.sat_base.specs.Database.{StoredClause}
 use Rattle.clause_store.specs.Clauses.{Clauses, clause_at, IsId}
-use Rattle.clause_store.specs.Links.{watched_at, watch_of, next_of, head_of, tail_of}
+use Rattle.clause_store.specs.Links.{watched_at, watch_of, next_of, head_of, tail_of, park_of}
 use Rattle.trail_book.specs.declared.entry.Entry.{Entry}
 use Rattle.trail_book.specs.Trail.{Trail, trues, top, keep, oldest}
 use Rattle.propagate.specs.Lists.{IsPair, IsApart, IsChain, last_of}
@@ -15,16 +18,30 @@ pub record IsLinked (store : Clauses) (lit : ℤ) (nodes : List ℕ) : Type 0 wh
   pub end : tail_of store lit ≡ last_of 0 nodes / 2
   pub apart : IsApart nodes
 
--- these are the watches of the literal
-pub record AreWatchesOf (store : Clauses) (lit : ℤ) (nodes : List ℕ) : Type 0 where
+-- these are the watches of the literal that are not parked
+pub record AreWatchesOf (store : Clauses) (parked : ℕ → Bool) (lit : ℤ) (nodes : List ℕ) : Type 0 where
   pub members : (n : ℕ) → In n nodes → watch_of store n ≡ lit
-  pub complete : (n : ℕ) → watch_of store n ≡ lit → In n nodes
+  pub unparked : (n : ℕ) → In n nodes → parked n ≡ false
+  pub complete : (n : ℕ) → watch_of store n ≡ lit → parked n ≡ false → In n nodes
 
--- the list of a literal has each watch of that literal once, and no other
-pub record IsListed (store : Clauses) (lit : ℤ) : Type 0 where
+-- the list of a literal has each watch of that literal that is not parked once, and no other
+pub record IsListed (store : Clauses) (parked : ℕ → Bool) (lit : ℤ) : Type 0 where
   pub nodes : List ℕ
   pub linked : IsLinked store lit nodes
-  pub watches : AreWatchesOf store lit nodes
+  pub watches : AreWatchesOf store parked lit nodes
+
+-- the watch is parked, and the other one of its clause is that of the literal
+pub record IsParkedUnder (store : Clauses) (parked : ℕ → Bool) (lit : ℤ) (n : ℕ) : Type 0 where
+  pub is_parked : parked n ≡ true
+  pub under : (m : ℕ) → IsPair n m → watch_of store m ≡ lit
+
+-- from the link one comes to each watch that is parked under the literal once, and to no other
+pub record AreParked (store : Clauses) (parked : ℕ → Bool) (lit : ℤ) (link : ℕ) : Type 0 where
+  pub nodes : List ℕ
+  pub chain : IsChain (next_of store) link nodes
+  pub apart : IsApart nodes
+  pub members : (n : ℕ) → In n nodes → IsParkedUnder store parked lit n
+  pub complete : (n : ℕ) → IsParkedUnder store parked lit n → In n nodes
 
 -- where the literal is false and was propagated, the other is true, at a level that is not above it: at each level up to which
 -- the one is false already, the other is true already
@@ -43,6 +60,15 @@ pub record AreWatches (store : Clauses) (es : List Entry) (done : ℕ) : Type 0 
   pub differ : (n m : ℕ) → IsPair n m → IsWatch store n → watch_of store n ≢ watch_of store m
   pub guarded : (n m : ℕ) → IsPair n m → IsWatch store n → IsGuarded es done (watch_of store n) (watch_of store m)
 
+-- each watch hangs at one place, and where it is parked the literal that it is parked under is true
+pub record AreHung (store : Clauses) (trail : Trail) : Type 0 where
+  pub parked : ℕ → Bool
+  pub listed : (lit : ℤ) → IsLiteral store.vars lit → IsListed store parked lit
+  pub under : (lit : ℤ) → IsLiteral store.vars lit → AreParked store parked lit (park_of store lit)
+  pub satisfied : (n m : ℕ) → parked n ≡ true → IsPair n m → In (watch_of store m) (trues trail.entries)
+  pub parked_watch : (n : ℕ) → parked n ≡ true → IsWatch store n
+  pub watches : AreWatches store trail.entries trail.done
+
 -- some literal of the clause is true at level 0
 abbrev pub IsSettled : List StoredClause → List Entry → ℕ → Type 0
 IsSettled db es id = (lit : ℤ) × In lit (clause_at db id).lits × In lit (trues (keep 0 es))
@@ -59,8 +85,7 @@ pub record IsKeptBut (store : Clauses) (trail : Trail) (but : ℕ) : Type 0 wher
   -- what has not been propagated is of the top level: what is of a level below it has been
   pub done : trail.done ≤ length trail.entries
   pub fresh : (level : ℕ) → level < top trail.entries → length (keep level trail.entries) ≤ trail.done
-  pub listed : (lit : ℤ) → IsLiteral store.vars lit → IsListed store lit
-  pub watches : AreWatches store trail.entries trail.done
+  pub hung : AreHung store trail
   -- a live clause that is not watched is settled, unless a clause is kept that is false at level 0
   pub settled : store.false_id ≡ 0 → (id : ℕ) → id ≢ but → IsId store.clauses id → (clause_at store.clauses id).live ≡ true → watched_at store id ≡ None → IsSettled store.clauses trail.entries id
   pub false_clause : store.false_id ≢ 0 → IsFalseAtRoot store.clauses trail.entries store.false_id

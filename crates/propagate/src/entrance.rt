@@ -12,14 +12,15 @@ ghost use Rattle.std.specs.Prelude.{◌≡◌, ◌≢◌, ◌⊎◌, ℕ, ℤ, �
 ghost use Rattle.sat_base.specs.Literals.{AreLiterals, IsLiteral};
 ghost use Rattle.sat_base.specs.Members.{In};
 ghost use Rattle.sat_base.specs.Units.{AllFalse, AllFalseBut};
-ghost use Rattle.clause_store.specs.Clauses.{Clauses, clause_at, IsId};
+ghost use Rattle.clause_store.specs.Clauses.{clause_at, IsId};
 ghost use Rattle.clause_store.specs.Links.{watched_at};
 ghost use Rattle.trail_book.specs.Trail.{trues, top, keep, IsTrail};
 ghost use Rattle.propagate.specs.Propagation.{Grows};
-ghost use Rattle.propagate.specs.Watches.{IsGuarded, IsKeptBut, IsKept, KeepsClauses};
+ghost use Rattle.propagate.specs.Watches.{AreHung, IsGuarded, IsKeptBut, IsKept, KeepsClauses};
 ghost use Rattle.propagate.specs.Entrance.{IsUnwatched, IsLooseBelow, StaysWhereOpen, IsLast, IsForcedAt};
 
 use crate::lists::append;
+use crate::parking::back_to;
 use crate::visit::other_open;
 use clause_store::Store;
 use sat_base::Lit;
@@ -61,19 +62,23 @@ pub fn enter(store: &mut Store, trail: &mut Trail, id: u64, lits: &[Lit])
     ensures vars { trail.new.vars ≡ trail.old.vars }
     ensures trail { IsTrail trail.new.vars trail.new.entries }
 {
-    match reopen(trail, lits) {
+    match reopen(store, trail, lits) {
         None => store.set_false_id(Some(id)),
         Some(first) => enter_open(store, trail, id, lits, first),
     }
 }
 
 // A literal of the clause that is not false. Where all are, it goes back below the level at which the last became so.
-fn reopen(trail: &mut Trail, lits: &[Lit]) -> Option<Lit>
-    requires { AreLiterals trail.old.vars lits.now }
+fn reopen(store: &mut Store, trail: &mut Trail, lits: &[Lit]) -> Option<Lit>
+    requires literals { AreLiterals trail.old.vars lits.now }
+    requires vars { store.old.vars ≡ trail.old.vars }
+    requires hung { AreHung store.old trail.old }
     ensures some { IfSome result (λ lit. In lit lits.now × (¬ In (neg_ℤ lit) (trues trail.new.entries))) }
     ensures none { IfNone result ((top trail.new.entries ≡ 0) × AllFalse (trues trail.new.entries) lits.now) }
     ensures entries { trail.new.entries ≡ keep (top trail.new.entries) trail.old.entries }
-    ensures kept { (store : Clauses) → (but : ℕ) → IsKeptBut store trail.old but → IsKeptBut store trail.new but }
+    ensures kept { (but : ℕ) → IsKeptBut store.old trail.old but → IsKeptBut store.new trail.new but }
+    ensures clauses { KeepsClauses store.old store.new }
+    ensures watched { store.new.watched ≡ store.old.watched }
     ensures stays { StaysWhereOpen trail.old.entries trail.new.entries lits.now }
     ensures vars { trail.new.vars ≡ trail.old.vars }
     ensures trail { IsTrail trail.new.vars trail.new.entries }
@@ -84,30 +89,34 @@ fn reopen(trail: &mut Trail, lits: &[Lit]) -> Option<Lit>
     }
     match last_false(trail, lits, None) {
         None => {
-            trail.back_to(0);
+            back_to(store, trail, 0);
             None
         }
-        Some(last) => below(trail, lits, last),
+        Some(last) => below(store, trail, lits, last),
     }
 }
 
 // Goes back below the level at which the last literal became false, and gives it; at level 0 there is nothing below.
-fn below(trail: &mut Trail, lits: &[Lit], last: Lit) -> Option<Lit>
+fn below(store: &mut Store, trail: &mut Trail, lits: &[Lit], last: Lit) -> Option<Lit>
     requires last { IsLast trail.old.entries lits.now None last }
+    requires vars { store.old.vars ≡ trail.old.vars }
+    requires hung { AreHung store.old trail.old }
     ensures some { IfSome result (λ lit. In lit lits.now × (¬ In (neg_ℤ lit) (trues trail.new.entries))) }
     ensures none { IfNone result ((top trail.new.entries ≡ 0) × AllFalse (trues trail.new.entries) lits.now) }
     ensures entries { trail.new.entries ≡ keep (top trail.new.entries) trail.old.entries }
-    ensures kept { (store : Clauses) → (but : ℕ) → IsKeptBut store trail.old but → IsKeptBut store trail.new but }
+    ensures kept { (but : ℕ) → IsKeptBut store.old trail.old but → IsKeptBut store.new trail.new but }
+    ensures clauses { KeepsClauses store.old store.new }
+    ensures watched { store.new.watched ≡ store.old.watched }
     ensures stays { StaysWhereOpen trail.old.entries trail.new.entries lits.now }
     ensures vars { trail.new.vars ≡ trail.old.vars }
     ensures trail { IsTrail trail.new.vars trail.new.entries }
 {
     let level = level_of(trail, last.negated());
     if level == 0 {
-        trail.back_to(0);
+        back_to(store, trail, 0);
         return None;
     }
-    trail.back_to(level - 1);
+    back_to(store, trail, level - 1);
     Some(last)
 }
 
@@ -154,26 +163,30 @@ fn enter_forcing(store: &mut Store, trail: &mut Trail, id: u64, lits: &[Lit], fi
     match last_false(trail, lits, Some(first)) {
         Some(second) => {
             let level = level_of(trail, second.negated());
-            force(trail, first, level, id);
+            force(store, trail, first, level, id);
             watch(store, trail, id, first, second);
         }
-        None => force(trail, first, 0, id),
+        None => force(store, trail, first, 0, id),
     }
 }
 
 // Has the clause force this literal at this level, unless it is true up to it already.
-fn force(trail: &mut Trail, lit: Lit, level: u32, id: u64)
+fn force(store: &mut Store, trail: &mut Trail, lit: Lit, level: u32, id: u64)
+    requires vars { store.old.vars ≡ trail.old.vars }
+    requires hung { AreHung store.old trail.old }
     requires literal { IsLiteral trail.old.vars lit }
     requires not_false { ¬ In (neg_ℤ lit) (trues trail.old.entries) }
     requires id { 0 < id }
     ensures forced { IsForcedAt trail.old.entries trail.new.entries lit level id }
-    ensures kept { (store : Clauses) → (but : ℕ) → IsKeptBut store trail.old but → IsKeptBut store trail.new but }
+    ensures kept { (but : ℕ) → IsKeptBut store.old trail.old but → IsKeptBut store.new trail.new but }
+    ensures clauses { KeepsClauses store.old store.new }
+    ensures watched { store.new.watched ≡ store.old.watched }
     ensures vars { trail.new.vars ≡ trail.old.vars }
     ensures trail { IsTrail trail.new.vars trail.new.entries }
 {
     let _vars = trail.vars(); // It is a trail, also where nothing is forced.
     if !is_true_at(trail, lit, level) {
-        trail.back_to(level);
+        back_to(store, trail, level);
         trail.assign(lit, id);
     }
 }

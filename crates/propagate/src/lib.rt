@@ -5,7 +5,7 @@
 //! is unit:
 //!
 //! ```text
-//! match propagate(&mut store, &mut trail) {
+//! match propagate(&mut store, &mut trail, false) {
 //!     Propagated::Conflict(id) => .., // all literals of this clause are false
 //!     Propagated::Fixpoint => ..,     // no live clause is falsified or unit
 //! }
@@ -13,8 +13,8 @@
 //!
 //! Each clause watches two of its literals, so that only clauses that may have become unit or falsified are looked at.
 //! What has to hold of the watches for that is one fact of the store and the trail, `IsKept`, which [`propagate`] needs
-//! and keeps. A new clause comes to it by [`enter`], at whatever level, or by [`watch`]; a decision behind a fixpoint and
-//! going back keep it. Where clauses were forgotten the lists are built anew by [`rebuild`].
+//! and keeps. A new clause comes to it by [`enter`], at whatever level, or by [`watch`]; a decision behind a fixpoint keeps
+//! it, and so does going back by [`back_to`]. Where clauses were forgotten the lists are built anew by [`rebuild`].
 //!
 //! Start reading at `sat_base/specs/Units.antt`, `specs/Propagation.antt` and `specs/Watches.antt`. Which of several
 //! falsified clauses is named, and in which order literals are forced, is not told.
@@ -22,6 +22,7 @@
 
 mod entrance;
 mod lists;
+mod parking;
 mod propagated;
 mod propagation;
 mod relisting;
@@ -30,6 +31,7 @@ mod tests;
 mod visit;
 
 pub use entrance::{enter, level_of, watch};
+pub use parking::back_to;
 pub use propagated::Propagated;
 pub use propagation::propagate;
 pub use relisting::rebuild;

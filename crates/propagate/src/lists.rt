@@ -6,7 +6,7 @@ ghost use Rattle.std.specs.Prelude.{◌≡◌, ◌≢◌, ℕ, ◌+◌, ◌*◌,
 ghost use Rattle.sat_base.specs.Literals.{IsLiteral};
 ghost use Rattle.clause_store.specs.Clauses.{IsId};
 ghost use Rattle.clause_store.specs.Links.{watched_at, link_of, tail_of, IsLink};
-ghost use Rattle.propagate.specs.Walk.{IsNode, Continues, Unlinks, Appends};
+ghost use Rattle.propagate.specs.Walk.{IsNode, Continues, Unlinks, Appends, Parks};
 
 use clause_store::Store;
 use sat_base::Lit;
@@ -56,6 +56,19 @@ pub fn append(store: &mut Store, id: u64, place: u32, lit: Lit)
     set_after(store, lit, last, Some(id));
     store.set_next(id, place, None);
     store.set_tail(lit, Some(id));
+}
+
+/// Parks a place of a clause, which is of no list, under a literal.
+pub fn park(store: &mut Store, id: u64, place: u32, under: Lit)
+    requires id { IsId store.old.clauses id }
+    requires place { place < 2 }
+    requires under { IsLiteral store.old.vars under }
+    ensures parks { Parks store.old store.new under (2 * id + place) }
+    ensures rest { store.new ≡ record store.old { nexts = store.new.nexts; parks = store.new.parks } }
+{
+    let first = store.parked(under);
+    store.set_next(id, place, first);
+    store.set_parked(under, Some(id));
 }
 
 /// The pair that has one literal at this place, and another at the other.

@@ -8,7 +8,8 @@
 //! The values are propagated one after the other, in the order of the trail. A visit goes along the list of the clauses
 //! that watch the literal that has become false. What always holds (`specs/Watches.antt`):
 //!
-//! - the list of each literal has just the clauses that watch it;
+//! - each watch hangs at one place: in the list of its literal, or parked under the other watched literal of its clause,
+//!   which is true then (`parking.rt`);
 //! - where a watched literal is false and was propagated, the other one is true, at a level that is not above it: so
 //!   going back needs no work on the lists;
 //! - a live clause that is not watched has a literal that is true at level 0, unless one is kept that is false there.
@@ -21,7 +22,7 @@ ghost use Rattle.propagate.specs.Propagation.{Grows, Tells, IsDone};
 ghost use Rattle.propagate.specs.Watches.{IsKept, KeepsClauses};
 ghost use Rattle.propagate.specs.Walk.{IsWalk};
 
-use crate::lists::{append, paired, unlink};
+use crate::lists::{append, paired, park, unlink};
 use crate::propagated::Propagated;
 use crate::visit::{Finding, visit};
 use clause_store::Store;
@@ -36,7 +37,9 @@ pub struct Cursor {
 }
 
 /// Makes each literal true that a live clause forces, until a clause is falsified or none forces one.
-pub fn propagate(store: &mut Store, trail: &mut Trail) -> Propagated
+///
+/// `parks` says whether watches are parked: it pays where clauses are satisfied for long, and is for the caller to choose.
+pub fn propagate(store: &mut Store, trail: &mut Trail, parks: bool) -> Propagated
     requires { IsKept store.old trail.old }
     ensures kept { IsKept store.new trail.new }
     ensures grows { Grows store.old.clauses trail.old.entries trail.new.entries }
@@ -53,7 +56,7 @@ pub fn propagate(store: &mut Store, trail: &mut Trail) -> Propagated
     while trail.done() < trail.len() {
         let done = trail.done();
         let falsified = trail.at(done).negated();
-        if let Some(id) = visit_all(store, trail, falsified) {
+        if let Some(id) = visit_all(store, trail, falsified, parks) {
             return Propagated::Conflict(id);
         }
         trail.set_done(done + 1);
@@ -62,7 +65,7 @@ pub fn propagate(store: &mut Store, trail: &mut Trail) -> Propagated
 }
 
 // Visits each clause that watches the literal, up to one that is falsified.
-fn visit_all(store: &mut Store, trail: &mut Trail, falsified: Lit) -> Option<u64>
+fn visit_all(store: &mut Store, trail: &mut Trail, falsified: Lit, parks: bool) -> Option<u64>
     requires kept { IsKept store.old trail.old }
     requires none { store.old.false_id ≡ 0 }
     requires literal { IsLiteral store.old.vars falsified }
@@ -85,7 +88,7 @@ fn visit_all(store: &mut Store, trail: &mut Trail, falsified: Lit) -> Option<u64
     let mut left = 2 * store.len() + 2;
     while let Some(id) = cursor.at {
         left -= 1;
-        match step(store, trail, falsified, cursor.before, id, left) {
+        match step(store, trail, falsified, cursor.before, id, parks, left) {
             Some(next) => {
                 cursor = next;
             }
@@ -106,6 +109,7 @@ fn step(
     falsified: Lit,
     before: Option<u64>,
     id: u64,
+    parks: bool,
     left: u64,
 ) -> Option<Cursor>
     requires walk { IsWalk store.old trail.old falsified (link_of before) id (suc left) }
@@ -123,11 +127,16 @@ fn step(
     let _vars = trail.vars(); // No literal is both true and false.
     let (place, other) = store.place_of(id, falsified);
     let at = store.next(id, place);
-    match visit(store, trail, id, falsified, other) {
+    match visit(store, trail, id, falsified, other, parks) {
         Finding::Satisfied => Some(Cursor {
             before: Some(id),
             at,
         }),
+        Finding::Settled => {
+            unlink(store, falsified, before, at);
+            park(store, id, place, other);
+            Some(Cursor { before, at })
+        }
         Finding::Moved(to, position) => {
             unlink(store, falsified, before, at);
             append(store, id, place, to);

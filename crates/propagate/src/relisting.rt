@@ -7,7 +7,7 @@
 ghost use Rattle.std.specs.Prelude.{◌≡◌, ℤ, ◌+◌, ◌*◌, true, Some};
 ghost use Rattle.sat_base.specs.Literals.{IsLiteral};
 ghost use Rattle.clause_store.specs.Clauses.{clause_at, IsId};
-ghost use Rattle.clause_store.specs.Links.{watched_at, head_of, tail_of};
+ghost use Rattle.clause_store.specs.Links.{watched_at, head_of, tail_of, park_of};
 ghost use Rattle.propagate.specs.Watches.{IsKept, KeepsClauses};
 ghost use Rattle.propagate.specs.Rebuild.{IsStale, IsRelisted};
 
@@ -34,7 +34,8 @@ pub fn rebuild(store: &mut Store, trail: &Trail)
 fn clear(store: &mut Store)
     ensures heads { (lit : ℤ) → IsLiteral store.old.vars lit → head_of store.new lit ≡ 0 }
     ensures tails { (lit : ℤ) → IsLiteral store.old.vars lit → tail_of store.new lit ≡ 0 }
-    ensures rest { store.new ≡ record store.old { heads = store.new.heads; tails = store.new.tails } }
+    ensures parks { (lit : ℤ) → IsLiteral store.old.vars lit → park_of store.new lit ≡ 0 }
+    ensures rest { store.new ≡ record store.old { heads = store.new.heads; tails = store.new.tails; parks = store.new.parks } }
 {
     let mut var = 0;
     while var < store.vars() {
@@ -49,12 +50,15 @@ fn clear_list(store: &mut Store, lit: Lit)
     requires { IsLiteral store.old.vars lit }
     ensures head { head_of store.new lit ≡ 0 }
     ensures tail { tail_of store.new lit ≡ 0 }
+    ensures park { park_of store.new lit ≡ 0 }
     ensures heads { (other : ℤ) → head_of store.old other ≡ 0 → head_of store.new other ≡ 0 }
     ensures tails { (other : ℤ) → tail_of store.old other ≡ 0 → tail_of store.new other ≡ 0 }
-    ensures rest { store.new ≡ record store.old { heads = store.new.heads; tails = store.new.tails } }
+    ensures parks { (other : ℤ) → park_of store.old other ≡ 0 → park_of store.new other ≡ 0 }
+    ensures rest { store.new ≡ record store.old { heads = store.new.heads; tails = store.new.tails; parks = store.new.parks } }
 {
     store.set_head(lit, None);
     store.set_tail(lit, None);
+    store.set_parked(lit, None);
 }
 
 // Puts a clause at the end of the lists of what it watches, or has it watch nothing where it is not live.

@@ -5,7 +5,7 @@ ghost use Rattle.sat_base.specs.Units.{IsUnset};
 ghost use Rattle.trail_book.specs.Trail.{trues};
 ghost use Rattle.propagate.specs.Watches.{IsKept};
 
-use crate::{Propagated, enter, propagate};
+use crate::{Propagated, back_to, enter, propagate};
 use clause_store::Store;
 use sat_base::Lit;
 use std::alloc::{AllocError, Global};
@@ -16,6 +16,7 @@ use trail_book::Trail;
 struct Bench {
     store: Store,
     trail: Trail,
+    parks: bool,
 }
 
 // 0 for a fixpoint, or the id of the falsified clause.
@@ -35,6 +36,7 @@ impl Bench {
         Ok(Bench {
             store: Store::new(alloc, vars)?,
             trail: Trail::new(alloc, vars)?,
+            parks: false,
         })
     }
 
@@ -56,7 +58,7 @@ impl Bench {
         ensures kept { IsKept self.new.store self.new.trail }
         ensures vars { self.new.store.vars ≡ self.old.store.vars }
     {
-        number_of(propagate(&mut self.store, &mut self.trail))
+        number_of(propagate(&mut self.store, &mut self.trail, self.parks))
     }
 
     // Decides a literal that has no value, where all values have been propagated, and propagates it.
@@ -76,13 +78,13 @@ impl Bench {
         self.propagate()
     }
 
-    // Takes back all levels.
-    fn back(&mut self)
+    // Takes back the levels above this one.
+    fn back(&mut self, level: u32)
         requires { IsKept self.old.store self.old.trail }
         ensures kept { IsKept self.new.store self.new.trail }
         ensures vars { self.new.store.vars ≡ self.old.store.vars }
     {
-        self.trail.back_to(0);
+        back_to(&mut self.store, &mut self.trail, level);
     }
 }
 
@@ -166,8 +168,65 @@ fn search_begins_where_the_last_one_ended(rt: HostRuntime) -> Result<(), AllocEr
     for (variable, watched) in rows {
         assert!(rt; bench.decide(literal(-variable)) == 0, "{variable}");
         assert!(rt; bench.store.head(literal(watched)) == Some(1), "{variable}");
-        bench.back();
+        bench.back(0);
     }
+    Ok(())
+}
+
+// The clause 1 2 3, where 1 is true and then 2 is false, each at a level of its own, with watches parked or not.
+fn satisfied_clause(alloc: Global, parks: bool) -> Result<Bench, AllocError>
+    ensures kept { IfOk result (λ bench. IsKept bench.store bench.trail) }
+    ensures vars { IfOk result (λ bench. bench.store.vars ≡ 6) }
+{
+    let mut bench = Bench::new(alloc, 6)?;
+    bench.parks = parks;
+    bench.add(&[Lit::new(1), Lit::new(2), Lit::new(3)])?;
+    bench.decide(Lit::new(1));
+    bench.decide(Lit::new(-2));
+    Ok(bench)
+}
+
+#[test]
+fn satisfied_watch_is_parked_and_comes_back(rt: HostRuntime) -> Result<(), AllocError> {
+    // whether watches are parked; the level that is left; what is parked under 1 then, and the list of 2
+    let rows: [(bool, u32, Option<u64>, Option<u64>); 4] = [
+        (true, 2, Some(1), None),
+        (true, 1, Some(1), None),
+        (true, 0, None, Some(1)),
+        (false, 1, None, Some(1)),
+    ];
+    for (parks, level, parked, head) in rows {
+        let mut bench = satisfied_clause(rt.alloc(), parks)?;
+        bench.back(level);
+        assert!(rt;
+            bench.store.parked(Lit::new(1)) == parked,
+            "{parks} {level}"
+        );
+        assert!(rt; bench.store.head(Lit::new(2)) == head, "{parks} {level}");
+    }
+    Ok(())
+}
+
+#[test]
+fn watch_that_came_back_forces(rt: HostRuntime) -> Result<(), AllocError> {
+    let mut bench = satisfied_clause(rt.alloc(), true)?;
+    bench.back(0);
+    assert!(rt; bench.decide(Lit::new(-1)) == 0);
+    assert!(rt; bench.decide(Lit::new(-3)) == 0);
+    assert!(rt; bench.trail.value(Lit::new(2)) == Some(true));
+    Ok(())
+}
+
+#[test]
+fn nothing_is_parked_under_a_literal_of_the_top_level(rt: HostRuntime) -> Result<(), AllocError> {
+    let mut bench = Bench::new(rt.alloc(), 6)?;
+    bench.parks = true;
+    bench.add(&[Lit::new(-2), Lit::new(1)])?;
+    bench.add(&[Lit::new(1), Lit::new(-2), Lit::new(3)])?;
+    assert!(rt; bench.decide(Lit::new(2)) == 0);
+    assert!(rt; bench.trail.value(Lit::new(1)) == Some(true));
+    assert!(rt; bench.store.parked(Lit::new(1)).is_none());
+    assert!(rt; bench.store.tail(Lit::new(-2)) == Some(2));
     Ok(())
 }
 

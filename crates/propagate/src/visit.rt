@@ -1,5 +1,5 @@
 //! A look at one clause, of which one watched literal is false.
-ghost use Rattle.std.specs.Prelude.{◌≡◌, ◌≢◌, ◌⊎◌, ◌≤◌, true, false, neg_ℤ, take, length, IfSome, IfNone};
+ghost use Rattle.std.specs.Prelude.{◌≡◌, ◌≢◌, ◌⊎◌, ◌≤◌, true, false, ℕ, ℤ, List, neg_ℤ, take, length, IfSome, IfNone};
 ghost use Rattle.sat_base.specs.Members.{In};
 ghost use Rattle.sat_base.specs.Literals.{AreLiterals, IsLiteral};
 ghost use Rattle.sat_base.specs.Units.{AllFalseBut};
@@ -7,6 +7,7 @@ ghost use Rattle.clause_store.specs.Clauses.{clause_at, IsId};
 ghost use Rattle.trail_book.specs.Trail.{trues};
 ghost use Rattle.propagate.specs.Walk.{CanWatch, IsFalseWatch, Visits};
 
+use crate::entrance::level_of;
 use clause_store::Store;
 use sat_base::Lit;
 use trail_book::Trail;
@@ -16,6 +17,8 @@ use trail_book::Trail;
 pub enum Finding {
     /// The other watched literal is true.
     Satisfied,
+    /// The same, and the false one is to be parked under it.
+    Settled,
     /// It can watch this literal instead of the false one. The search for it ended at this place.
     Moved(Lit, usize),
     /// It forces the other watched literal.
@@ -25,7 +28,17 @@ pub enum Finding {
 }
 
 /// What the clause of this id does, which watches `falsified` and `other`.
-pub fn visit(store: &Store, trail: &Trail, id: u64, falsified: Lit, other: Lit) -> Finding
+///
+/// Where watches are parked, one is whose clause has the other one true at a level below the top one. At the top level it
+/// would come back as soon as it goes.
+pub fn visit(
+    store: &Store,
+    trail: &Trail,
+    id: u64,
+    falsified: Lit,
+    other: Lit,
+    parks: bool,
+) -> Finding
     requires vars { store.now.vars ≡ trail.now.vars }
     requires id { IsId store.now.clauses id }
     requires other { IsLiteral store.now.vars other }
@@ -34,7 +47,7 @@ pub fn visit(store: &Store, trail: &Trail, id: u64, falsified: Lit, other: Lit) 
 {
     let value = trail.value(other);
     if value == Some(true) {
-        return Finding::Satisfied;
+        return satisfied(trail, other, parks);
     }
     if let Some((lit, place)) = replacement(store, trail, id, falsified, other) {
         return Finding::Moved(lit, place);
@@ -43,6 +56,18 @@ pub fn visit(store: &Store, trail: &Trail, id: u64, falsified: Lit, other: Lit) 
         Finding::Falsified
     } else {
         Finding::Forcing
+    }
+}
+
+// The watch may stay, or be parked.
+fn satisfied(trail: &Trail, other: Lit, parks: bool) -> Finding
+    requires { In other (trues trail.now.entries) }
+    ensures { (vars : ℕ) (clause : List ℤ) → Visits vars (trues trail.now.entries) clause other result }
+{
+    if parks && level_of(trail, other) < trail.top() {
+        Finding::Settled
+    } else {
+        Finding::Satisfied
     }
 }
 

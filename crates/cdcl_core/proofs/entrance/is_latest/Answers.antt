@@ -1,4 +1,4 @@
-use Rattle.std.proofs.Common.{◌≡◌, ℕ, arith, subst, sym}
+use Rattle.std.proofs.Common.{ℕ, arith, subst, sym}
 use Rattle.std.specs.Prelude.{pos}
 use Rattle.sat_base.specs.Literals.{var_of}
 use Rattle.sat_base.specs.Units.{HasValue}

@@ -1,4 +1,4 @@
-use Rattle.std.proofs.Common.{◌≡◌, ◌<◌, arith, sym, subst}
+use Rattle.std.proofs.Common.{◌<◌, arith, sym, subst}
 use Rattle.std.specs.Prelude.{ℤ}
 use Rattle.sat_base.specs.Members.{In}
 use Rattle.sat_base.proofs.DatabaseLemmas.{get_in}

@@ -1,9 +1,9 @@
-use Rattle.std.proofs.Common.{◌≡◌, ◌≤◌, ◌++◌, ◌∷◌, [], ◌∙◌, List, ℕ, length, ap, sym, subst, arith}
+use Rattle.std.proofs.Common.{◌∙◌, List, length, ap, sym, subst, arith}
 use Rattle.sat_base.specs.Database.{StoredClause}
 use Rattle.sat_base.specs.Forgotten.{forgotten}
 use Rattle.sat_base.proofs.ForgottenLemmas.{length-forgotten}
 use Rattle.clause_store.specs.Clauses.{Clauses}
-use Rattle.lrat_steps.specs.Log.{LogStep, Forgot}
+use Rattle.lrat_steps.specs.Log.{LogStep}
 use Rattle.lrat_steps.proofs.LogLemmas.{db_len}
 use Rattle.propagate.proofs.RebuildLemmas.{stale_forgotten}
 use Rattle.cdcl_core.specs.Answers.{IsHonestlyPaid}

@@ -1,4 +1,4 @@
-use Rattle.std.proofs.Common.{◌≡◌, ◌<◌, ◌∙◌, List, ap, sym, subst, arith}
+use Rattle.std.proofs.Common.{◌≡◌, ◌∙◌, List, ap, sym, subst, arith}
 use Rattle.std.specs.Prelude.{ℤ}
 use Rattle.sat_base.specs.Members.{In}
 use Rattle.clause_store.specs.Links.{link_of}

@@ -1,4 +1,4 @@
-use Rattle.std.proofs.Common.{◌≡◌, ◌-◌, ◌≤◌, ◌∙◌, ℕ, List, ap, sym, subst, arith}
+use Rattle.std.proofs.Common.{◌≡◌, ◌-◌, ◌∙◌, ℕ, List, ap, sym, subst, arith}
 use Rattle.std.specs.Prelude.{ℤ, neg_ℤ}
 use Rattle.sat_base.specs.Members.{In}
 use Rattle.sat_base.specs.Units.{AllFalse}
@@ -6,7 +6,6 @@ use Rattle.trail_book.specs.declared.entry.Entry.{Entry}
 use Rattle.trail_book.specs.Trail.{trues, top, keep}
 use Rattle.trail_book.proofs.TrailLemmas.{top-keep, top-keep_exact}
 use Rattle.propagate.specs.Entrance.{StaysWhereOpen}
-use Rattle.propagate.proofs.KeptLemmas.{kept_back}
 use Rattle.propagate.proofs.EnterLemmas.{last_all, back_stays}
 use Rattle.propagate.proofs.entrance.below.Goals as goal
 
@@ -17,7 +16,7 @@ level_of-level-requires c = subst (λ (m : ℤ). In m (trues c.args.trail.now.en
 pub returns-then-level-eq0-clause-none : goal.returns-then-level-eq0-clause-none
 returns-then-level-eq0-clause-none c =
     let es = c.args.trail.now.entries in
-    let new = c.back_to.new.self.entries in
+    let new = c.back_to.new.trail.entries in
     let is = c.back_to.ensures.entries in
     let low = top-keep 0 es in
     let there : In (neg_ℤ c.args.last) (trues (keep 0 es)) = subst (λ (m : ℤ). In m (trues (keep 0 es))) c.negated.ensures (c.level_of-level.ensures.there 0 (omega (arith, c.if-level-eq0.true))) in
@@ -28,11 +27,11 @@ returns-then-level-eq0-clause-entries c =
     let es = c.args.trail.now.entries in
     let is = c.back_to.ensures.entries in
     let low = top-keep 0 es in
-    let zero : top c.back_to.new.self.entries ≡ 0 = (let tops = ap top is in omega (arith, tops, low)) in
+    let zero : top c.back_to.new.trail.entries ≡ 0 = (let tops = ap top is in omega (arith, tops, low)) in
     is ∙ ap (λ (n : ℕ). keep n es) (sym zero)
 
 pub returns-then-level-eq0-clause-kept : goal.returns-then-level-eq0-clause-kept
-returns-then-level-eq0-clause-kept c = λ s but kept. let b = c.back_to.ensures in kept_back s c.args.trail.now c.back_to.new.self but 0 b.entries b.vars b.done kept
+returns-then-level-eq0-clause-kept c = c.back_to.ensures.kept
 
 pub returns-then-level-eq0-clause-stays : goal.returns-then-level-eq0-clause-stays
 returns-then-level-eq0-clause-stays c =
@@ -60,7 +59,7 @@ returns-clause-entries c =
     is ∙ ap (λ (n : ℕ). keep n es) (sym (ap top is ∙ exact))
 
 pub returns-clause-kept : goal.returns-clause-kept
-returns-clause-kept c = λ s but kept. let b = c.back_to-2.ensures in kept_back s c.args.trail.now c.back_to-2.new.self but (c.level_of-level.result - 1) b.entries b.vars b.done kept
+returns-clause-kept c = c.back_to-2.ensures.kept
 
 pub returns-clause-stays : goal.returns-clause-stays
 returns-clause-stays c =

@@ -1,9 +1,10 @@
-use Rattle.std.proofs.Common.{◌≡◌, List, Some, ap, sym, subst, refl, inl, inr, arith}
+use Rattle.std.proofs.Common.{List, Some, ap, sym, subst, refl, inl, inr, arith}
 use Rattle.std.specs.Prelude.{ℤ, neg_ℤ}
 use Rattle.sat_base.specs.Members.{In}
+use Rattle.sat_base.specs.Database.{StoredClause}
 use Rattle.sat_base.specs.Units.{AllFalseBut}
 use Rattle.clause_store.specs.Clauses.{clause_at}
-use Rattle.trail_book.specs.Trail.{trues, top, keep}
+use Rattle.trail_book.specs.Trail.{trues, keep}
 use Rattle.trail_book.proofs.TrailLemmas.{trail_consistent}
 use Rattle.propagate.proofs.GrowsLemmas.{literal_in}
 use Rattle.propagate.proofs.KeptLemmas.{kept_settled}
@@ -25,10 +26,10 @@ pub force-requires-in-None-clause-literal : goal.force-requires-in-None-clause-l
 force-requires-in-None-clause-literal c = let r = c.requires in literal_in c.args.trail.now.vars c.args.lits.now c.args.first r.literals r.has
 
 pub watch-requires-clause-first : goal.watch-requires-clause-first
-watch-requires-clause-first c = subst (λ (ls : List ℤ). In c.args.first ls) (sym c.requires.unwatched.lits_are) c.requires.has
+watch-requires-clause-first c = subst (λ (db : List StoredClause). In c.args.first (clause_at db c.args.id).lits) (sym c.force.ensures.clauses.clauses) (subst (λ (ls : List ℤ). In c.args.first ls) (sym c.requires.unwatched.lits_are) c.requires.has)
 
 pub watch-requires-clause-second : goal.watch-requires-clause-second
-watch-requires-clause-second c = subst (λ (ls : List ℤ). In c.in-Some.second ls) (sym c.requires.unwatched.lits_are) c.in-Some.ensures.some.has
+watch-requires-clause-second c = subst (λ (db : List StoredClause). In c.in-Some.second (clause_at db c.args.id).lits) (sym c.force.ensures.clauses.clauses) (subst (λ (ls : List ℤ). In c.in-Some.second ls) (sym c.requires.unwatched.lits_are) c.in-Some.ensures.some.has)
 
 pub watch-requires-clause-differ : goal.watch-requires-clause-differ
 watch-requires-clause-differ c = λ e. c.in-Some.ensures.some.other (ap (λ (k : ℤ). Some k) e)
@@ -86,11 +87,13 @@ returns-in-Some-clause-stays c =
 -- the clause is one literal, which is true at level 0 now
 pub returns-in-None-clause-kept : goal.returns-in-None-clause-kept
 returns-in-None-clause-kept c =
-    let s = c.args.store.now in
     let es = c.args.trail.now.entries in
     let new = c.force-in-None.new.trail in
+    let has : In c.args.first (clause_at c.force-in-None.new.store.clauses c.args.id).lits = subst (λ (db : List StoredClause). In c.args.first (clause_at db c.args.id).lits) (sym c.force-in-None.ensures.clauses.clauses)
+    (subst (λ (ls : List ℤ). In c.args.first ls) (sym c.requires.unwatched.lits_are) c.requires.has)
+    in
     let on = forced_root es new.entries c.args.lits.now c.args.first 0 c.args.id (omega arith) c.force-in-None.ensures.forced refl in
-    kept_settled s new c.args.id (λ live. (c.args.first, subst (λ (ls : List ℤ). In c.args.first ls) (sym c.requires.unwatched.lits_are) c.requires.has, on)) (c.force-in-None.ensures.kept s c.args.id c.requires.kept)
+    kept_settled c.force-in-None.new.store new c.args.id (λ live. (c.args.first, has, on)) (c.force-in-None.ensures.kept c.args.id c.requires.kept)
 
 pub returns-in-None-clause-grows : goal.returns-in-None-clause-grows
 returns-in-None-clause-grows c =
@@ -113,4 +116,4 @@ returns-in-None-clause-stays c =
     (λ l i. inl (sym (some_same c.args.first l (c.in-None.ensures.none l i))))
 
 pub watch-requires-clause-kept : goal.watch-requires-clause-kept
-watch-requires-clause-kept c = c.force.ensures.kept c.args.store.now c.args.id c.requires.kept
+watch-requires-clause-kept c = c.force.ensures.kept c.args.id c.requires.kept

@@ -1,10 +1,10 @@
-use Rattle.std.proofs.Common.{◌∙◌, ◌∷◌, List, Some, None, ap, refl, sym, subst, inl, inr, arith}
-use Rattle.std.specs.Prelude.{ℤ, neg_ℤ}
+use Rattle.std.proofs.Common.{◌∙◌, ◌∷◌, List, Some, None, ap, refl, subst, inl, inr, arith}
+use Rattle.std.specs.Prelude.{neg_ℤ}
 use Rattle.sat_base.specs.Members.{In}
 use Rattle.trail_book.specs.declared.entry.Entry.{Entry}
-use Rattle.trail_book.specs.Trail.{trues, keep}
+use Rattle.trail_book.specs.Trail.{trues}
 use Rattle.trail_book.proofs.TrailLemmas.{lit-keep_in}
-use Rattle.propagate.proofs.KeptLemmas.{kept_back, kept_assign}
+use Rattle.propagate.proofs.KeptLemmas.{kept_assign}
 use Rattle.propagate.proofs.entrance.force.Goals as goal
 
 -- it is not true up to that level, and false at none
@@ -28,11 +28,9 @@ returns-then-not-is_true_at-clause-forced c =
     )
 
 pub returns-then-not-is_true_at-clause-kept : goal.returns-then-not-is_true_at-clause-kept
-returns-then-not-is_true_at-clause-kept c = λ s but k.
-    let b = c.back_to.ensures in
+returns-then-not-is_true_at-clause-kept c = λ but k.
     let a = c.assign.ensures in
-    kept_assign s c.back_to.new.self c.assign.new.self but c.args.lit c.args.id a.entries a.vars a.done
-    (kept_back s c.args.trail.now c.back_to.new.self but c.args.level b.entries b.vars b.done k)
+    kept_assign c.back_to.new.store c.back_to.new.trail c.assign.new.self but c.args.lit c.args.id a.entries a.vars a.done (c.back_to.ensures.kept but k)
 
 pub returns-else-not-is_true_at-clause-forced : goal.returns-else-not-is_true_at-clause-forced
 returns-else-not-is_true_at-clause-forced c = inl (c.is_true_at.ensures.yes (grind arith), refl)

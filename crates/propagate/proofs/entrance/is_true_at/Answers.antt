@@ -1,6 +1,5 @@
 use Rattle.std.proofs.Common.{◌≡◌, ◌∙◌, Some, false, ap, subst}
-use Rattle.std.specs.Prelude.{Bool, neg_ℤ}
-use Rattle.sat_base.specs.Members.{In}
+use Rattle.std.specs.Prelude.{Bool}
 use Rattle.sat_base.specs.Units.{IsValue}
 use Rattle.trail_book.specs.Trail.{trues}
 use Rattle.trail_book.proofs.TrailLemmas.{lit-keep_in, trail_consistent}

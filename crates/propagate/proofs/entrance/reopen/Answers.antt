@@ -1,11 +1,6 @@
-use Rattle.std.proofs.Common.{◌≡◌, ◌∙◌, ℕ, List, inr, ap, sym, subst, arith}
-use Rattle.std.specs.Prelude.{ℤ}
-use Rattle.sat_base.specs.Members.{In}
-use Rattle.sat_base.specs.Units.{AllFalse}
-use Rattle.trail_book.specs.declared.entry.Entry.{Entry}
-use Rattle.trail_book.specs.Trail.{trues, top, keep}
+use Rattle.std.proofs.Common.{◌≡◌, ◌∙◌, ℕ, inr, ap, sym, arith}
+use Rattle.trail_book.specs.Trail.{top, keep}
 use Rattle.trail_book.proofs.TrailLemmas.{top-keep, keep-whole}
-use Rattle.propagate.proofs.KeptLemmas.{kept_back}
 use Rattle.propagate.proofs.EnterLemmas.{none_is_some}
 use Rattle.propagate.proofs.entrance.reopen.Goals as goal
 
@@ -29,11 +24,11 @@ returns-in-None-clause-entries c =
     let es = c.args.trail.now.entries in
     let is = c.back_to.ensures.entries in
     let low = top-keep 0 es in
-    let zero : top c.back_to.new.self.entries ≡ 0 = (let tops = ap top is in omega (arith, tops, low)) in
+    let zero : top c.back_to.new.trail.entries ≡ 0 = (let tops = ap top is in omega (arith, tops, low)) in
     is ∙ ap (λ (n : ℕ). keep n es) (sym zero)
 
 pub returns-in-None-clause-kept : goal.returns-in-None-clause-kept
-returns-in-None-clause-kept c = λ s but kept. let b = c.back_to.ensures in kept_back s c.args.trail.now c.back_to.new.self but 0 b.entries b.vars b.done kept
+returns-in-None-clause-kept c = c.back_to.ensures.kept
 
 pub returns-in-None-clause-stays : goal.returns-in-None-clause-stays
 returns-in-None-clause-stays c = λ k two. absurd (none_is_some two.one (c.in-None.ensures.none two.one two.one_in))

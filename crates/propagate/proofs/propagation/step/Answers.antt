@@ -1,4 +1,7 @@
-use Rattle.std.proofs.Common.{suc, refl, sym, subst, inl, inr, List}
+use Rattle.std.proofs.Common.{◌∙◌, ℕ, suc, refl, sym, ap, subst, inl, inr, List}
+use Rattle.std.specs.Prelude.{ℤ}
+use Rattle.std.proofs.lemmas.Bool.{cases_eq}
+use Rattle.sat_base.specs.Literals.{IsLiteral}
 use Rattle.sat_base.specs.Members.{In}
 use Rattle.clause_store.specs.Clauses.{Clauses}
 use Rattle.clause_store.specs.Links.{link_of}
@@ -9,6 +12,7 @@ use Rattle.propagate.specs.Walk.{IsWalk}
 use Rattle.propagate.proofs.GrowsLemmas.{grows-refl}
 use Rattle.propagate.proofs.WalkLemmas.{at_id, at_live, at_watched, watch_pair, walk_assign}
 use Rattle.propagate.proofs.StepLemmas.{reason_at, falsified_at, before_ok, node_at, stays, moved, moves_away, tail_after}
+use Rattle.propagate.proofs.ParkLemmas.{parked_walk}
 use Rattle.propagate.proofs.propagation.step.Goals as goal
 
 pub place_of-place-requires-clause-id : goal.place_of-place-requires-clause-id
@@ -29,14 +33,17 @@ visit-requires-clause-watch c =
 pub unlink-requires-clause-before : goal.unlink-requires-clause-before
 unlink-requires-clause-before c = let r = c.requires in before_ok c.args.store.now c.args.trail.now c.args.falsified c.args.before c.args.id (suc c.args.left) r.walk r.before_from_one
 
+pub unlink-requires-in-Moved-clause-before : goal.unlink-requires-in-Moved-clause-before
+unlink-requires-in-Moved-clause-before c = let r = c.requires in before_ok c.args.store.now c.args.trail.now c.args.falsified c.args.before c.args.id (suc c.args.left) r.walk r.before_from_one
+
 pub append-requires-clause-last : goal.append-requires-clause-last
 append-requires-clause-last c =
     let r = c.requires in
     let s = c.args.store.now in
     let t = c.args.trail.now in
     let can = c.in-Moved.ensures in
-    tail_after s c.unlink.new.store t c.args.falsified c.in-Moved.to (link_of c.args.before) c.args.id (suc c.args.left) (link_of c.next-at.result) r.walk
-    (moves_away s t c.args.falsified c.in-Moved.to c.place_of-place.result.1 (link_of c.args.before) c.args.id (suc c.args.left) r.walk r.from_one can) can.literal c.unlink.ensures.unlinks c.unlink.ensures.rest
+    tail_after s c.unlink-in-Moved.new.store t c.args.falsified c.in-Moved.to (link_of c.args.before) c.args.id (suc c.args.left) (link_of c.next-at.result) r.walk
+    (moves_away s t c.args.falsified c.in-Moved.to c.place_of-place.result.1 (link_of c.args.before) c.args.id (suc c.args.left) r.walk r.from_one can) can.literal c.unlink-in-Moved.ensures.unlinks c.unlink-in-Moved.ensures.rest
 
 pub returns-in-Satisfied-clause-walk : goal.returns-in-Satisfied-clause-walk
 returns-in-Satisfied-clause-walk c =
@@ -68,9 +75,9 @@ returns-in-Moved-clause-walk c =
     let r = c.requires in
     let e = c.place_of-place.ensures in
     subst (λ (s : Clauses). IsWalk s c.args.trail.now c.args.falsified (link_of c.args.before) (link_of c.next-at.result) c.args.left) (sym c.set_position.ensures)
-    (moved c.args.store.now c.unlink.new.store c.append.new.store c.set_watched.new.self c.args.trail.now c.args.falsified c.in-Moved.to c.place_of-place.result.1 (link_of c.args.before) c.args.id c.args.left
+    (moved c.args.store.now c.unlink-in-Moved.new.store c.append.new.store c.set_watched.new.self c.args.trail.now c.args.falsified c.in-Moved.to c.place_of-place.result.1 (link_of c.args.before) c.args.id c.args.left
     c.place_of-place.result.0 (link_of c.next-at.result) c.paired.result r.walk r.from_one e.place e.first e.second e.other c.vars-vars.ensures.trail c.in-Moved.ensures c.next-at.ensures.next
-    c.unlink.ensures.unlinks c.unlink.ensures.rest c.append.ensures.appends c.append.ensures.rest c.set_watched.ensures.set c.set_watched.ensures.others c.set_watched.ensures.rest
+    c.unlink-in-Moved.ensures.unlinks c.unlink-in-Moved.ensures.rest c.append.ensures.appends c.append.ensures.rest c.set_watched.ensures.set c.set_watched.ensures.others c.set_watched.ensures.rest
     c.paired.ensures.first c.paired.ensures.second)
 
 pub returns-in-Forcing-clause-walk : goal.returns-in-Forcing-clause-walk
@@ -96,3 +103,26 @@ returns-in-Forcing-clause-grows c =
     (at_live s t c.args.falsified (link_of c.args.before) c.args.id (suc c.args.left) r.walk r.from_one) pair.other_stands c.in-Forcing.ensures.1
     in
     subst (Grows s.clauses t.entries) (sym c.assign.ensures.entries) (inr (reason, refl, grows-refl s.clauses t.entries))
+
+pub returns-in-Settled-clause-walk : goal.returns-in-Settled-clause-walk
+returns-in-Settled-clause-walk c =
+    let r = c.requires in
+    let e = c.place_of-place.ensures in
+    parked_walk c.args.store.now c.unlink.new.store c.park.new.store c.args.trail.now c.args.falsified c.place_of-place.result.1 (link_of c.args.before) c.args.id c.args.left c.place_of-place.result.0 (link_of c.next-at.result)
+    r.walk r.from_one e.place e.first e.second e.other c.in-Settled.ensures e.over c.next-at.ensures.next c.unlink.ensures.unlinks c.unlink.ensures.rest c.park.ensures.parks c.park.ensures.rest
+
+pub returns-in-Settled-clause-grows : goal.returns-in-Settled-clause-grows
+returns-in-Settled-clause-grows c = grows-refl c.args.store.now.clauses c.args.trail.now.entries
+
+pub set_watched-requires-clause-pair : goal.set_watched-requires-clause-pair
+set_watched-requires-clause-pair c =
+    let can = c.in-Moved.ensures in
+    let e = c.place_of-place.ensures in
+    let p = c.paired.ensures in
+    let vars = sym (ap (λ (x : Clauses). x.vars) c.append.ensures.rest ∙ ap (λ (x : Clauses). x.vars) c.unlink-in-Moved.ensures.rest) in
+    let to = subst (λ (v : ℕ). IsLiteral v c.in-Moved.to) vars can.literal in
+    let other = subst (λ (v : ℕ). IsLiteral v c.place_of-place.result.1) vars e.over in
+    elim (cases_eq c.place_of-place.result.0 0) [
+      | inl zero ↦ (subst (λ (l : ℤ). IsLiteral c.append.new.store.vars l) (sym (p.first zero).0) to, subst (λ (l : ℤ). IsLiteral c.append.new.store.vars l) (sym (p.first zero).1) other)
+      | inr ne ↦ (subst (λ (l : ℤ). IsLiteral c.append.new.store.vars l) (sym (p.second ne).0) other, subst (λ (l : ℤ). IsLiteral c.append.new.store.vars l) (sym (p.second ne).1) to)
+    ]

@@ -1,10 +1,10 @@
-use Rattle.std.proofs.Common.{◌∙◌, ◌+◌, ◌*◌, List, Option, ℕ, refl, sym, subst, arith}
+use Rattle.std.proofs.Common.{◌≡◌, ◌<◌, ◌∙◌, ◌+◌, ◌-◌, ◌*◌, List, Option, IfSome, ℕ, suc, refl, sym, subst, arith}
 use Rattle.sat_base.specs.Database.{StoredClause}
 use Rattle.clause_store.specs.Links.{link_of}
 use Rattle.propagate.specs.Propagation.{Grows}
 use Rattle.propagate.specs.Walk.{IsWalk}
 use Rattle.propagate.proofs.GrowsLemmas.{grows-refl, grows-trans}
-use Rattle.propagate.proofs.WalkLemmas.{begin_walk, propagated}
+use Rattle.propagate.proofs.WalkLemmas.{begin_walk, some_left, propagated}
 use Rattle.propagate.proofs.StepLemmas.{keeps_same, keeps_trans}
 use Rattle.propagate.proofs.LengthLemmas.{list_fits}
 use Rattle.propagate.proofs.propagation.visit_all.Goals as goal
@@ -25,6 +25,16 @@ loop-cursor-init c =
       vars = refl;
       trail = c.vars-vars.ensures.trail;
     }
+
+pub step-requires-clause-walk : goal.step-requires-clause-walk
+step-requires-clause-walk c =
+    let l = c.loop-cursor in
+    let before = link_of l.cursor.before in
+    let w = subst (λ (at : Option ℕ). IsWalk l.store l.trail c.args.falsified before (link_of at) l.left) c.in-Some.is l.invariant.walk in
+    let some : 0 < c.in-Some.id = subst (λ (at : Option ℕ). IfSome at (λ id. 0 < id)) c.in-Some.is l.invariant.from_one in
+    let left = some_left l.store l.trail c.args.falsified before c.in-Some.id l.left some w in
+    let same : l.left ≡ suc (l.left - 1) = omega (arith, left) in
+    subst (λ (k : ℕ). IsWalk l.store l.trail c.args.falsified before c.in-Some.id k) same w
 
 pub loop-cursor-preserved : goal.loop-cursor-preserved
 loop-cursor-preserved c =

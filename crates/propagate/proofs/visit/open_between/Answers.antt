@@ -1,4 +1,4 @@
-use Rattle.std.proofs.Common.{arith, sym, subst, ap, ◌≡◌, ◌∙◌, ℕ, List, take}
+use Rattle.std.proofs.Common.{arith, sym, subst, ◌≡◌, ℕ, take}
 use Rattle.std.specs.Prelude.{ℤ}
 use Rattle.sat_base.specs.Members.{In}
 use Rattle.sat_base.specs.Units.{AllFalseBut}

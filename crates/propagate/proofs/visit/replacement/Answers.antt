@@ -1,9 +1,7 @@
-use Rattle.std.proofs.Common.{◌≡◌, List, subst, sym}
-use Rattle.std.specs.Prelude.{ℤ}
+use Rattle.std.proofs.Common.{subst}
 use Rattle.sat_base.specs.Literals.{IsLiteral}
-use Rattle.sat_base.specs.Units.{AllFalseBut}
 use Rattle.clause_store.specs.Clauses.{clause_at}
-use Rattle.clause_store.specs.Thirds.{AreTwoOfThree, IsLeft}
+use Rattle.clause_store.specs.Thirds.{AreTwoOfThree}
 use Rattle.trail_book.specs.Trail.{trues}
 use Rattle.propagate.proofs.ClauseLemmas.{third_found, third_false, but_of}
 use Rattle.propagate.proofs.EntranceLemmas.{literal_of_clause}

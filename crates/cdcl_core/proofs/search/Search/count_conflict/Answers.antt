@@ -2,7 +2,6 @@ use Rattle.std.proofs.Common.{◌∙◌, List, take, subst, sym, refl}
 use Rattle.sat_base.specs.Units.{AllTrue}
 use Rattle.trail_book.specs.declared.entry.Entry.{Entry}
 use Rattle.trail_book.specs.Trail.{trues, keep}
-use Rattle.propagate.proofs.KeptLemmas.{kept_back}
 use Rattle.cdcl_core.proofs.StateLemmas.{state_is}
 use Rattle.cdcl_core.proofs.RestartLemmas.{state_restart, reached_restart}
 use Rattle.cdcl_core.specs.State.{ArePositive}
@@ -16,12 +15,12 @@ returns-clause-search c = λ assumed search.
     let db = s.store.clauses in
     let es = s.trail.entries in
     let count = s.assumed_levels in
-    let new = c.back_to.new.self in
+    let new = c.back_to.new.trail in
     let back = c.back_to.ensures in
     record {
-      vars = search.vars ∙ sym back.vars;
-      kept = kept_back s.store s.trail new 0 count back.entries back.vars back.done search.kept;
-      state = state_is s.trail.vars new.vars count db db s.log s.log (keep count es) new.entries assumed back.vars refl refl back.entries
+      vars = back.clauses.vars ∙ search.vars ∙ sym back.vars;
+      kept = back.kept 0 search.kept;
+      state = state_is s.trail.vars new.vars count db c.back_to.new.store.clauses s.log s.log (keep count es) new.entries assumed back.vars back.clauses.clauses refl back.entries
           (state_restart s.trail.vars db s.log es assumed count search.state);
       reached = subst (λ (xs : List Entry). AllTrue (trues xs) (take s.assumed_true assumed)) (sym back.entries)
           (reached_restart db assumed count s.assumed_true es search.state.sound search.reached);

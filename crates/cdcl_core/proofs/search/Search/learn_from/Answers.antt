@@ -1,15 +1,15 @@
-use Rattle.std.proofs.Common.{◌≡◌, ◌∷◌, [], ◌++◌, ◌-◌, arith, subst, sym, ap, ◌∙◌, List, length, ℕ, min, Some, None, inl, inr}
+use Rattle.std.proofs.Common.{◌≡◌, ◌∷◌, [], ◌++◌, ◌-◌, arith, subst, sym, ap, ◌∙◌, List, length, ℕ, Some, None, inl, inr}
 use Rattle.std.specs.Prelude.{ℤ, true}
 use Rattle.sat_base.specs.Members.{In}
 use Rattle.sat_base.specs.Literals.{IsLiteral, AreLiterals}
 use Rattle.trail_book.specs.declared.entry.Entry.{Entry}
 use Rattle.trail_book.specs.Trail.{Trail, trues, keep}
 use Rattle.propagate.specs.Entrance.{IsUnwatched}
-use Rattle.propagate.proofs.KeptLemmas.{kept_back}
+use Rattle.propagate.proofs.KeptLemmas.{kept_same}
 use Rattle.lrat_steps.specs.Log.{LogStep, Learned}
 use Rattle.cdcl_core.specs.Answers.{IsHonestlyPaid}
 use Rattle.cdcl_core.specs.Entrance.{IsAsserting}
-use Rattle.propagate.proofs.NewLemmas.{new_kept, new_clause}
+use Rattle.propagate.proofs.NewLemmas.{new_kept, new_clause, unwatched_same}
 use Rattle.cdcl_core.proofs.ActivityLemmas.{hint_is_id}
 use Rattle.cdcl_core.proofs.EntranceLemmas.{asserts}
 use Rattle.trail_book.proofs.TrailLemmas.{top-keep}
@@ -63,12 +63,8 @@ enter_learnt-requires-clause-kept c =
     let stored : c.add_step.new.store.clauses ≡ s.store.clauses ++ record { lits = lits; live = true } ∷ [] =
     c.in_ok-reason.ensures.stored ∙ ap (λ (ls : List ℤ). s.store.clauses ++ record { lits = ls; live = true } ∷ []) c.deref.ensures.value in
     let re = c.bump_conflict.ensures in
-    let entries_back : c.back_to.new.self.entries ≡ keep back s.trail.entries = c.back_to.ensures.entries ∙ ap (λ (t : Trail). keep back t.entries) re in
-    let vars_back : c.back_to.new.self.vars ≡ s.trail.vars = c.back_to.ensures.vars ∙ ap (λ (t : Trail). t.vars) re in
-    let done_back : c.back_to.new.self.done ≡ min s.trail.done (length c.back_to.new.self.entries) =
-    c.back_to.ensures.done ∙ ap (λ (t : Trail). min t.done (length c.back_to.new.self.entries)) re in
-    kept_back c.add_step.new.store s.trail c.back_to.new.self id back entries_back vars_back done_back
-    (new_kept s.store c.add_step.new.store s.trail id lits c.requires.search.kept c.add_step.ensures.links stored c.add_step.ensures.vars c.in_ok-reason.ensures.id)
+    c.back_to.ensures.kept id (kept_same c.add_step.new.store s.trail c.bump_conflict.new.trail id (ap (λ (t : Trail). t.entries) re) (ap (λ (t : Trail). t.vars) re) (ap (λ (t : Trail). t.done) re)
+    (new_kept s.store c.add_step.new.store s.trail id lits c.requires.search.kept c.add_step.ensures.links stored c.add_step.ensures.vars c.in_ok-reason.ensures.id))
 
 pub enter_learnt-requires-clause-unwatched : goal.enter_learnt-requires-clause-unwatched
 enter_learnt-requires-clause-unwatched c =
@@ -79,8 +75,9 @@ enter_learnt-requires-clause-unwatched c =
     let id = c.in_ok-reason.reason in
     let stored : c.add_step.new.store.clauses ≡ s.store.clauses ++ record { lits = lits; live = true } ∷ [] =
     c.in_ok-reason.ensures.stored ∙ ap (λ (ls : List ℤ). s.store.clauses ++ record { lits = ls; live = true } ∷ []) c.deref.ensures.value in
-    subst (λ (ls : List ℤ). IsUnwatched c.add_step.new.store id ls) (sym c.deref-3.ensures.value)
-    (new_clause s.store c.add_step.new.store s.trail id lits c.requires.search.kept c.add_step.ensures.links stored c.in_ok-reason.ensures.id)
+    subst (λ (ls : List ℤ). IsUnwatched c.back_to.new.store id ls) (sym c.deref-3.ensures.value)
+    (unwatched_same c.add_step.new.store c.back_to.new.store id lits c.back_to.ensures.clauses.clauses c.back_to.ensures.watched
+    (new_clause s.store c.add_step.new.store s.trail id lits c.requires.search.kept c.add_step.ensures.links stored c.in_ok-reason.ensures.id))
 
 pub enter_learnt-requires-clause-literal : goal.enter_learnt-requires-clause-literal
 enter_learnt-requires-clause-literal c =
@@ -91,7 +88,7 @@ enter_learnt-requires-clause-literal c =
     let lit =
     learned_first s.trail.vars s.store.clauses s.log s.trail.entries c.args.assumed.now s.assumed_levels learnt.back_level learnt.lits.items learnt.hints.items c.requires.search.state r in
     let re = c.bump_conflict.ensures in
-    let vars_back : c.back_to.new.self.vars ≡ s.trail.vars = c.back_to.ensures.vars ∙ ap (λ (t : Trail). t.vars) re in
+    let vars_back : c.back_to.new.trail.vars ≡ s.trail.vars = c.back_to.ensures.vars ∙ ap (λ (t : Trail). t.vars) re in
     subst (λ (n : ℕ). IsLiteral n c.index-first.result.now) (sym vars_back) (subst (IsLiteral s.trail.vars) (sym first) lit.1)
 
 -- on the trail that is left the clause forces its first literal
@@ -104,7 +101,7 @@ enter_learnt-requires-clause-asserting c =
     let lit =
     learned_first s.trail.vars s.store.clauses s.log s.trail.entries c.args.assumed.now s.assumed_levels learnt.back_level learnt.lits.items learnt.hints.items c.requires.search.state r in
     let asserting = asserts s.store.clauses s.trail.entries learnt.lits.items learnt.hints.items learnt.back_level r lit.0 in
-    let entries_back : c.back_to.new.self.entries ≡ keep learnt.back_level s.trail.entries =
+    let entries_back : c.back_to.new.trail.entries ≡ keep learnt.back_level s.trail.entries =
     c.back_to.ensures.entries ∙ ap (λ (t : Trail). keep learnt.back_level t.entries) c.bump_conflict.ensures in
     subst (λ (xs : List Entry). IsAsserting xs c.deref-3.result.now c.index-first.result.now) (sym entries_back)
     (subst (λ (ls : List ℤ). IsAsserting (keep learnt.back_level s.trail.entries) ls c.index-first.result.now) (sym c.deref-3.ensures.value)
@@ -131,20 +128,20 @@ returns-clause-search c =
     let first = first_is lits r.rest c.index-first.result.now r.first r.is c.index-first.ensures in
     let id_is : id ≡ length (db ++ record { lits = lits; live = true } ∷ []) = c.in_ok-reason.ensures.id ∙ ap length stored in
     let re = c.bump_conflict.ensures in
-    let entries_back : c.back_to.new.self.entries ≡ keep back s.trail.entries = c.back_to.ensures.entries ∙ ap (λ (t : Trail). keep back t.entries) re in
-    let vars_back : c.back_to.new.self.vars ≡ s.trail.vars = c.back_to.ensures.vars ∙ ap (λ (t : Trail). t.vars) re in
+    let entries_back : c.back_to.new.trail.entries ≡ keep back s.trail.entries = c.back_to.ensures.entries ∙ ap (λ (t : Trail). keep back t.entries) re in
+    let vars_back : c.back_to.new.trail.vars ≡ s.trail.vars = c.back_to.ensures.vars ∙ ap (λ (t : Trail). t.vars) re in
     let entries : c.enter_learnt.new.trail.entries ≡ record { lit = r.first; reason = Some id; unit = None } ∷ keep back es =
-    c.enter_learnt.ensures.entries ∙ ap (λ (l : ℤ). record { lit = l; reason = Some id; unit = None } ∷ c.back_to.new.self.entries) first
+    c.enter_learnt.ensures.entries ∙ ap (λ (l : ℤ). record { lit = l; reason = Some id; unit = None } ∷ c.back_to.new.trail.entries) first
     ∙ ap (λ (xs : List Entry). record { lit = r.first; reason = Some id; unit = None } ∷ xs) entries_back in
     let vars : c.enter_learnt.new.trail.vars ≡ s.trail.vars = c.enter_learnt.ensures.vars ∙ vars_back in
     let reached =
     reached_below db assumed count back c.reached_at-self.result es c.requires.search.state.sound r.back.below (elim c.reached_at-self.ensures [ inl none ↦ inl none | inr kept ↦ inr kept.0 ]) in
     record {
-      vars = c.enter_learnt.ensures.store_vars ∙ c.add_step.ensures.vars ∙ c.requires.search.vars ∙ sym vars;
+      vars = c.enter_learnt.ensures.store_vars ∙ c.back_to.ensures.clauses.vars ∙ c.add_step.ensures.vars ∙ c.requires.search.vars ∙ sym vars;
       kept = c.enter_learnt.ensures.kept;
       state =
           state_is s.trail.vars c.enter_learnt.new.trail.vars c.min-self.result (db ++ record { lits = lits; live = true } ∷ []) c.enter_learnt.new.store.clauses (s.log ++ Learned lits hints ∷ []) c.add_step.new.log
-          (record { lit = r.first; reason = Some id; unit = None } ∷ keep back es) c.enter_learnt.new.trail.entries assumed vars (c.enter_learnt.ensures.clauses ∙ stored) logged entries
+          (record { lit = r.first; reason = Some id; unit = None } ∷ keep back es) c.enter_learnt.new.trail.entries assumed vars (c.enter_learnt.ensures.clauses ∙ c.back_to.ensures.clauses.clauses ∙ stored) logged entries
           (learned_state s.trail.vars db s.log es assumed count id back c.min-self.result lits hints c.requires.search.state r c.requires.choice id_is c.min-self.ensures);
       reached = λ l i. subst (λ (xs : List Entry). In l (trues xs)) (sym entries) (inr (reached l i));
       positive = λ asked.
@@ -167,3 +164,15 @@ returns-clause-paid c =
     let recorded =
     learned_recorded s.trail.vars s.store.clauses s.log s.trail.entries c.args.assumed.now s.assumed_levels c.in_ok-learnt.learnt.back_level lits hints c.requires.search.state c.in_ok-learnt.ensures c.requires.choice in
     subst (λ (k : List LogStep). IsHonestlyPaid s.log k left (left - 1)) (sym logged) (paid_learned s.log lits hints left (left - 1) recorded.honest (omega (arith, c.requires.purse)))
+
+-- it has just come, so all but it is kept, and with that where each watch hangs
+pub back_to-requires-clause-hung : goal.back_to-requires-clause-hung
+back_to-requires-clause-hung c =
+    let s = c.args.self.now in
+    let lits = c.in_ok-learnt.learnt.lits.items in
+    let id = c.in_ok-reason.reason in
+    let stored : c.add_step.new.store.clauses ≡ s.store.clauses ++ record { lits = lits; live = true } ∷ [] =
+    c.in_ok-reason.ensures.stored ∙ ap (λ (ls : List ℤ). s.store.clauses ++ record { lits = ls; live = true } ∷ []) c.deref.ensures.value in
+    let re = c.bump_conflict.ensures in
+    (kept_same c.add_step.new.store s.trail c.bump_conflict.new.trail id (ap (λ (t : Trail). t.entries) re) (ap (λ (t : Trail). t.vars) re) (ap (λ (t : Trail). t.done) re)
+    (new_kept s.store c.add_step.new.store s.trail id lits c.requires.search.kept c.add_step.ensures.links stored c.add_step.ensures.vars c.in_ok-reason.ensures.id)).hung

@@ -6,7 +6,6 @@ use Rattle.sat_base.specs.Units.{AllTrue}
 use Rattle.trail_book.specs.declared.entry.Entry.{Entry}
 use Rattle.trail_book.specs.Trail.{trues, keep}
 use Rattle.trail_book.proofs.TrailLemmas.{lit-keep_in}
-use Rattle.propagate.proofs.KeptLemmas.{kept_back}
 use Rattle.learn_step.specs.Reasons.{IsDecision}
 use Rattle.cdcl_core.specs.State.{ArePositive}
 use Rattle.cdcl_core.proofs.StateLemmas.{state_is}
@@ -21,11 +20,11 @@ returns-clause-search c =
     let n = c.shared-levels.result in
     let l = c.shared-levels.ensures in
     let b = c.back_to.ensures in
-    let new = c.back_to.new.self in
+    let new = c.back_to.new.trail in
     record {
-      vars = e.vars ∙ sym b.vars;
-      kept = kept_back s.store s.trail new 0 n b.entries b.vars b.done e.kept;
-      state = state_is s.trail.vars new.vars n s.store.clauses s.store.clauses s.log s.log (keep n s.trail.entries) new.entries c.args.assumed.now b.vars refl refl b.entries
+      vars = b.clauses.vars ∙ e.vars ∙ sym b.vars;
+      kept = b.kept 0 e.kept;
+      state = state_is s.trail.vars new.vars n s.store.clauses c.back_to.new.store.clauses s.log s.log (keep n s.trail.entries) new.entries c.args.assumed.now b.vars b.clauses.clauses refl b.entries
           (state_shared s.trail.vars s.store.clauses s.log s.trail.entries c.requires.ready.assumed c.args.assumed.now s.assumed_levels n l.most l.decided e.state);
       reached = subst (λ (xs : List Entry). AllTrue (trues xs) (take c.shared-levels.new.reached c.args.assumed.now)) (sym b.entries) l.reached;
       positive = λ asked. subst (ArePositive n) (sym b.entries) (positive_shared s.trail.entries s.assumed_levels n (e.positive asked));

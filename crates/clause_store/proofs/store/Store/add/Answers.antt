@@ -35,6 +35,7 @@ returns-clause-links c =
       nexts = λ node. nexts-push a.records.items (λ r. r.next) y refl (node / 2) (node % 2);
       heads = refl;
       tails = refl;
+      parks = refl;
       false_id = refl;
     })
 
@@ -75,8 +76,10 @@ invariant_of-self-2 c =
       lits_counted = grind (arith, long, starts);
       a_head_each = inv.a_head_each;
       a_tail_each = inv.a_tail_each;
+      a_park_each = inv.a_park_each;
       heads = all-more (λ id. id ≤ length a.records.items) (λ id. id ≤ length c.push_reserved.new.self.items) a.heads.items (λ id h. omega (arith, h, more)) inv.heads;
       tails = all-more (λ id. id ≤ length a.records.items) (λ id. id ≤ length c.push_reserved.new.self.items) a.tails.items (λ id h. omega (arith, h, more)) inv.tails;
+      parks = all-more (λ id. id ≤ length a.records.items) (λ id. id ≤ length c.push_reserved.new.self.items) a.parks.items (λ id h. omega (arith, h, more)) inv.parks;
     }
   where
     no_more : (k d : ℕ) → k < 2 → (n : ℕ) → get_or (0 ∷ 0 ∷ []) k d ≤ n

@@ -71,6 +71,8 @@ invariant_of-self c =
       lits_counted = inv.lits_counted;
       a_head_each = inv.a_head_each;
       a_tail_each = inv.a_tail_each;
+      a_park_each = inv.a_park_each;
       heads = rw long inv.heads;
       tails = rw long inv.tails;
+      parks = rw long inv.parks;
     }
