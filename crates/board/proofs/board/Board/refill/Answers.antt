@@ -1,0 +1,6 @@
+use Rattle.board.proofs.Calls.{worker_of-push}
+use Rattle.board.proofs.board.Board.refill.Goals as goal
+
+-- the last entry is of this call
+pub returns-clause-worker : goal.returns-clause-worker
+returns-clause-worker g c = let turn = c.in-Refilled.ensures.turn in worker_of-push _ _ turn.entry _ _ turn.mine turn.told.used_is turn.told.reply_is
