@@ -1,5 +1,5 @@
 -- What a whole turn tells its seat.
-use Rattle.std.proofs.Common.{◌≡◌, ℕ, ◌==◌, List, [], ◌∷◌, ◌++◌, Some, cond, Bool, true, sym, ap, ◌∙◌, subst, append-nil, eq-eqb}
+use Rattle.std.proofs.Common.{◌≡◌, ℕ, ◌==◌, ◌<◌, ◌^◌, length, List, [], ◌∷◌, ◌++◌, Some, cond, Bool, true, sym, ap, ◌∙◌, subst, append-nil, eq-eqb}
 use Rattle.std.proofs.lemmas.List.Elements.{filter-append}
 use mathlib.Core.List.{append_cancel_left}
 use Rattle.turn_lock.specs.declared.view.Stage.TheVariants.{Waits}
@@ -16,9 +16,9 @@ module _ {B E O Op Reply : Type 0} (caller : E → ℕ) (legal : O → List E �
 
   -- what the book had beyond the seat's history is by others, since all that it has of the seat the seat had seen
   pub turns : (v : View E O) (t number : ℕ) (lock lock' : TableId) (start : O) (op : Op) (reply : Reply) (y y' : B) (e : E) → v.number ≡ number → v.opening ≡ Some start → GoesOn caller history opening v y
-      → history y' ≡ history y ++ e ∷ [] → caller e ≡ number → tells (opening y) (history y) op reply e → opening y' ≡ opening y → legal (opening y') (history y')
+      → history y' ≡ history y ++ e ∷ [] → caller e ≡ number → tells (opening y) (history y) op reply e → opening y' ≡ opening y → legal (opening y') (history y') → length (history y') < 2 ^ 63
       → IsTurn caller legal tells start (seat_view lock number v) op reply (seat_view lock' number (after v t y y'))
-  turns v t number lock lock' start op reply y y' e same opened on more by told kept right =
+  turns v t number lock lock' start op reply y y' e same opened on more by told kept right short =
       let between : List E = on.1.0 in
       let whole : v.seen ++ between ≡ history y = on.1.1 in
       let start_is : opening y ≡ start = cc (on.0, opened) in
@@ -38,5 +38,6 @@ module _ {B E O Op Reply : Type 0} (caller : E → ℕ) (legal : O → List E �
             ∙ (ap (λ (l : List E). l ++ calls_by caller number (e ∷ [])) all ∙ ap (λ (b : Bool). v.mine ++ cond b (e ∷ []) []) hit)));
         own = sym number_now;
         is_legal = subst (λ (o : O). legal o (history y')) (kept ∙ start_is) right;
+        short = short;
         told = subst (λ (z : O × List E). tells z.0 z.1 op reply e) (λ i. (start_is i, sym whole i)) told;
       }

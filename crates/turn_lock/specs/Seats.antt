@@ -1,5 +1,5 @@
 -- A lock and its seats as callers see them, and what a turn does to a seat.
-use Rattle.std.specs.Prelude.{◌≡◌, ℕ, zero, suc, List, [], ◌∷◌, ◌++◌, ◌<◌, length, slice_index_or, All, Option, Some}
+use Rattle.std.specs.Prelude.{◌≡◌, ℕ, zero, suc, List, [], ◌∷◌, ◌++◌, ◌<◌, ◌^◌, length, slice_index_or, All, Option, Some}
 pub use Rattle.atomic_table.specs.Seated.{TableId}
 use mathlib.Core.List.{IsPrefix}
 use Rattle.turn_lock.specs.Calls.{calls_by}
@@ -49,6 +49,7 @@ pub record IsTurn {E O Op Reply : Type 0} (caller : E → ℕ) (legal : O → Li
   pub mine : t.mine ≡ s.mine ++ entry ∷ []
   pub own : calls_by caller s.number t.seen ≡ t.mine
   pub is_legal : legal start t.seen
+  pub short : length t.seen < 2 ^ 63
   pub told : tells start (s.seen ++ between) op reply entry
 
 -- the seat with that number before its first turn

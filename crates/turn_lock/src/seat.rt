@@ -4,6 +4,7 @@
 //! lock's table, so it lies here as a badge, whose type does not name the book: a worker that has a seat need not know
 //! which book is under the lock, and can have a second seat at a lock with another one. A crate with one kind of book
 //! gives its seats a short name, as `type Seat = turn_lock::Seat<Entry, Opening>`.
+ghost use Rattle.std.specs.Prelude.{◌≡◌};
 ghost use Rattle.turn_lock.specs.Seats.{SeatView};
 
 use crate::view::View;
@@ -28,4 +29,13 @@ impl<E, O> Model for Seat<E, O> {
     ghost view = { λ s. seat_view s.badge.table_id s.number (view_of s.badge.views) };
 
     ghost invariant = { λ s. IsResting s.number s.badge.views };
+}
+
+impl<E, O> Seat<E, O> {
+    /// By which the lock's entries name the seat.
+    pub fn number(&self) -> u32
+        ensures { result ≡ self.now.number }
+    {
+        self.number
+    }
 }

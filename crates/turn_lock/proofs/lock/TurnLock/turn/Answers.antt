@@ -26,7 +26,7 @@ returns-clause-turn g c =
     let is_after = ap view_of c.into_badge.ensures.2 ∙ gave in
     let on : GoesOn book.caller book.history book.opening v y = subst (λ u. GoesOn book.caller book.history book.opening u y) drawn c.await_turn-book.ensures.book in
     let t = turns book.caller book.legal book.history book.opening book.tells v ticket number lock c.into_badge.result.table_id start c.args.op c.apply-reply.result y y' e.0
-    (ap (λ u. u.number) is_view ∙ c.seat.invariant.number_is) opened on e.1 e.2 e.3 c.apply-reply.ensures.opening c.apply-reply.ensures.legal in
+    (ap (λ u. u.number) is_view ∙ c.seat.invariant.number_is) opened on e.1 e.2 e.3 c.apply-reply.ensures.opening c.apply-reply.ensures.legal c.apply-reply.ensures.short in
     let from = ap (seat_view lock number) is_view ∙ c.seat.view_is in
     let to = ap (seat_view c.into_badge.result.table_id number) (sym is_after) in
     subst (λ s. IsTurn book.caller book.legal book.tells start s c.args.op c.apply-reply.result (seat_view c.into_badge.result.table_id number (view_of c.into_badge.result.views))) from
