@@ -2,7 +2,7 @@
 --
 -- All seats' calls are one history, each call one entry; it is legal where steps of the core lead through it from the
 -- opening (linearizability: Herlihy and Wing 1990).
-use Rattle.std.specs.Prelude.{◌≡◌, ℕ, true, List, [], ◌∷◌, ◌++◌, length, All}
+use Rattle.std.specs.Prelude.{◌≡◌, ℕ, ◌<◌, ◌^◌, true, List, [], ◌∷◌, ◌++◌, length, All}
 use Rattle.lrat_steps.specs.Log.{LogStep}
 pub use Rattle.turn_lock.specs.Seats.{LockView, SeatView, IsSeatOf, IsSameSeat, HasAll}
 use Rattle.map_core.specs.declared.entry.Call.{Call}
@@ -37,6 +37,7 @@ pub record IsCall (o : Opening) (s : SeatView Entry Opening) (call : Call) (used
   pub mine : t.mine ≡ s.mine ++ entry ∷ []
   pub own : calls_of s.number t.seen ≡ t.mine
   pub is_legal : IsLegal o t.seen
+  pub short : length t.seen < 2 ^ 63
 
 -- there is a seat for each worker, and its own entries have ended it
 pub record HaveAllEnded (o : Opening) (seats : List (SeatView Entry Opening)) : Type 0 where
