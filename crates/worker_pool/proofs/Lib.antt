@@ -1,0 +1,5 @@
+pub mod Settled
+pub mod Given
+pub mod Steps
+pub mod Learned
+pub mod Crewed

@@ -1,0 +1,33 @@
+use Rattle.std.proofs.Common.{◌≡◌, ◌∷◌, ◌++◌, [], length, All, refl, sym, ◌∙◌, ap, subst, arith, length-append}
+use Rattle.std.proofs.lemmas.List.Elements.{All-push, All-head, All-tail}
+use Rattle.evidence_rec.specs.Asking.{IsHonestOver}
+use Rattle.worker_pool.specs.Workers.{seat_of, log_of}
+use Rattle.worker_pool.proofs.Crewed.{taken_over}
+use Rattle.worker_pool.proofs.crew.dismiss.Goals as goal
+
+-- the worker's seat and its oracle's log come to the end of their lists
+pub loop-worker-preserved : goal.loop-worker-preserved
+loop-worker-preserved g c =
+    let state = g.O.Oracle.state in
+    let i = c.loop-worker.invariant in
+    let w = c.in-Some.worker in
+    let old = c.loop-worker.worker-iterator.rest.items in
+    let rest = c.next.new.self.rest.items in
+    let next : old ≡ w ∷ rest = c.in-Some.ensures.steps.0 in
+    let seats = c.push_reserved.ensures in
+    let logs = c.push_reserved-in-loop-worker.ensures in
+    let log = c.into_log.ensures.log in
+    let left = ap length next in
+    let seats_size = ap length seats.items ∙ length-append c.loop-worker.seats.items (w.seat ∷ []) in
+    let logs_size = ap length logs.items ∙ length-append c.loop-worker.logs.items (c.into_log.result ∷ []) in
+    let asks = subst (All (λ u. (state u.oracle).problem ≡ c.args.problem.now)) next i.5 in
+    let of = All-head (λ u. (state u.oracle).problem ≡ c.args.problem.now) w rest asks in
+    let honest = subst (IsHonestOver c.args.problem.now) (sym log) (subst (λ p. IsHonestOver p (state w.oracle).log) of c.into_log.ensures.honest) in (
+      taken_over seat_of c.loop-worker.seats.items c.push_reserved.new.self.items old rest w w.seat _ i.0 next seats.items refl,
+      taken_over (log_of state) c.loop-worker.logs.items c.push_reserved-in-loop-worker.new.self.items old rest w c.into_log.result _ i.1 next logs.items log,
+      omega (arith, i.2, seats.capacity),
+      omega (arith, i.3, logs.capacity),
+      subst (All (IsHonestOver c.args.problem.now)) (sym logs.items) (All-push (IsHonestOver c.args.problem.now) c.loop-worker.logs.items c.into_log.result i.4 honest),
+      All-tail (λ u. (state u.oracle).problem ≡ c.args.problem.now) w rest asks,
+      logs.capacity ∙ i.6,
+    )

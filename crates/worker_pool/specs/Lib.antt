@@ -1,0 +1,4 @@
+pub mod Course
+pub mod Exploring
+pub mod Workers
+pub mod Outcomes

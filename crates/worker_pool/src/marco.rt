@@ -1,0 +1,142 @@
+//! MARCO: the enumeration of all minimal conflicts and minimal corrections (Liffiton, Previti, Malik and Marques-Silva 2016).
+//!
+//! The board hands out a seed, a set of groups that no record explores. The oracle says whether its groups can be satisfied
+//! together. If they can, the seed is grown to a maximal satisfiable set, and the groups outside are a minimal correction;
+//! if not, the oracle's core of the seed is shrunk to a minimal conflict. The record is posted, and explores the seed. Where
+//! the purse is found empty amid this, it is refilled and the same job is begun again, with what the oracle has learnt.
+//!
+//! Workers do this at the same time. What one of them posts meanwhile can explore the seed of another, which then posts a
+//! record that is held already, or one more of the same seed.
+ghost use Rattle.std.specs.Prelude.{◌≡◌, ◌<◌, ◌≤◌, ◌^◌, true, false, IfOk, length};
+ghost use Rattle.gm_base.specs.Sets.{IsSubset, all_groups};
+ghost use Rattle.evidence_rec.specs.Asking.{IsSpent};
+ghost use Rattle.map_core.specs.Sound.{IsOpening};
+ghost use Rattle.map_core.specs.Own.{worker_of};
+ghost use Rattle.board.specs.Boards.{IsSameSeat};
+ghost use Rattle.worker_pool.specs.Course.{Free, At, IsGiven};
+ghost use Rattle.worker_pool.specs.Exploring.{TellsExplored};
+ghost use Rattle.worker_pool.specs.Workers.{IsNew, IsAt, IsOver};
+
+use crate::worker::Worker;
+use board::Board;
+use evidence_rec::{Asked, MapEngine, Oracle, Record};
+use gm_base::{GroupSet, Problem, Purse};
+use gm_ports::Gate;
+use map_core::{Posted, Refilled, Taken};
+use mss_grow::{Grown, grow};
+use mus_shrink::{Shrunk, shrink};
+use std::alloc::{AllocError, Global};
+use std::sync::Wait;
+
+/// What comes of exploring a seed.
+#[derive(Drop)]
+pub enum Explored {
+    /// A record that explores it.
+    Found(Record),
+    /// The purse is empty, and this set was asked about last.
+    Dry(GroupSet),
+}
+
+/// Asks about a seed, and shrinks it to a conflict or grows it to a correction.
+pub fn explore<O: Oracle>(
+    alloc: Global,
+    oracle: &mut O,
+    problem: &Problem,
+    seed: &GroupSet,
+    turn: u64,
+    purse: &mut Purse,
+) -> Result<Explored, AllocError>
+    requires problem { (O.state oracle.old).problem ≡ problem.now }
+    requires within { IsSubset seed.now (all_groups problem.now.groups) }
+    ensures explored { IfOk result (TellsExplored (O.state oracle.new) seed.now purse.new.left) }
+    ensures spent { IsSpent (O.state oracle.old) (O.state oracle.new) purse.old.left purse.new.left }
+{
+    let _groups = problem.groups(); // The problem is well-formed.
+    match oracle.ask(alloc, seed, turn, purse)? {
+        Asked::Sat(assign) => {
+            match grow(alloc, oracle, problem, seed, &assign, turn, purse)? {
+                Grown::Done(record) => Ok(Explored::Found(record)),
+                Grown::Dry(asked) => Ok(Explored::Dry(asked)),
+            }
+        }
+        Asked::Unsat(core) => {
+            match shrink(alloc, oracle, problem, &core, turn, purse)? {
+                Shrunk::Done(record) => Ok(Explored::Found(record)),
+                Shrunk::Dry(asked) => Ok(Explored::Dry(asked)),
+            }
+        }
+        Asked::Dry => Ok(Explored::Dry(seed.copy(alloc)?)),
+    }
+}
+
+/// Explores a seed until its record is posted, and tells whether the worker goes on.
+fn work_on<O: Oracle, M: MapEngine, R: Wait>(
+    rt: &R,
+    alloc: Global,
+    board: &Board<M>,
+    problem: &Problem,
+    worker: &mut Worker<O>,
+    turn: u64,
+    seed: &GroupSet,
+    grant: u64,
+) -> bool
+    requires board { board.now.opening.problem ≡ problem.now }
+    requires given { IsGiven problem.now board.now.opening.tops seed.now }
+    requires at { IsAt board.now problem.now (At seed.now) (O.state worker.old.oracle) worker.old.seat }
+    requires granted { (worker_of worker.old.seat.mine).purse ≡ grant }
+    ensures same { IsSameSeat worker.old.seat worker.new.seat }
+    ensures goes_on { result ≡ true → IsAt board.now problem.now Free (O.state worker.new.oracle) worker.new.seat }
+    ensures ends { result ≡ false → IsOver board.now problem.now (O.state worker.new.oracle) worker.new.seat }
+    ensures longer { length worker.old.seat.seen < length worker.new.seat.seen }
+    ensures short { length worker.new.seat.seen < 2 ^ 63 }
+{
+    let mut purse = Purse { left: grant };
+    let mut granted = grant;
+    loop {
+        let explored = explore(alloc, &mut worker.oracle, problem, seed, turn, &mut purse);
+        let used = granted - purse.left;
+        match explored {
+            Ok(Explored::Found(record)) => {
+                let posted = board.post(rt, &mut worker.seat, used, record);
+                return matches!(posted, Posted::New | Posted::Already);
+            }
+            Ok(Explored::Dry(asked)) => {
+                let refilled = board.refill(rt, &mut worker.seat, used, asked);
+                let Refilled::Grant(more) = refilled else {
+                    return false;
+                };
+                granted = more;
+                purse = Purse { left: more };
+            }
+            Err(AllocError) => {
+                board.retire(rt, &mut worker.seat, used);
+                return false;
+            }
+        }
+    }
+}
+
+/// Explores one seed after the other, until the board has no more work for this worker.
+///
+/// The gate is passed before each job. Want of memory ends the worker.
+pub fn work<O: Oracle, M: MapEngine, G: Gate, R: Wait>(
+    rt: &R,
+    alloc: Global,
+    board: &Board<M>,
+    problem: &Problem,
+    worker: &mut Worker<O>,
+    gate: &G,
+)
+    requires board { board.now.opening.problem ≡ problem.now }
+    requires opening { IsOpening board.now.opening }
+    requires new { IsNew board.now problem.now (O.state worker.old.oracle) worker.old.seat }
+    ensures same { IsSameSeat worker.old.seat worker.new.seat }
+    ensures over { IsOver board.now problem.now (O.state worker.new.oracle) worker.new.seat }
+{
+    while let Taken::Job { turn, seed, grant } = board.take(rt, &mut worker.seat, 0) {
+        gate.pass(worker.seat.number(), turn);
+        if !work_on(rt, alloc, board, problem, worker, turn, &seed, grant) {
+            return;
+        }
+    }
+}
