@@ -1,5 +1,5 @@
 -- What the seats' own entries say of the whole history.
-use Rattle.std.proofs.Common.{◌≡◌, ℕ, ◌<◌, ◌≤◌, true, List, [], length, slice_index_or, All, Some, refl, sym, ◌∙◌, ap, subst, arith}
+use Rattle.std.proofs.Common.{◌≡◌, ◌<◌, List, [], length, Some, sym, ◌∙◌, ap, subst, arith}
 use Rattle.turn_lock.specs.Calls.{calls_by}
 use Rattle.turn_lock.specs.Seats.{LockView, SeatView, AreAll, HasAll}
 use Rattle.map_core.specs.declared.entry.Entry.{Entry}

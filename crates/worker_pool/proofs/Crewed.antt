@@ -1,17 +1,17 @@
 -- From new workers to workers that are over, and what is left of them.
-use Rattle.std.proofs.Common.{◌≡◌, ℕ, zero, suc, ◌+◌, ◌-◌, ◌^◌, ◌<◌, ◌≤◌, Bool, true, List, [], ◌∷◌, ◌++◌, min, length, map, get_or, take, All, Some, append_assoc, refl, sym, ◌∙◌, ap, subst, arith}
+use Rattle.std.proofs.Common.{◌≡◌, ℕ, zero, suc, ◌-◌, ◌^◌, ◌<◌, ◌≤◌, List, [], ◌∷◌, ◌++◌, min, length, map, get_or, take, All, Some, append_assoc, refl, sym, ◌∙◌, ap, subst, arith}
 use Rattle.std.proofs.lemmas.List.{get_or-map, length-map}
 use Rattle.std.proofs.Math.Seq.{take-append_seam}
 use Rattle.gm_base.specs.Problem.{Problem}
 use Rattle.lrat_steps.specs.Log.{LogStep}
 use Rattle.turn_lock.specs.Calls.{calls_by}
-use Rattle.turn_lock.specs.Seats.{AreNew, AreAll, made_at, new_seat}
+use Rattle.turn_lock.specs.Seats.{AreNew, made_at, new_seat}
 use Rattle.evidence_rec.specs.Asking.{OracleState, IsHonestOver}
 use Rattle.map_core.specs.declared.entry.Entry.{Entry}
 use Rattle.map_core.specs.declared.entry.Opening.{Opening}
 use Rattle.map_core.specs.declared.closing.Closing.{Closing}
 use Rattle.map_core.specs.Own.{caller_of, calls_of, worker_of, used_in}
-use Rattle.board.specs.Boards.{LockView, SeatView, IsSeatOf, IsSameSeat, IsClosed}
+use Rattle.board.specs.Boards.{LockView, SeatView, IsSeatOf, IsClosed}
 use Rattle.worker_pool.specs.declared.worker.Worker.{Worker}
 use Rattle.worker_pool.specs.Workers.{IsFresh, IsNew, IsOver, HasWorked, IsDone, AreOver, oracle_of, seat_of, log_of}
 use Rattle.worker_pool.specs.Outcomes.{IsLeft, learned_in}

@@ -1,15 +1,15 @@
 -- What is shrunk or grown from a seed explores it; and a satisfiable top is explored by its complement alone.
-use Rattle.std.proofs.Common.{◌≡◌, ℕ, Bool, true, false, not, ◌&&◌, List, [], ◌∷◌, map, refl, sym, ◌∙◌, ap, subst, inl, inr, eqb, eq-eqb}
+use Rattle.std.proofs.Common.{◌≡◌, ℕ, Bool, true, false, not, ◌&&◌, List, [], ◌∷◌, refl, sym, ◌∙◌, ap, subst, inl, inr, eqb, eq-eqb}
 use Rattle.std.specs.List.{list_all, AllByRecursion}
-use Rattle.std.proofs.lemmas.Bool.{false≢true, and_parts, and_from, eqb-true, cases_Bool, false_from_ne_true, true_from_ne_false, not-true}
+use Rattle.std.proofs.lemmas.Bool.{false≢true, and_parts, and_from, eqb-true, false_from_ne_true, true_from_ne_false, not-true}
 use Rattle.sat_base.specs.Members.{In}
 use Rattle.sat_base.proofs.Members.{In-map, In-from_map, all_at, all_from, any_at, any_from}
 use Rattle.gm_base.specs.Sets.{has, IsSubset, without, complement, all_groups}
 use Rattle.gm_base.specs.Problem.{Problem, IsProblem, Sat}
 use Rattle.gm_base.specs.Minimal.{IsCorrection}
 use Rattle.gm_base.specs.Explored.{explores, is_explored, IsUnexplored}
-use Rattle.gm_base.specs.declared.kind.Kind.TheVariants.{Conflict as OfConflict, Correction as OfCorrection}
-use Rattle.gm_base.proofs.SetLemmas.{AscendsAbove-same, has-complement, has-without, has-complement-parts, has-complement-from, IsGroupSet-complement}
+use Rattle.gm_base.specs.declared.kind.Kind.TheVariants.{Correction as OfCorrection}
+use Rattle.gm_base.proofs.SetLemmas.{AscendsAbove-same, has-complement, has-without, has-complement-from, IsGroupSet-complement}
 use Rattle.gm_base.proofs.SatLemmas.{Sat-subset}
 use Rattle.evidence_rec.specs.declared.record.Record.{Record}
 use Rattle.evidence_rec.specs.declared.record.Record.TheVariants.{Conflict, Correction}

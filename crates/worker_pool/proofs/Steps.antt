@@ -1,18 +1,18 @@
 -- What each call changes of a worker.
-use Rattle.std.proofs.Common.{◌≡◌, ◌≢◌, ◌⊎◌, ℕ, ◌+◌, ◌<◌, ◌≤◌, ◌^◌, Bool, true, false, List, [], ◌∷◌, ◌++◌, length, refl, sym, ◌∙◌, ap, subst, inl, inr, arith, length-append}
+use Rattle.std.proofs.Common.{◌≡◌, ◌≢◌, ◌⊎◌, ℕ, ◌+◌, ◌<◌, ◌≤◌, Bool, true, List, [], ◌∷◌, ◌++◌, length, refl, sym, ◌∙◌, ap, subst, inl, inr, arith, length-append}
 use Rattle.std.proofs.lemmas.List.Sums.{sum_by_push}
 use Rattle.gm_base.specs.Problem.{Problem}
 use Rattle.gm_base.specs.Explored.{explores}
 use Rattle.lrat_steps.specs.Log.{LogStep, db_of, learned_count}
 use Rattle.lrat_steps.specs.Undecided.{Undecided}
-use Rattle.lrat_steps.proofs.PaidLemmas.{learned-grows, left-within}
+use Rattle.lrat_steps.proofs.PaidLemmas.{left-within}
 use Rattle.evidence_rec.specs.declared.record.Record.{Record}
 use Rattle.evidence_rec.specs.Records.{kind_of, set_of, found_of, IsAccepted}
 use Rattle.evidence_rec.specs.Asking.{OracleState, IsSpent, selectors}
 use Rattle.map_core.specs.declared.entry.Call.{Call}
 use Rattle.map_core.specs.declared.entry.Call.TheVariants.{Take, Refill, Post, Retire}
 use Rattle.map_core.specs.declared.entry.Reply.{Reply}
-use Rattle.map_core.specs.declared.entry.Reply.TheVariants.{Job, Grant, Dry, Retired}
+use Rattle.map_core.specs.declared.entry.Reply.TheVariants.{Job, Grant, Retired}
 use Rattle.map_core.specs.declared.entry.Entry.{Entry}
 use Rattle.map_core.specs.declared.entry.Opening.{Opening}
 use Rattle.map_core.specs.declared.turn.Worker.{Worker}
@@ -25,9 +25,9 @@ use Rattle.map_core.specs.declared.replies.Posted.TheVariants as posted
 use Rattle.map_core.specs.Replies.{take_reply, refill_reply, post_reply}
 use Rattle.map_core.specs.Own.{worker_after, worker_of, used_in}
 use Rattle.map_core.proofs.Steps.{last-same}
-use Rattle.board.specs.Boards.{LockView, SeatView, IsSeatOf, IsSameSeat, IsCall, MayCall}
+use Rattle.board.specs.Boards.{LockView, SeatView, IsSameSeat, IsCall, MayCall}
 use Rattle.worker_pool.specs.Course.{Place, Free, At, Over, place_after, place_from, MayCome, IsCourse, EndsUndecided, IsGiven}
-use Rattle.worker_pool.specs.Workers.{IsFresh, IsNew, IsWorker, IsAt, IsOver}
+use Rattle.worker_pool.specs.Workers.{IsNew, IsWorker, IsAt, IsOver}
 use Rattle.worker_pool.proofs.Settled.{settles}
 
 place_from-push : (here : Place) (es : List Entry) (e : Entry) → place_from here (es ++ e ∷ []) ≡ place_after (place_from here es) e.reply

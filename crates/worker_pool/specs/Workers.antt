@@ -2,7 +2,7 @@
 use Rattle.std.specs.Prelude.{◌≡◌, ℕ, ◌<◌, Bool, true, false, List, [], length, All, slice_index_or}
 use Rattle.gm_base.specs.Problem.{Problem}
 use Rattle.lrat_steps.specs.Log.{LogStep, learned_count}
-use Rattle.turn_lock.specs.Seats.{made_at, AreAll}
+use Rattle.turn_lock.specs.Seats.{AreAll}
 use Rattle.evidence_rec.specs.Asking.{OracleState, IsHonestOver}
 use Rattle.map_core.specs.declared.entry.Entry.{Entry}
 use Rattle.map_core.specs.declared.entry.Opening.{Opening}

@@ -62,7 +62,12 @@ pub fn work_all<O: Oracle + Send, M: MapEngine + Send, G: Gate, R: Threads + Wai
 }
 
 /// The seats of all workers go back to their list, and the logs of their oracles to theirs.
-pub fn dismiss<O: Oracle + Drop>(problem: &Problem, workers: Vec<Worker<O>>, seats: &mut Vec<Seat>, logs: &mut Vec<Log>)
+pub fn dismiss<O: Oracle + Drop>(
+    problem: &Problem,
+    workers: Vec<Worker<O>>,
+    seats: &mut Vec<Seat>,
+    logs: &mut Vec<Log>,
+)
     requires problem { All (λ w. (O.state w.oracle).problem ≡ problem.now) workers.items }
     requires empty { (seats.old.items ≡ []) × (logs.old.items ≡ []) }
     requires room { (length workers.items ≤ vec_capacity seats.old) × (length workers.items ≤ vec_capacity logs.old) }

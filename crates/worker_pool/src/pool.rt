@@ -33,7 +33,12 @@ pub struct Outcome {
 /// Enumerates the minimal conflicts and minimal corrections of a problem, with a worker for each oracle.
 ///
 /// All lists that it needs at its end are made before the workers begin.
-pub fn enumerate<O: Oracle + Send + Drop, M: MapEngine + Send + Drop, G: Gate, R: Threads + Wait + Sync>(
+pub fn enumerate<
+    O: Oracle + Send + Drop,
+    M: MapEngine + Send + Drop,
+    G: Gate,
+    R: Threads + Wait + Sync,
+>(
     rt: &R,
     alloc: Global,
     problem: &Problem,
@@ -51,7 +56,9 @@ pub fn enumerate<O: Oracle + Send + Drop, M: MapEngine + Send + Drop, G: Gate, R
     requires log { (M.state engine).log ≡ [] }
     ensures { IsOutcome (opening_of problem.now records (length oracles.items) budget limit M.TOPS) result }
 {
-    match share(rt, alloc, problem, records, oracles, engine, budget, limit, gate) {
+    match share(
+        rt, alloc, problem, records, oracles, engine, budget, limit, gate,
+    ) {
         Ok(outcome) => outcome,
         Err(AllocError) => Outcome {
             verdict: Verdict::Memory,

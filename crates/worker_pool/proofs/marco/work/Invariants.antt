@@ -1,4 +1,4 @@
-use Rattle.std.proofs.Common.{◌≡◌, ◌-◌, ◌^◌, length}
+use Rattle.std.proofs.Common.{◌-◌, ◌^◌, length}
 use Rattle.board.specs.Boards.{IsSameSeat}
 use Rattle.worker_pool.specs.Course.{Free}
 use Rattle.worker_pool.specs.Workers.{IsAt}

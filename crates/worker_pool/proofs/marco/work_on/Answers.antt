@@ -1,4 +1,4 @@
-use Rattle.std.proofs.Common.{rules, ◌∙◌, arith, subst, refl}
+use Rattle.std.proofs.Common.{rules, arith, subst, refl}
 use Rattle.worker_pool.specs.Exploring.{TellsExplored}
 use Rattle.worker_pool.proofs.Steps.{spent-within, longer, same-seat, refill_goes_on, refill_ends, post_goes_on, post_ends, retire_ends}
 use Rattle.worker_pool.proofs.marco.work_on.Goals as goal

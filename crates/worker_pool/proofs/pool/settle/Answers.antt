@@ -1,4 +1,4 @@
-use Rattle.std.proofs.Common.{[], ◌∷◌, ◌++◌, refl, sym, ◌∙◌, subst}
+use Rattle.std.proofs.Common.{refl, sym, ◌∙◌, subst}
 use Rattle.worker_pool.specs.Outcomes.{IsLeft}
 use Rattle.worker_pool.proofs.Crewed.{is_left, counted}
 use Rattle.worker_pool.proofs.pool.settle.Goals as goal

@@ -1,4 +1,4 @@
-use Rattle.std.proofs.Common.{◌≡◌, ℕ, ◌<◌, ◌++◌, length, take, drop, map, get_or, All, sym, ◌∙◌, ap, subst, arith}
+use Rattle.std.proofs.Common.{◌≡◌, ℕ, ◌<◌, length, drop, map, get_or, All, sym, ◌∙◌, ap, subst, arith}
 use Rattle.std.proofs.lemmas.List.{length-map}
 use Rattle.map_core.specs.declared.entry.Opening.{Opening}
 use Rattle.worker_pool.specs.Workers.{IsNew, HasWorked, oracle_of, seat_of, log_of}
