@@ -6,7 +6,7 @@
 //! shared once it is finished: a copy is one more reference to the same words. The values are bits of those words, and how
 //! many there are stands beside the pointer, so that a prefix is a shorter length over what is shared. Behind that length
 //! the words keep what was written: nothing may compare them whole.
-ghost use Rattle.std.specs.Prelude.{◌≡◌, ◌<◌, ◌≤◌, ◌-◌, false, IfOk, length, replicate, slice_index_or, slice_set, take};
+ghost use Rattle.std.specs.Prelude.{◌≡◌, ◌<◌, ◌≤◌, ◌-◌, false, not, IfOk, length, replicate, slice_index_or, slice_set, take};
 ghost use Rattle.sat_base.specs.Literals.{AreLiterals, clause_true, literal_true, var_of};
 
 use crate::bits::{read, write};
@@ -117,6 +117,20 @@ impl Assign {
             len: len.min(vars as usize),
             words,
         }
+    }
+
+    /// The same values but for that of one variable, counted from 1, which is the other one. It costs a copy of the words.
+    pub fn flipped(&self, alloc: Global, var: u32) -> Result<Assign, AllocError>
+        requires not_zero { 0 < var }
+        requires in_range { var ≤ length self.now }
+        ensures { IfOk result (λ flipped. flipped ≡ slice_set self.now (var - 1) (not (slice_index_or self.now (var - 1) false))) }
+    {
+        let value = self.value(var);
+        let mut words = Vec::from_slice(alloc, self.words.as_slice())?;
+        write(&mut words, (var - 1) as usize, !value);
+        let words = Arc::new(alloc, words)?;
+        let len = self.len;
+        Ok(Assign { len, words })
     }
 
     // The value of a variable.
