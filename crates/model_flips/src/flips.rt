@@ -73,6 +73,12 @@ impl Flips {
         })
     }
 
+    pub fn problem(&self) -> &Problem
+        ensures { result.now ≡ self.now }
+    {
+        &self.problem
+    }
+
     /// How many literals the problem has.
     pub fn size(&self) -> usize {
         self.occurrences.total()

@@ -14,12 +14,17 @@
 //!
 //! Nothing rests on the flips: what is handed out is tested clause by clause, and the test is all that the promise of
 //! `shown` stands on. Not said: that a group which could be made true is.
+//!
+//! [`Rotation`] flips one variable of an assignment that is known to satisfy all groups but some, and tells at the cost of
+//! the clauses that have the variable which groups are left out then. Start there at `specs/Rotation.antt`.
 #![tactic(auto)]
 
 mod flips;
 mod occurrences;
+mod rotation;
 mod standing;
 #[cfg(test)]
 mod tests;
 
 pub use flips::{Flips, MOST_FLIPS};
+pub use rotation::{Rotation, Turned};

@@ -2,6 +2,7 @@
 ghost use Rattle.std.specs.Prelude.{◌≡◌, IfOk};
 
 use crate::flips::Flips;
+use crate::rotation::Rotation;
 use gm_base::{Assign, AssignBuilder, Clause, Clauses, GroupSet, Lit, Lits, Problem};
 use std::alloc::{AllocError, Global};
 use std::test::Fail;
@@ -65,5 +66,81 @@ fn groups_are_made_true_where_no_true_one_is_lost(rt: HostRuntime) -> Result<(),
         assert!(rt; flips.shown(alloc, &out)?.is_some(), "{at}");
         assert!(rt; flips.shown(alloc, &none)?.is_none(), "{at}");
     }
+    Ok(())
+}
+
+// The values, the groups that they leave out, the variable that is flipped, and the groups left out then.
+const TURNS: [((bool, bool, bool), u32, u32, &[u32]); 5] = [
+    ((false, false, false), 1, 1, &[2]),
+    ((true, false, false), 2, 2, &[3]),
+    ((true, true, false), 3, 3, &[4]),
+    ((false, false, false), 1, 3, &[1, 4]),
+    ((true, true, true), 4, 1, &[1, 4]),
+];
+
+#[test]
+fn a_turn_leaves_out_what_it_falsifies(rt: HostRuntime) -> Result<(), Fail> {
+    let alloc = rt.alloc();
+    let problem = chain(alloc)?;
+    let rotation = Rotation::new(alloc, &problem)?;
+    for (at, (before, group, var, wanted)) in TURNS.iter().enumerate() {
+        let assign = values(alloc, *before)?;
+        let mut out = GroupSet::new(alloc);
+        if *group > 0 {
+            out = out.with(alloc, *group)?;
+        }
+        let found = turn(alloc, &problem, &rotation, &out, &assign, *var)?;
+        let Some(turned) = found else {
+            assert!(rt; false, "{at}");
+            return Ok(());
+        };
+        assert_eq!(rt; turned.as_slice(), *wanted, "{at}");
+    }
+    Ok(())
+}
+
+// The groups that are left out after a turn.
+fn turn(
+    alloc: Global,
+    problem: &Problem,
+    rotation: &Rotation,
+    out: &GroupSet,
+    assign: &Assign,
+    var: u32,
+) -> Result<Option<GroupSet>, AllocError> {
+    if var == 0 || var > problem.vars() || assign.len() != problem.vars() as usize {
+        return Ok(None);
+    }
+    let Some(turned) = rotation.turned(alloc, problem, out, assign, var)? else {
+        return Ok(None);
+    };
+    Ok(Some(turned.out))
+}
+
+// x in the background, and its denial in group 1.
+fn fact(alloc: Global) -> Result<Problem, AllocError> {
+    let x = Lit::new(1);
+    let mut clauses = Clauses::new(alloc);
+    clauses.push(Clause {
+        group: 0,
+        lits: Lits::from_slice(alloc, &[x])?,
+    })?;
+    clauses.push(Clause {
+        group: 1,
+        lits: Lits::from_slice(alloc, &[x.negated()])?,
+    })?;
+    Problem::new(alloc, 1, 1, clauses)
+}
+
+#[test]
+fn no_turn_falsifies_the_background(rt: HostRuntime) -> Result<(), Fail> {
+    let alloc = rt.alloc();
+    let problem = fact(alloc)?;
+    let rotation = Rotation::new(alloc, &problem)?;
+    let mut builder = AssignBuilder::all_false(alloc, 1)?;
+    builder.set(1, true);
+    let assign = builder.finish(alloc)?;
+    let out = GroupSet::new(alloc).with(alloc, 1)?;
+    assert!(rt; turn(alloc, &problem, &rotation, &out, &assign, 1)?.is_none());
     Ok(())
 }
