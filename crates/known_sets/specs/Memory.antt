@@ -4,6 +4,7 @@ use Rattle.sat_base.specs.Derivation.{Derivation}
 use Rattle.gm_base.specs.Sets.{complement}
 use Rattle.gm_base.specs.Problem.{Problem}
 use Rattle.gm_base.specs.Evidence.{refutes, is_witness}
+use Rattle.model_flips.specs.Rotation.{IsListing}
 use Rattle.known_sets.specs.declared.entry.Entry.{Entry}
 use Rattle.known_sets.specs.declared.memory.Memory.{Memory}
 
@@ -22,3 +23,4 @@ pub record IsRightFor (p : Problem) (m : Memory) : Type 0 where
   pub refuted : All (IsRefuted p) m.refuted
   pub held : IfSome m.held (IsRefuted p)
   pub satisfied : All (IsSatisfied p) m.satisfied
+  pub rotation : IfSome m.rotation (IsListing p.clauses)

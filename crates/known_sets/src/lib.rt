@@ -28,6 +28,7 @@ mod neighbours;
 mod numbers;
 mod oracle;
 mod satisfied;
+mod turning;
 #[cfg(test)]
 mod tests;
 

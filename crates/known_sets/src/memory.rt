@@ -18,14 +18,18 @@
 //! all groups that it satisfies then is remembered with it, and is often the next seed. How much flipping may look at is
 //! bounded by how many questions the oracle within was asked.
 //!
+//! One that leaves out one group of the set that is shrunk is turned as well, one variable at a time, so that it leaves out
+//! another group in its place: each assignment that comes of that answers the question of shrinking about that group.
+//!
 //! Shrinking refutes ever smaller sets, of which only the last is worth keeping. So the set that was refuted last is held
 //! apart, and goes to the others when one comes that does not lie within it.
-ghost use Rattle.std.specs.Prelude.{◌≡◌, not, true, All, IfOk, IfSome};
+ghost use Rattle.std.specs.Prelude.{◌≡◌, not, true, All, None, IfOk, IfSome};
 ghost use Rattle.std.specs.List.{list_all};
 ghost use Rattle.gm_base.specs.Sets.{has, without, IsSubset, all_groups};
 ghost use Rattle.gm_base.specs.Problem.{Problem};
 ghost use Rattle.gm_base.specs.Evidence.{refutes, is_witness};
 ghost use Rattle.evidence_rec.specs.Records.{IsAccepted};
+ghost use Rattle.model_flips.specs.Rotation.{IsListing, Satisfies};
 ghost use Rattle.known_sets.specs.Memory.{IsRefuted, IsSatisfied, IsRightFor};
 
 use crate::arena::set_of;
@@ -33,9 +37,10 @@ use crate::entry::{Entry, Refuted};
 use crate::index::{SetIndex, Wanted};
 use crate::neighbours::one_more;
 use crate::satisfied::SatisfiedSets;
+use crate::turning::turn_all;
 use evidence_rec::Record;
 use gm_base::{Assign, Derivation, GroupSet, Problem};
-use model_flips::Flips;
+use model_flips::{Flips, Rotation};
 use std::alloc::{AllocError, Global};
 
 // What a question costs the oracle within at least, in looks of the flips: so many, and so many for each literal of the
@@ -53,6 +58,10 @@ pub struct Memory {
     // Each by its complement.
     satisfied: SatisfiedSets,
     flips: Flips,
+    // Made when it is needed first.
+    rotation: Option<Rotation>,
+    // What was looked at for turns, in literals and in words of assignments.
+    turns: u64,
     // How many questions the oracle within has answered.
     answers: u64,
     // No group is marked between look-ups.
@@ -75,6 +84,8 @@ impl Memory {
             held: None,
             satisfied: SatisfiedSets::new(alloc, groups, most / 2)?,
             flips: Flips::new(alloc, problem)?,
+            rotation: None,
+            turns: 0,
             answers: 0,
             marks: vec![in alloc; false; groups as usize + 1]?,
             last_refuted: None,
@@ -165,7 +176,42 @@ impl Memory {
         let Some(grown) = self.flips.shown(alloc, &out)? else {
             return Ok(());
         };
-        self.satisfied.insert(&out, grown)
+        self.keep_turning(alloc, &out, grown)
+    }
+
+    // Remembers an assignment that satisfies all groups but some, and what comes of turning it.
+    fn keep_turning(
+        &mut self,
+        alloc: Global,
+        out: &GroupSet,
+        assign: Assign,
+    ) -> Result<(), AllocError>
+        ensures { (p : Problem) → IsRightFor p self.old → Satisfies p out.now assign → IsRightFor p self.new }
+    {
+        let first = self.satisfied.len();
+        self.satisfied.insert(out, assign)?;
+        self.turn_from(alloc, first)
+    }
+
+    // Turns the assignment of this number, and what comes of it. It goes on for as long as turns have not cost more so far
+    // than the questions have.
+    fn turn_from(&mut self, alloc: Global, first: usize) -> Result<(), AllocError>
+        ensures { (p : Problem) → IsRightFor p self.old → IsRightFor p self.new }
+    {
+        let rotation = taken(alloc, &mut self.rotation, self.flips.problem())?;
+        let most = looks_of(self.answers, self.flips.size());
+        let turned = turn_all(
+            alloc,
+            &rotation,
+            self.flips.problem(),
+            &self.shrinking,
+            &mut self.satisfied,
+            first,
+            &mut self.turns,
+            most,
+        );
+        self.rotation = Some(rotation);
+        turned
     }
 
     /// Remembers that a set is refuted, and gives it back with its refutation, where there is memory for that.
@@ -217,6 +263,21 @@ impl Memory {
                 }
             }
         }
+    }
+}
+
+// The rotation that is kept, or a new one.
+fn taken(
+    alloc: Global,
+    kept: &mut Option<Rotation>,
+    problem: &Problem,
+) -> Result<Rotation, AllocError>
+    ensures whole { IfSome kept.old (IsListing problem.now.clauses) → IfOk result (IsListing problem.now.clauses) }
+    ensures none { kept.new ≡ None }
+{
+    match kept.take() {
+        Some(rotation) => Ok(rotation),
+        None => Rotation::new(alloc, problem),
     }
 }
 

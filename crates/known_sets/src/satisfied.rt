@@ -45,6 +45,11 @@ impl SatisfiedSets {
         self.index.get(number)
     }
 
+    /// How many complements there are.
+    pub fn len(&self) -> usize {
+        self.index.len()
+    }
+
     /// The number of a complement that fits.
     pub fn find(&mut self, wanted: Wanted<'_>) -> Option<usize>
         ensures { self.new ≡ self.old }

@@ -20,4 +20,5 @@ returns-in-Ok-copy c = λ p right h.
           All-inserted (IsSatisfied p) c.insert-in-Ok-copy.result c.args.self.now.satisfied c.insert-in-Ok-copy.new.self (record { set = out; evidence = witness })
           c.insert-in-Ok-copy.ensures.ok c.insert-in-Ok-copy.ensures.err right.satisfied
           (subst (λ w. is_witness p (complement p.groups out) w ≡ true) (sym c.in-Ok-copy.ensures) accepted.accepts.witnessed);
+      rotation = right.rotation;
     }

@@ -1,0 +1,18 @@
+use Rattle.std.proofs.Common.{◌≡◌, ◌∷◌, ◌++◌, [], List, Bool, Option, subst}
+use Rattle.std.specs.Prelude.{All, IfSome, OnOk, OnErr}
+use Rattle.model_flips.specs.declared.rotation.Turned.{Turned}
+use Rattle.model_flips.specs.Rotation.{IsTurned}
+use Rattle.known_sets.specs.declared.entry.Entry.{Entry}
+use Rattle.known_sets.specs.Memory.{IsSatisfied}
+use Rattle.known_sets.proofs.MemoryLemmas.{All-inserted}
+use Rattle.known_sets.proofs.turning.turn_by.Goals as goal
+
+-- what comes of the turn satisfies all groups but those with which it is kept
+pub returns : goal.returns
+returns c = λ listing before all.
+    let p = c.args.problem.now in
+    let turned = subst (λ (o : Option Turned). IfSome o (IsTurned p c.args.rotation.now c.args.out.now c.args.assign.now)) c.in-Some.is c.in_ok-turned.ensures in
+    let known : Entry (List Bool) = record { set = c.in-Some.turned.out; evidence = c.in-Some.turned.assign } in
+    All-inserted (IsSatisfied p) c.insert.result c.args.satisfied.now c.insert.new.self known
+    (subst (λ before. OnOk c.insert.result (c.insert.new.self ≡ before ++ known ∷ [])) c.find.ensures c.insert.ensures.ok)
+    (subst (λ before. OnErr c.insert.result (c.insert.new.self ≡ before)) c.find.ensures c.insert.ensures.err) all (turned listing before)
