@@ -79,52 +79,43 @@ partial-text p c partial = ap (λ whole. if whole then full_report p else held_r
 held-minimal : {p : Problem} {b : Bounds} {logs : List (List LogStep)} {c : Closing} → IsClosedFor p b logs c → AreDistinctMinimal p c.records
 held-minimal {c = c} h =
     subst (λ q. AreDistinctMinimal q c.records) (of-problem h)
-    (subst (AreDistinctMinimal h.state.opening.problem) (sym h.closing_is.records) (AreDistinctMinimal-from h.state h.closing_is.sound))
-
--- as many clauses were learnt as the enumeration spent
-learned-spent : {p : Problem} {b : Bounds} {logs : List (List LogStep)} {c : Closing} (h : IsClosedFor p b logs c) → learned_in logs ≡ h.state.spent
-learned-spent h =
-    let both = ap learned_in h.logs_are in
-    let mine = h.paid in
-    let map = h.closing_is.learned in
-    let spent = h.closing_is.sound.spent in
-    omega arith
+    (subst (AreDistinctMinimal h.left.state.opening.problem) (sym h.left.closing_is.records) (AreDistinctMinimal-from h.left.state h.left.closing_is.sound))
 
 -- where the budget is spent
 budget-spent : {p : Problem} {b : Bounds} {logs : List (List LogStep)} {c : Closing} → IsClosedFor p b logs c → c.verdict ≡ verdict.Budget → IsBudgetSpent p b logs c
-budget-spent h v =
-    let k = h.closing_is in
+budget-spent {p} {b} h v =
+    let k = h.left.closing_is in
     let d = k.dry v in
     record {
-      learned = learned-spent h ∙ k.spent v ∙ ap (λ o. o.budget) h.opening;
-      worker_log = h.worker_log;
-      map_log = h.map_log;
-      logs_are = h.logs_are;
+      learned = h.left.learned ∙ k.spent v ∙ ap (λ o. o.budget) h.left.opening;
+      worker_logs = h.left.worker_logs;
+      map_log = h.left.map_log;
+      logs_are = h.left.logs_are;
       before = d.before;
       last = d.last;
       ends = k.history ∙ d.ends;
       dry = d.dry;
       map_undecided = d.undecided;
-      worker_undecided = λ asked call. h.undecided d.before d.last asked d.ends call d.dry;
+      workers_undecided = λ w log within. (h.left.workers w log within).undecided;
     }
 
 -- where the limit is reached
 limit-reached : {p : Problem} {b : Bounds} {logs : List (List LogStep)} {c : Closing} → IsClosedFor p b logs c → c.verdict ≡ verdict.Limit → HasLimit b c
 limit-reached {b = b} {c = c} h v =
-    let k = h.closing_is in
-    let s = h.state in
+    let k = h.left.closing_is in
+    let s = h.left.state in
     let marked = limited-by s.exhausted s.stopped s.limited (sym k.verdict ∙ v) in
     let full = leb-true s.opening.limit (length s.records) (k.sound.limited marked) in
     let most = k.sound.at_most in
-    let limit = ap (λ o. o.limit) h.opening in
-    let none = ap (λ o. length o.records) h.opening in
+    let limit = ap (λ o. o.limit) h.left.opening in
+    let none = ap (λ o. length o.records) h.left.opening in
     let same = ap length k.records in
     omega arith
 
 -- where nothing is missing
 holds-all : {p : Problem} {b : Bounds} {logs : List (List LogStep)} {c : Closing} → IsClosedFor p b logs c → c.verdict ≡ verdict.Complete → HoldsAll p c.records
 holds-all {p} {c = c} h v =
-    subst (HoldsAll p) (sym h.closing_is.records) (subst (λ q. HoldsAll q h.state.records) (of-problem h) (h.closing_is.all v))
+    subst (HoldsAll p) (sym h.left.closing_is.records) (subst (λ q. HoldsAll q h.left.state.records) (of-problem h) (h.left.closing_is.all v))
 
 -- the verdict's status where the report was written
 by-status : (v : Verdict) (status n : ℕ) → (status ≢ 7 → status_by v ≡ status) → status ≡ n → n ≢ 7 → status_by v ≡ n

@@ -53,7 +53,7 @@ pub valid-from : {p : Problem} {b : Bounds} {logs : List (List LogStep)} (closin
     → AllByRecursion HasRecordIds closing.records → IfSome closing.proof HasIds → IsValid p closing
 valid-from {p} closing h ids small = record {
   closing = closing.proof;
-  is_complete = complete-by closing.verdict closing.proof Shows h.closing_is.proof;
+  is_complete = complete-by closing.verdict closing.proof Shows h.left.closing_is.proof;
   text_is = refl;
   readable = records-readable p closing.records (accepted-in h) ids;
   readable_end = end-readable p closing.records closing.proof closes small;
@@ -63,14 +63,14 @@ valid-from {p} closing h ids small = record {
 }
   where
     Shows : Derivation → Type 0
-    Shows d = shows_all_explored h.state.opening.problem.groups (founds h.state.records) d ≡ true
+    Shows d = shows_all_explored h.left.state.opening.problem.groups (founds h.left.state.records) d ≡ true
 
     closes : IfSome closing.proof (λ d. shows_all_explored p.groups (founds closing.records) d ≡ true)
     closes =
-        shown-by closing.verdict closing.proof Shows (λ d. shows_all_explored p.groups (founds closing.records) d ≡ true) h.closing_is.proof
+        shown-by closing.verdict closing.proof Shows (λ d. shows_all_explored p.groups (founds closing.records) d ≡ true) h.left.closing_is.proof
         (λ d shows.
         subst (λ (q : Problem). shows_all_explored q.groups (founds closing.records) d ≡ true) (of-problem h)
-        (subst (λ rs. shows_all_explored h.state.opening.problem.groups (founds rs) d ≡ true) (sym h.closing_is.records) shows))
+        (subst (λ rs. shows_all_explored h.left.state.opening.problem.groups (founds rs) d ≡ true) (sym h.left.closing_is.records) shows))
 
 -- ---- what a listing tells of it
 

@@ -1,4 +1,3 @@
-pub mod MarcoLemmas
 pub mod OrderLemmas
 pub mod ReportLemmas
 pub mod ClosedLemmas

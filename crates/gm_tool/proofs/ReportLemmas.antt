@@ -18,8 +18,8 @@ use Rattle.gm_tool.proofs.OrderLemmas.{records_report, held_report-from, full_re
 
 -- the problem is the one that the enumeration was opened with
 pub of-problem : {p : Problem} {b : Bounds} {logs : List (List LogStep)} {closing : Closing} (h : IsClosedFor p b logs closing)
-    → h.state.opening.problem ≡ p
-of-problem h = ap (λ (o : Opening). o.problem) h.opening
+    → h.left.state.opening.problem ≡ p
+of-problem h = ap (λ (o : Opening). o.problem) h.left.opening
 
 -- the report of the minimal sets that are held is that of an enumeration with this verdict
 report-by : {p : Problem} {b : Bounds} {logs : List (List LogStep)} {closing : Closing} → IsClosedFor p b logs closing
@@ -27,7 +27,7 @@ report-by : {p : Problem} {b : Bounds} {logs : List (List LogStep)} {closing : C
     → records_report p (is_complete v) closing.records ≡ (if is_complete v then full_report p else held_report p closing.records)
 report-by {p} {closing = closing} h verdict.Complete is =
     full_report-from p closing.records
-    (subst (HoldsAll p) (sym h.closing_is.records) (subst (λ q. HoldsAll q h.state.records) (of-problem h) (h.closing_is.all is)))
+    (subst (HoldsAll p) (sym h.left.closing_is.records) (subst (λ q. HoldsAll q h.left.state.records) (of-problem h) (h.left.closing_is.all is)))
 report-by h verdict.Memory is = refl
 report-by h verdict.Limit is = refl
 report-by h verdict.Budget is = refl
@@ -37,10 +37,10 @@ pub accepted-in : {p : Problem} {b : Bounds} {logs : List (List LogStep)} {closi
     → AllByRecursion (IsAccepted p) closing.records
 accepted-in {closing = closing} h =
     subst (λ q. AllByRecursion (IsAccepted q) closing.records) (of-problem h)
-    (subst (AllByRecursion (IsAccepted h.state.opening.problem)) (sym h.closing_is.records) h.closing_is.sound.accepted)
+    (subst (AllByRecursion (IsAccepted h.left.state.opening.problem)) (sym h.left.closing_is.records) h.left.closing_is.sound.accepted)
 
 pub distinct-in : {p : Problem} {b : Bounds} {logs : List (List LogStep)} {closing : Closing} → IsClosedFor p b logs closing → AreNew [] closing.records
-distinct-in h = subst (AreNew []) (sym h.closing_is.records) h.closing_is.sound.distinct
+distinct-in h = subst (AreNew []) (sym h.left.closing_is.records) h.left.closing_is.sound.distinct
 
 -- the report of the records' sets is the closing's report
 pub report_for-from : (p : Problem) (b : Bounds) (logs : List (List LogStep)) (closing : Closing) (groups : ℕ) (text : List ℕ)
@@ -52,4 +52,4 @@ report_for-from p b logs closing groups text h count report =
     ∙ report-by h closing.verdict refl
   where
     ok : IsProblem p
-    ok = subst IsProblem (of-problem h) h.closing_is.sound.opening.problem
+    ok = subst IsProblem (of-problem h) h.left.closing_is.sound.opening.problem

@@ -166,3 +166,9 @@ not_refused-evidence files c p Gets accepted reads refusal =
     let (text, a, r) = told (files.held c.file) P (λ text. Reads text p) accepted reads in
     let (evidence, none, some) = told (files.held c.evidence) (λ evidence. first_refusal p evidence ≡ None) (λ evidence. first_refusal p evidence ≡ Some refusal.refusal) (a.1 p r) refusal.first in
     false≢true (ap is_some (sym none ∙ some))
+
+-- bounds that have these parts
+pub bounds-from : (b : Bounds) (jobs conflicts limit : ℕ) → b.jobs ≡ jobs → b.conflicts ≡ conflicts → b.limit ≡ limit → b ≡ record { jobs = jobs; conflicts = conflicts; limit = limit }
+bounds-from b jobs conflicts limit one two three =
+    ap₂ (λ (j c : ℕ). record { jobs = j; conflicts = c; limit = b.limit }) one two
+    ∙ ap (λ (l : ℕ). record { jobs = jobs; conflicts = conflicts; limit = l }) three

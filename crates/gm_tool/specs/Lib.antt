@@ -1,7 +1,6 @@
 pub mod Refusals
 pub mod Writing
 pub mod Lines
-pub mod Marco
 pub mod Closed
 pub mod Endings
 pub mod Input

@@ -21,10 +21,10 @@ file_asked (checking c) = c.file
 
 -- the budget and the limit of a listing
 abbrev pub bounds_for : Listing → Bounds
-bounds_for l = record { conflicts = l.conflicts; limit = l.limit }
+bounds_for l = record { jobs = l.jobs; conflicts = l.conflicts; limit = l.limit }
 
 abbrev pub no_bounds : Bounds
-no_bounds = record { conflicts = 0; limit = 0 }
+no_bounds = record { jobs = 0; conflicts = 0; limit = 0 }
 
 -- where the words ask for no listing, no bound is named
 abbrev pub bounds_of : Option Asked → Bounds

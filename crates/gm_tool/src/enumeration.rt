@@ -1,20 +1,26 @@
 //! The enumeration of a problem, from its beginning to what is left of it.
-ghost use Rattle.std.specs.Prelude.{◌≡◌, ◌<◌, ◌≤◌, IfOk};
+ghost use Rattle.std.specs.Prelude.{◌≡◌, ◌<◌, ◌≤◌, All, IfOk, length};
+ghost use Rattle.gm_words.specs.Requests.{AreGoodJobs};
+ghost use Rattle.worker_pool.specs.Workers.{IsFresh};
 ghost use Rattle.gm_tool.specs.Closed.{IsLeft};
 
-use crate::marco::enumerate;
-use evidence_rec::{Oracle, Records};
+use evidence_rec::Records;
 use gm_base::Problem;
+use gm_ports::Gate;
 use group_oracle::GroupOracle;
 use known_sets::KnownSets;
 use lrat_steps::Logs;
-use map_core::{Closing, MapCore};
+use map_core::Closing;
 use power_map::PowerMap;
 use std::alloc::{AllocError, Global};
+use std::sync::Wait;
+use std::thread::Threads;
+use worker_pool::{Outcome, enumerate};
 
-/// How many clauses may be learnt, and how many sets recorded.
+/// How many workers there are, how many clauses may be learnt, and how many sets recorded.
 #[derive(Clone, Copy)]
 pub struct Bounds {
+    pub jobs: u32,
     pub conflicts: u64,
     pub limit: u64,
 }
@@ -24,38 +30,73 @@ pub struct Bounds {
 pub struct Enumerated {
     /// How many clauses were learnt in all logs.
     pub spent: u64,
-    /// The oracle's log, and the map's.
+    /// The oracles' logs, in the order of the workers, and last the map's.
     pub logs: Logs,
     pub closing: Closing,
 }
 
-/// Enumerates the minimal conflicts and minimal corrections of a problem.
-pub fn list_sets(alloc: Global, problem: &Problem, bounds: Bounds) -> Result<Enumerated, AllocError>
+/// Enumerates the minimal conflicts and minimal corrections of a problem, by as many workers as are wanted.
+pub fn list_sets<G: Gate, R: Threads + Wait + Sync>(
+    rt: &R,
+    alloc: Global,
+    problem: &Problem,
+    bounds: Bounds,
+    gate: &G,
+) -> Result<Enumerated, AllocError>
+    requires { AreGoodJobs bounds.jobs }
     ensures { IfOk result (IsLeft problem.now bounds) }
 {
-    let solver = GroupOracle::new(alloc, problem)?;
-    let mut oracle = KnownSets::new(alloc, problem, solver)?;
+    let _groups = problem.groups(); // The problem is well-formed.
+    let oracles = fresh_oracles(alloc, problem, bounds.jobs)?;
     let map = PowerMap::new(alloc, problem.groups())?;
-    let records = Records::new(alloc);
-    let mut core = MapCore::start(
+    let outcome = enumerate(
+        rt,
         alloc,
         problem,
-        records,
-        1,
+        Records::new(alloc),
+        oracles,
+        map,
         bounds.conflicts,
         bounds.limit,
-        map,
-    )?;
-    enumerate(alloc, problem, &mut oracle, &mut core);
-    let (closing, map_log) = core.closing();
-    let log = oracle.into_log();
-    let spent = log.learned() + map_log.learned();
-    let mut logs = Logs::new(alloc);
-    logs.push(log)?;
-    logs.push(map_log)?;
+        gate,
+    );
+    let Outcome {
+        verdict: _,
+        spent,
+        logs,
+        closing,
+    } = outcome;
+    let Some(closing) = closing else {
+        return Err(AllocError);
+    };
     Ok(Enumerated {
         spent,
         logs,
         closing,
     })
+}
+
+// An oracle for each worker, which remembers what it was answered.
+fn fresh_oracles(
+    alloc: Global,
+    problem: &Problem,
+    count: u32,
+) -> Result<Vec<KnownSets<GroupOracle>>, AllocError>
+    ensures count { IfOk result (λ oracles. length oracles.items ≡ count) }
+    ensures fresh { IfOk result (λ oracles. All (λ o. IsFresh problem.now o) oracles.items) }
+{
+    let mut oracles = Vec::with_capacity(alloc, count as usize)?;
+    for _ in 0..count {
+        let oracle = fresh_oracle(alloc, problem)?;
+        oracles.push(oracle)?;
+    }
+    Ok(oracles)
+}
+
+fn fresh_oracle(alloc: Global, problem: &Problem) -> Result<KnownSets<GroupOracle>, AllocError>
+    ensures { IfOk result (IsFresh problem.now) }
+{
+    let solver = GroupOracle::new(alloc, problem)?;
+    let oracle = KnownSets::new(alloc, problem, solver)?;
+    Ok(oracle)
 }

@@ -5,7 +5,7 @@ ghost use Rattle.sat_base.specs.Derivation.{HasIds};
 ghost use Rattle.gm_ports.specs.Faults.{Rose};
 ghost use Rattle.gm_ports.specs.FilesState.{ReadingLeaves, WritingLeaves, StaysAsTold};
 ghost use Rattle.evidence_text.specs.Readable.{HasRecordIds};
-ghost use Rattle.gm_words.specs.Requests.{text_of};
+ghost use Rattle.gm_words.specs.Requests.{AreGoodJobs, text_of};
 ghost use Rattle.gm_base.specs.Problem.{Problem as GroupedClauses};
 ghost use Rattle.gm_tool.specs.Closed.{is_complete, learned_in};
 ghost use Rattle.gm_tool.specs.Endings.{error_line, finish_of, line_of, status_by};
@@ -25,9 +25,11 @@ use crate::records_report::report_of;
 use crate::refusal::line_of_refusal;
 use gcnf_text::{Offence, Read};
 use gm_base::Problem;
-use gm_ports::{Failed, Files, Sink, write_all};
+use gm_ports::{Failed, Files, Gate, Sink, write_all};
 use map_core::{Closing, Verdict};
 use std::alloc::{AllocError, Global};
+use std::sync::Wait;
+use std::thread::Threads;
 
 /// The line that tells which bound was reached; no bytes where none was. An enumeration that wanted memory has no line.
 fn line_by(alloc: Global, bounds: Bounds, verdict: Verdict) -> Result<Vec<u8>, AllocError>
@@ -58,10 +60,17 @@ pub struct Prepared {
 }
 
 /// Enumerates, and makes all that is to be written.
-fn prepare(alloc: Global, problem: &Problem, bounds: Bounds) -> Result<Prepared, AllocError>
+fn prepare<G: Gate, R: Threads + Wait + Sync>(
+    rt: &R,
+    alloc: Global,
+    problem: &Problem,
+    bounds: Bounds,
+    gate: &G,
+) -> Result<Prepared, AllocError>
+    requires { AreGoodJobs bounds.jobs }
     ensures { IfOk result (IsPrepared problem.now bounds) }
 {
-    let left = list_sets(alloc, problem, bounds)?;
+    let left = list_sets(rt, alloc, problem, bounds, gate)?;
     let line = line_by(alloc, bounds, left.closing.verdict)?;
     let text = report_of(
         alloc,
@@ -99,14 +108,17 @@ fn write_asked<F: Files>(
 }
 
 /// Writes the report of a problem, and before it the evidence, where it is asked for.
-fn list_problem<F: Files, O: Sink>(
+fn list_problem<F: Files, O: Sink, G: Gate, R: Threads + Wait + Sync>(
+    rt: &R,
     alloc: Global,
     problem: &Problem,
     bounds: Bounds,
     evidence: Option<&str>,
     files: &mut F,
     out: &mut O,
+    gate: &G,
 ) -> Ending
+    requires { AreGoodJobs bounds.jobs }
     ensures statuses { ((finish_of result).status ≡ 8) ⊎ IsAfterwards (finish_of result).status }
     ensures listing { IsAfterwards (finish_of result).status → TellsListing problem.now bounds (O.got out.old) (O.got out.new) (finish_of result) }
     ensures evidence { IsAfterwards (finish_of result).status → TellsEvidence problem.now (text_of evidence.entry) (F.state files.new) (λ line. line_of result ≡ line) (finish_of result) }
@@ -121,7 +133,7 @@ fn list_problem<F: Files, O: Sink>(
     ensures unasked { text_of evidence.entry ≡ None → F.state files.new ≡ F.state files.old }
     ensures leaves { WritingLeaves (λ n. text_of evidence.entry ≡ Some n) (F.state files.old) (F.state files.new) }
 {
-    let Ok(prepared) = prepare(alloc, problem, bounds) else {
+    let Ok(prepared) = prepare(rt, alloc, problem, bounds, gate) else {
         return Ending::Memory;
     };
     let Prepared { line, text, left } = prepared;
@@ -147,14 +159,17 @@ pub fn refuse(alloc: Global, offence: Offence) -> Ending
 }
 
 /// Reads the file of this name and writes its report, and before it the evidence, where it is asked for.
-pub fn list_file<F: Files, O: Sink>(
+pub fn list_file<F: Files, O: Sink, G: Gate, R: Threads + Wait + Sync>(
+    rt: &R,
     alloc: Global,
     name: &str,
     bounds: Bounds,
     evidence: Option<&str>,
     files: &mut F,
     out: &mut O,
+    gate: &G,
 ) -> Ending
+    requires { AreGoodJobs bounds.jobs }
     ensures not_words { (finish_of result).status ≢ 2 }
     ensures not_evidence { (finish_of result).status ≢ 9 }
     ensures listing { IsAfterwards (finish_of result).status → (p : GroupedClauses)
@@ -177,7 +192,9 @@ pub fn list_file<F: Files, O: Sink>(
     ensures names { (n : List ℕ) → text_of evidence.entry ≢ Some n → StaysAsTold ((F.state files.old).held n) ((F.state files.new).held n) }
 {
     match read_file(alloc, name, files) {
-        Ok(Read::Problem(problem)) => list_problem(alloc, &problem, bounds, evidence, files, out),
+        Ok(Read::Problem(problem)) => {
+            list_problem(rt, alloc, &problem, bounds, evidence, files, out, gate)
+        },
         Ok(Read::Refused(offence)) => refuse(alloc, offence),
         Ok(Read::Memory) => Ending::Memory,
         Err(Failed) => Ending::ReadFault,

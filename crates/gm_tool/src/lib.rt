@@ -4,13 +4,13 @@
 //! and corrections, and writes the report:
 //!
 //! ```text
-//! let finish = run(&rt, alloc, &words, &mut files, &mut out, &mut err);
+//! let finish = run(&rt, alloc, &words, &mut files, &mut out, &mut err, &gate);
 //! ```
 //!
 //! Start reading at `run` in `program` and at `specs/Run.antt` and `specs/Listing.antt`, which say what each status tells of
-//! the words, the file, the problem and the report; `specs/Endings.antt` says how another command joins. Then `marco`: the
-//! core hands out seeds, which an oracle over the learning solver decides, and each is shrunk to a minimal conflict or grown
-//! to a minimal correction, until no set of groups is left, the budget is spent or as many sets are recorded as were wanted.
+//! the words, the file, the problem and the report; `specs/Endings.antt` says how another command joins. Then
+//! `enumeration`: an oracle over the learning solver for each worker, a map, and what the workers of `worker_pool` leave of
+//! them, when no set of groups is left, the budget is spent or as many sets are recorded as were wanted.
 //!
 //! Nothing is promised of time, and want of memory may end any run.
 #![tactic(auto)]
@@ -23,7 +23,6 @@ mod error_line;
 mod evidence_file;
 mod file_report;
 mod input;
-mod marco;
 #[cfg(test)]
 mod plain;
 mod program;

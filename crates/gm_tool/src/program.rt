@@ -19,7 +19,7 @@ use crate::ending::{Ending, Finish, finish_of};
 use crate::enumeration::Bounds;
 use crate::error_line::write_error_line;
 use crate::file_report::list_file;
-use gm_ports::{Files, Sink};
+use gm_ports::{Files, Gate, Sink};
 use gm_words::{Listing, Request, read_words};
 use std::alloc::{AllocError, Global};
 use std::sync::Wait;
@@ -27,10 +27,12 @@ use std::thread::Threads;
 
 /// The bounds of the listing.
 fn bounds_for(listing: Listing<'_>) -> Bounds
+    ensures jobs { result.jobs ≡ listing.entry.jobs }
     ensures conflicts { result.conflicts ≡ listing.entry.conflicts }
     ensures limit { result.limit ≡ listing.entry.limit }
 {
     Bounds {
+        jobs: listing.jobs,
         conflicts: listing.conflicts,
         limit: listing.limit,
     }
@@ -45,13 +47,14 @@ fn bounds_for(listing: Listing<'_>) -> Bounds
 /// file of `--evidence`, where it is asked for, got the evidence of the sets first. Status 0 of `check` says that file and
 /// evidence are accepted, and that `out` got the report of the sets that the evidence shows to be minimal, of all where it
 /// is complete.
-pub fn run<R: Threads + Wait + Sync, F: Files, O: Sink, E: Sink>(
-    _rt: &R,
+pub fn run<R: Threads + Wait + Sync, F: Files, O: Sink, E: Sink, G: Gate>(
+    rt: &R,
     alloc: Global,
     words: &[String],
     files: &mut F,
     out: &mut O,
     err: &mut E,
+    gate: &G,
 ) -> Finish
     ensures known { IsStatus result.status }
     ensures learned { result.spent ≡ learned_in result.logs }
@@ -99,7 +102,16 @@ pub fn run<R: Threads + Wait + Sync, F: Files, O: Sink, E: Sink>(
     let ending = match read_words(alloc, words) {
         Ok(Some(Request::List(listing))) => {
             let bounds = bounds_for(listing);
-            list_file(alloc, listing.file, bounds, listing.evidence, files, out)
+            list_file(
+                rt,
+                alloc,
+                listing.file,
+                bounds,
+                listing.evidence,
+                files,
+                out,
+                gate,
+            )
         }
         Ok(Some(Request::Check(checking))) => {
             check_file(alloc, checking.file, checking.evidence, files, out)

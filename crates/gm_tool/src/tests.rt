@@ -3,7 +3,7 @@ mod evidence;
 
 use super::*;
 use crate::plain::draw_problem;
-use gm_ports::{Calls, MemFiles, MemSink, Rooms, Texts};
+use gm_ports::{Calls, MemFiles, MemSink, OpenGate, Rooms, Texts};
 use std::alloc::Global;
 use std::process::Abort;
 use std::sync::Wait;
@@ -86,7 +86,15 @@ fn run_on<R: Threads + Wait + Sync>(
     let mut files = files_with(alloc, outside)?;
     let mut out = sink_with(alloc, outside.per_write, outside.failing_writes)?;
     let mut err = sink_with(alloc, 7, &[])?;
-    let finish = run(rt, alloc, words.as_slice(), &mut files, &mut out, &mut err);
+    let finish = run(
+        rt,
+        alloc,
+        words.as_slice(),
+        &mut files,
+        &mut out,
+        &mut err,
+        &OpenGate,
+    );
     Ok(Outcome { finish, out, err })
 }
 

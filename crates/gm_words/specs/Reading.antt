@@ -25,12 +25,20 @@ number_rule id low high = record (new_rule id) { long = Some id; parser = Some (
 abbrev pub text_rule : Text → Rule
 text_rule id = record (new_rule id) { long = Some id }
 
--- the greatest numbers that the options take, which are also meant where they are not given
+-- the greatest numbers that these options take, which are also meant where they are not given
 abbrev pub greatest_conflicts : ℕ
 greatest_conflicts = 2 ^ 64 - 1
 
 abbrev pub greatest_limit : ℕ
 greatest_limit = 1000000000
+
+-- the most workers, where one is meant if the option is not given
+abbrev pub greatest_jobs : ℕ
+greatest_jobs = 64
+
+-- `--jobs J`
+abbrev pub jobs_rule : Rule
+jobs_rule = number_rule (codes "jobs") 1 greatest_jobs
 
 -- `--conflicts B`
 abbrev pub conflicts_rule : Rule
@@ -44,10 +52,14 @@ limit_rule = number_rule (codes "limit") 1 greatest_limit
 abbrev pub evidence_rule : Rule
 evidence_rule = text_rule (codes "evidence")
 
--- `list FILE [--conflicts B] [--limit L] [--evidence FILE]`
+-- `list FILE [--jobs J] [--conflicts B] [--limit L]`
+abbrev pub numbered_list_app : App
+numbered_list_app = with_rule (with_rule (with_rule (with_rule (new_app (codes "list"))
+    (place_rule (codes "file"))) jobs_rule) conflicts_rule) limit_rule
+
+-- `list FILE [--jobs J] [--conflicts B] [--limit L] [--evidence FILE]`
 abbrev pub list_app : App
-list_app = with_rule (with_rule (with_rule (with_rule (new_app (codes "list"))
-    (place_rule (codes "file"))) conflicts_rule) limit_rule) evidence_rule
+list_app = with_rule numbered_list_app evidence_rule
 
 -- `check FILE EVIDENCE`
 abbrev pub check_app : App
@@ -69,6 +81,7 @@ gmus_app = with_subcommand (with_subcommand gmus_top list_app.top) check_app.top
 -- what `list` is asked for
 pub record Listing : Type 0 where
   pub file : Text
+  pub jobs : ℕ
   pub conflicts : ℕ
   pub limit : ℕ
   pub evidence : Option Text
@@ -91,15 +104,15 @@ number_by rule text = if value_passes rule text
 abbrev pub number_or : ℕ → Rule → List Row → Option ℕ
 number_or other rule rows = option_map_or (number_by rule) (first_of rule.id rows) (Some other)
 
--- a listing, where each of its parts can be had; evidence need not be asked for
-abbrev pub listing_with : Option Text → Option ℕ → Option ℕ → Option Text → Option Asked
-listing_with (Some file) (Some conflicts) (Some limit) evidence =
-    Some (listing (record { file = file; conflicts = conflicts; limit = limit; evidence = evidence }))
-listing_with _ _ _ _ = None
+-- a listing, where each of its parts can be had; evidence need not be named
+abbrev pub listing_with : Option Text → Option ℕ → Option ℕ → Option ℕ → Option Text → Option Asked
+listing_with (Some file) (Some jobs) (Some conflicts) (Some limit) evidence =
+    Some (listing (record { file = file; jobs = jobs; conflicts = conflicts; limit = limit; evidence = evidence }))
+listing_with _ _ _ _ _ = None
 
 -- what the values of `list` ask for
 abbrev pub listing_of : List Row → Option Asked
-listing_of rows = listing_with (first_of (codes "file") rows)
+listing_of rows = listing_with (first_of (codes "file") rows) (number_or 1 jobs_rule rows)
     (number_or greatest_conflicts conflicts_rule rows) (number_or greatest_limit limit_rule rows)
     (first_of (codes "evidence") rows)
 

@@ -1,8 +1,8 @@
 -- What a request of the program asks for.
-use Rattle.std.specs.Prelude.{◌<◌, ◌≤◌, Option, option_map}
+use Rattle.std.specs.Prelude.{ℕ, ◌<◌, ◌≤◌, Option, option_map}
 use Rattle.std.specs.Borrow.{Bor}
 use Rattle.clap.specs.Walk.{Text}
-use Rattle.gm_words.specs.Reading.{Asked, greatest_limit, listing, checking}
+use Rattle.gm_words.specs.Reading.{Asked, greatest_jobs, greatest_limit, listing, checking}
 use Rattle.gm_words.specs.declared.request.Request.{Request}
 use Rattle.gm_words.specs.declared.request.Request.TheVariants as request
 
@@ -13,10 +13,14 @@ text_of = option_map (λ s. s.now)
 -- what the request asks for, in the words of the definition
 abbrev pub asked_by : Request → Asked
 asked_by (request.List l) =
-    listing (record { file = l.file.now; conflicts = l.conflicts; limit = l.limit; evidence = text_of l.evidence })
+    listing (record { file = l.file.now; jobs = l.jobs; conflicts = l.conflicts; limit = l.limit; evidence = text_of l.evidence })
 asked_by (request.Check c) = checking (record { file = c.file.now; evidence = c.evidence.now })
 
--- the limit of a listing is not 0, and at most the greatest that is taken
-abbrev pub HasGoodLimit : Request → Type 0
-HasGoodLimit (request.List l) = (0 < l.limit) × (l.limit ≤ greatest_limit)
-HasGoodLimit (request.Check c) = Unit {0}
+-- the number of workers is not 0, and at most the greatest that is taken
+abbrev pub AreGoodJobs : ℕ → Type 0
+AreGoodJobs jobs = (0 < jobs) × (jobs ≤ greatest_jobs)
+
+-- so are the workers of a listing and its limit
+abbrev pub HasGoodNumbers : Request → Type 0
+HasGoodNumbers (request.List l) = AreGoodJobs l.jobs × (0 < l.limit) × (l.limit ≤ greatest_limit)
+HasGoodNumbers (request.Check c) = Unit {0}

@@ -3,16 +3,20 @@ use Rattle.std.specs.Prelude.{◌≡◌, ℕ, [], ◌∷◌, Option, Some, None,
 use Rattle.std.proofs.Common.{refl}
 use Rattle.clap.proofs.OnLiterals.{clap_on_literals}
 use Rattle.clap.specs.Walk.{Text}
-use Rattle.gm_words.specs.Reading.{Asked, greatest_conflicts, greatest_limit, listing, checking, words_read}
+use Rattle.gm_words.specs.Reading.{Asked, Listing, greatest_conflicts, greatest_limit, listing, checking, words_read}
 
--- `list` of a file, with both numbers
+-- `list` of a file, with no option
+abbrev pub plain_listing : Text → Listing
+plain_listing file =
+    record { file = file; jobs = 1; conflicts = greatest_conflicts; limit = greatest_limit; evidence = None }
+
+abbrev pub list_of : Text → Option Asked
+list_of file = Some (listing (plain_listing file))
+
+-- with both bounds
 abbrev pub listing_of_file : Text → ℕ → ℕ → Option Asked
 listing_of_file file conflicts limit =
-    Some (listing (record { file = file; conflicts = conflicts; limit = limit; evidence = None }))
-
--- and with none given
-abbrev pub list_of : Text → Option Asked
-list_of file = listing_of_file file greatest_conflicts greatest_limit
+    Some (listing (record (plain_listing file) { conflicts = conflicts; limit = limit }))
 
 -- one name, whatever it is; behind `--` also one that begins with `-`
 pub read :
@@ -47,7 +51,7 @@ read_options = (refl, refl, refl, refl, refl, refl, refl)
 -- with evidence under a name
 abbrev pub list_with_evidence : Text → Text → Option Asked
 list_with_evidence file evidence =
-    Some (listing (record { file = file; conflicts = greatest_conflicts; limit = greatest_limit; evidence = Some evidence }))
+    Some (listing (record (plain_listing file) { evidence = Some evidence }))
 
 -- the name of the evidence, before and behind the name of the file; the empty one is a name too
 pub read_evidence :
@@ -95,7 +99,7 @@ pub refused :
     (words_read (codes "list" ∷ []) ≡ None)
     × (words_read (codes "list" ∷ codes "a" ∷ codes "b" ∷ []) ≡ None)
     × (words_read (codes "list" ∷ codes "-x" ∷ []) ≡ None)
-    × (words_read (codes "list" ∷ codes "f" ∷ codes "--jobs" ∷ codes "2" ∷ []) ≡ None)
+    × (words_read (codes "list" ∷ codes "f" ∷ codes "--job" ∷ codes "2" ∷ []) ≡ None)
     × (words_read (codes "list" ∷ codes "f" ∷ codes "--conflict" ∷ codes "1" ∷ []) ≡ None)
     × (words_read (codes "list" ∷ codes "--help" ∷ []) ≡ None)
     × (words_read (codes "list" ∷ codes "--conflicts" ∷ codes "1" ∷ []) ≡ None)
@@ -132,3 +136,19 @@ pub no_subcommand :
     × (words_read (codes "--limit" ∷ codes "5" ∷ codes "list" ∷ codes "f" ∷ []) ≡ None)
 unfolding clap_on_literals
 no_subcommand = (refl, refl, refl, refl, refl, refl, refl, refl, refl)
+
+-- workers
+pub read_jobs :
+    (words_read (codes "list" ∷ codes "f" ∷ codes "--jobs" ∷ codes "1" ∷ []) ≡ list_of (codes "f"))
+    × (words_read (codes "list" ∷ codes "--jobs=64" ∷ codes "f" ∷ []) ≡ Some (listing (record (plain_listing (codes "f")) { jobs = 64 })))
+    × (words_read (codes "list" ∷ codes "f" ∷ codes "--evidence" ∷ codes "a" ∷ codes "--jobs" ∷ codes "+3" ∷ [])
+    ≡ Some (listing (record (plain_listing (codes "f")) { jobs = 3; evidence = Some (codes "a") })))
+unfolding clap_on_literals
+read_jobs = (refl, refl, refl)
+
+pub refused_jobs :
+    (words_read (codes "list" ∷ codes "f" ∷ codes "--jobs" ∷ codes "0" ∷ []) ≡ None)
+    × (words_read (codes "list" ∷ codes "f" ∷ codes "--jobs" ∷ codes "65" ∷ []) ≡ None)
+    × (words_read (codes "list" ∷ codes "f" ∷ codes "--jobs" ∷ codes "--" ∷ codes "4" ∷ []) ≡ None)
+unfolding clap_on_literals
+refused_jobs = (refl, refl, refl)

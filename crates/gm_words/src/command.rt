@@ -2,9 +2,9 @@
 ghost use Rattle.std.specs.Prelude.{◌≡◌, IfOk, false};
 ghost use Rattle.clap.specs.Words.{app_of, rule_of};
 ghost use Rattle.clap.specs.declared.builder.command.Command.TheViews.{out-Command};
-ghost use Rattle.gm_words.specs.Reading.{check_app, gmus_app, gmus_top, list_app, place_rule, text_rule};
+ghost use Rattle.gm_words.specs.Reading.{check_app, gmus_app, gmus_top, list_app, numbered_list_app, place_rule, text_rule};
 
-use crate::options::{CONFLICTS, LIMIT};
+use crate::options::{CONFLICTS, JOBS, LIMIT};
 use clap::{Arg, Command};
 use std::alloc::{AllocError, Global};
 
@@ -26,16 +26,24 @@ fn gmus_top_command<'a>(alloc: Global) -> Command<'a>
         .subcommand_required(true)
 }
 
-/// `list FILE [--conflicts B] [--limit L] [--evidence FILE]`
+/// `list FILE [--jobs J] [--conflicts B] [--limit L] [--evidence FILE]`
 fn list_command<'a>(alloc: Global) -> Result<Command<'a>, AllocError>
     ensures app { IfOk result (λ c. app_of c ≡ list_app) }
     ensures local { IfOk result (λ c. (out-Command c).has_globals ≡ false) }
 {
+    numbered_list_command(alloc)?.arg(named_text(alloc, "evidence"))
+}
+
+/// `list FILE [--jobs J] [--conflicts B] [--limit L]`
+fn numbered_list_command<'a>(alloc: Global) -> Result<Command<'a>, AllocError>
+    ensures app { IfOk result (λ c. app_of c ≡ numbered_list_app) }
+    ensures local { IfOk result (λ c. (out-Command c).has_globals ≡ false) }
+{
     Command::new(alloc, "list")
         .arg(place(alloc, "file"))?
+        .arg(JOBS.arg(alloc))?
         .arg(CONFLICTS.arg(alloc))?
-        .arg(LIMIT.arg(alloc))?
-        .arg(named_text(alloc, "evidence"))
+        .arg(LIMIT.arg(alloc))
 }
 
 /// `check FILE EVIDENCE`

@@ -4,7 +4,7 @@
 //!
 //! ```text
 //! match read_words(alloc, words)? {
-//!     Some(Request::List(listing)) => list(listing.file, listing.conflicts, listing.limit, listing.evidence),
+//!     Some(Request::List(listing)) => list(listing.file, listing.jobs, listing.conflicts, listing.limit, listing.evidence),
 //!     Some(Request::Check(checking)) => check(checking.file, checking.evidence),
 //!     None => usage(),
 //! }

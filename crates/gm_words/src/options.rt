@@ -1,6 +1,6 @@
 //! The options whose value is a number.
 //!
-//! An option is said once, here: clap is told of it, and its text is read by it. The text is one that Rust reads as a
+//! A number is said once, here: clap is told of it, and its text is read by it. The text is one that Rust reads as a
 //! `u64`, with a number between two bounds. clap refuses every other text, but tells nothing of a subcommand's values
 //! but their text, so the number is read and compared once more where it is wanted.
 ghost use Rattle.std.specs.Prelude.{◌≡◌, ◌≤◌, IfSome, false};
@@ -19,6 +19,13 @@ pub(crate) struct NumberOption {
     pub(crate) low: u64,
     pub(crate) high: u64,
 }
+
+/// `--jobs J`
+pub(crate) const JOBS: NumberOption = NumberOption {
+    name: "jobs",
+    low: 1,
+    high: 64,
+};
 
 /// `--conflicts B`
 pub(crate) const CONFLICTS: NumberOption = NumberOption {
@@ -45,7 +52,7 @@ impl NumberOption {
             .value_parser(ValueParser::Unsigned(self.low, self.high))
     }
 
-    /// The number that the text says, if the option takes it.
+    /// The number that the text says, if it may.
     pub(crate) fn number_by(self, text: &str) -> Option<u64>
         ensures number { result ≡ number_by (option_rule self) text.now }
         ensures low { IfSome result (λ n. self.low ≤ n) }

@@ -4,10 +4,10 @@ ghost use Rattle.clap.specs.Walk.{first_of, rows_of};
 ghost use Rattle.clap.specs.Words.{found_of, subcommand_rows_of};
 ghost use Rattle.gm_words.specs.Options.{option_rule};
 ghost use Rattle.gm_words.specs.Reading.{asked_of, checking_of, listing_of, number_or, words_read};
-ghost use Rattle.gm_words.specs.Requests.{HasGoodLimit, asked_by, text_of};
+ghost use Rattle.gm_words.specs.Requests.{HasGoodNumbers, asked_by, text_of};
 
 use crate::command::gmus_command;
-use crate::options::{CONFLICTS, LIMIT, NumberOption};
+use crate::options::{CONFLICTS, JOBS, LIMIT, NumberOption};
 use crate::request::{Checking, Listing, Request};
 use clap::ArgMatches;
 use clap::error::ErrorKind;
@@ -16,7 +16,7 @@ use std::alloc::{AllocError, Global};
 /// Reads the words after the program's name. `None` is a wrong command line.
 pub fn read_words<'a>(alloc: Global, words: &'a [String]) -> Result<Option<Request<'a>>, AllocError>
     ensures asked { IfOk result (λ r. option_map asked_by r ≡ words_read (map string_bytes words.entry.now)) }
-    ensures limit { IfOk result (λ r. IfSome r HasGoodLimit) }
+    ensures numbers { IfOk result (λ r. IfSome r HasGoodNumbers) }
 {
     match gmus_command(alloc)?.try_get_matches_from(words) {
         Ok(matches) => Ok(request_of(&matches)),
@@ -34,7 +34,7 @@ pub fn read_words<'a>(alloc: Global, words: &'a [String]) -> Result<Option<Reque
 fn request_of<'a>(matches: &ArgMatches<'a>) -> Option<Request<'a>>
     ensures asked { option_map asked_by result
         ≡ option_and_then (λ p. asked_of p.0 p.1) (subcommand_rows_of matches.now) }
-    ensures limit { IfSome result HasGoodLimit }
+    ensures numbers { IfSome result HasGoodNumbers }
 {
     let (name, inner) = matches.subcommand()?;
     if name == "list" {
@@ -49,14 +49,16 @@ fn request_of<'a>(matches: &ArgMatches<'a>) -> Option<Request<'a>>
 /// What the matches of `list` ask for.
 fn listing<'a>(matches: &ArgMatches<'a>) -> Option<Request<'a>>
     ensures asked { option_map asked_by result ≡ listing_of (rows_of (found_of matches.now)) }
-    ensures limit { IfSome result HasGoodLimit }
+    ensures numbers { IfSome result HasGoodNumbers }
 {
     let file = text_given(matches, "file")?;
+    let jobs = number_or(matches, JOBS, JOBS.low)?;
     let conflicts = number_or(matches, CONFLICTS, CONFLICTS.high)?;
     let limit = number_or(matches, LIMIT, LIMIT.high)?;
     let evidence = text_given(matches, "evidence");
     Some(Request::List(Listing {
         file,
+        jobs: jobs as u32,
         conflicts,
         limit,
         evidence,
@@ -66,7 +68,7 @@ fn listing<'a>(matches: &ArgMatches<'a>) -> Option<Request<'a>>
 /// What the matches of `check` ask for.
 fn checking<'a>(matches: &ArgMatches<'a>) -> Option<Request<'a>>
     ensures asked { option_map asked_by result ≡ checking_of (rows_of (found_of matches.now)) }
-    ensures limit { IfSome result HasGoodLimit }
+    ensures numbers { IfSome result HasGoodNumbers }
 {
     let file = text_given(matches, "file")?;
     let evidence = text_given(matches, "evidence")?;

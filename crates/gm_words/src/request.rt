@@ -5,6 +5,8 @@
 pub struct Listing<'a> {
     /// The name of the input file.
     pub file: &'a str,
+    /// How many workers there are.
+    pub jobs: u32,
     /// The budget: how many conflicts (falsified clauses) the solver may meet.
     pub conflicts: u64,
     /// How many sets may be recorded before the listing ends.
@@ -25,7 +27,7 @@ pub struct Checking<'a> {
 /// What the words ask for.
 #[derive(Clone, Copy, Debug, PartialEq, Eq)]
 pub enum Request<'a> {
-    /// `list FILE [--conflicts B] [--limit L] [--evidence FILE]`
+    /// `list FILE [--jobs J] [--conflicts B] [--limit L] [--evidence FILE]`
     List(Listing<'a>),
     /// `check FILE EVIDENCE`
     Check(Checking<'a>),

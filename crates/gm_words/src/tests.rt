@@ -12,6 +12,17 @@ fn split(alloc: Global, line: &str) -> Result<Vec<String>, Fail> {
     Ok(words)
 }
 
+/// `list` of a file, with no option.
+fn plain(file: &str) -> Listing<'_> {
+    Listing {
+        file,
+        jobs: 1,
+        conflicts: u64::MAX,
+        limit: 1_000_000_000,
+        evidence: None,
+    }
+}
+
 #[test]
 fn a_listing_has_one_name(rt: HostRuntime) -> Result<(), Fail> {
     let rows = [
@@ -35,13 +46,7 @@ fn a_listing_has_one_name(rt: HostRuntime) -> Result<(), Fail> {
         let Ok(Some(Request::List(listing))) = read_words(rt.alloc(), words.as_slice()) else {
             return Err(Fail::from("no listing"));
         };
-        let wanted = Listing {
-            file,
-            conflicts: u64::MAX,
-            limit: 1_000_000_000,
-            evidence: None,
-        };
-        assert!(rt; listing == wanted, "{line}");
+        assert!(rt; listing == plain(file), "{line}");
     }
     Ok(())
 }
@@ -78,10 +83,9 @@ fn numbers_are_read_before_and_behind_the_name(rt: HostRuntime) -> Result<(), Fa
             return Err(Fail::from("no listing"));
         };
         let wanted = Listing {
-            file: "f",
             conflicts,
             limit,
-            evidence: None,
+            ..plain("f")
         };
         assert!(rt; listing == wanted, "{line}");
     }
@@ -110,11 +114,28 @@ fn evidence_is_asked_for_by_a_name(rt: HostRuntime) -> Result<(), Fail> {
             return Err(Fail::from("no listing"));
         };
         let wanted = Listing {
-            file: "f",
-            conflicts: u64::MAX,
-            limit: 1_000_000_000,
             evidence: Some(evidence),
+            ..plain("f")
         };
+        assert!(rt; listing == wanted, "{line}");
+    }
+    Ok(())
+}
+
+#[test]
+fn a_listing_has_workers(rt: HostRuntime) -> Result<(), Fail> {
+    let rows = [
+        ("list|f|--jobs|1|", 1),
+        ("list|f|--jobs|2|", 2),
+        ("list|--jobs=64|f|", 64),
+        ("list|f|--jobs|+04|", 4),
+    ];
+    for (line, jobs) in rows {
+        let words = split(rt.alloc(), line)?;
+        let Ok(Some(Request::List(listing))) = read_words(rt.alloc(), words.as_slice()) else {
+            return Err(Fail::from("no listing"));
+        };
+        let wanted = Listing { jobs, ..plain("f") };
         assert!(rt; listing == wanted, "{line}");
     }
     Ok(())
@@ -154,7 +175,7 @@ fn first_read<'a>(alloc: Global, lines: &[&'a str]) -> Result<Option<&'a str>, F
     Ok(None)
 }
 
-const OTHER: [&str; 37] = [
+const OTHER: [&str; 38] = [
     "",
     "|",
     "frob|",
@@ -172,8 +193,7 @@ const OTHER: [&str; 37] = [
     "list|--help|",
     "list|-h|",
     "list|f|--help|",
-    "list|f|--jobs|2|",
-    "list|f|--jobs=2|",
+    "list|f|g|--jobs|2|",
     "lis|f|",
     "List|f|",
     "list |f|",
@@ -185,7 +205,9 @@ const OTHER: [&str; 37] = [
     "check|f|--evidence|e|",
     "check|--help|",
     "chec|f|e|",
+    "check|f|e|--jobs|2|",
     "drill|7|12|",
+    "--jobs|2|list|f|",
     "f|list|",
     "--limit|5|list|f|",
     "list|f|--|--limit|5|",
@@ -200,7 +222,7 @@ fn other_lines_are_wrong(rt: HostRuntime) -> Result<(), Fail> {
     Ok(())
 }
 
-const UNKNOWN: [&str; 10] = [
+const UNKNOWN: [&str; 14] = [
     "list|f|--conflict|1|",
     "list|f|--conflict=1|",
     "list|f|--limits|1|",
@@ -209,6 +231,10 @@ const UNKNOWN: [&str; 10] = [
     "list|f|-limit|1|",
     "list|f|--Limit|1|",
     "list|f|--=1|",
+    "list|f|--job|2|",
+    "list|f|--job=2|",
+    "list|f|-j|2|",
+    "list|f|--resume|a|",
     "list|f|--evidenc|e|",
     "list|f|-e|e|",
 ];
@@ -219,7 +245,12 @@ fn options_that_are_not_known_are_wrong(rt: HostRuntime) -> Result<(), Fail> {
     Ok(())
 }
 
-const VALUES: [&str; 21] = [
+const VALUES: [&str; 26] = [
+    "list|f|--jobs|0|",
+    "list|f|--jobs|65|",
+    "list|f|--jobs|4294967297|",
+    "list|f|--jobs|-1|",
+    "list|f|--jobs=|",
     "list|f|--limit|0|",
     "list|f|--limit=0|",
     "list|f|--limit|1000000001|",
@@ -249,7 +280,10 @@ fn values_that_are_no_number_in_the_range_are_wrong(rt: HostRuntime) -> Result<(
     Ok(())
 }
 
-const REPEATED: [&str; 15] = [
+const REPEATED: [&str; 18] = [
+    "list|f|--jobs|",
+    "list|f|--jobs|--|4|",
+    "list|f|--jobs|2|--jobs|2|",
     "list|f|--conflicts|",
     "list|--conflicts|--|f|",
     "list|f|--limit|--|5|",

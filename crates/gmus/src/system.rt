@@ -16,6 +16,7 @@ ghost use Rattle.gm_tool.specs.Run.{IsStatus, IsFaultless, IsBefore, bounds_for,
 
 use crate::files::RealFiles;
 use crate::sinks::StreamSink;
+use gm_ports::OpenGate;
 use gm_tool::{Finish, run};
 use std::alloc::Global;
 use std::io::Print;
@@ -56,5 +57,5 @@ pub fn run_on_system<R: rt::Files + Threads + Wait + Sync, O: Print, E: Print>(
     ensures no_write_fault_dropped { IsFaultless result.status → out.new.faults ≡ out.old.faults }
     ensures no_evidence_fault_dropped { IsFaultless result.status → files.new.write_faults ≡ files.old.write_faults }
 {
-    run(rt, alloc, words, files, out, err)
+    run(rt, alloc, words, files, out, err, &OpenGate)
 }

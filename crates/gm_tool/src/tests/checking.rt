@@ -1,7 +1,7 @@
 //! What `check` answers to evidence about the worked problems.
 use super::{FIRST, FIRST_SETS, sink_with, words_of};
 use crate::run;
-use gm_ports::{Calls, MemFiles, MemSink, Rooms, Texts};
+use gm_ports::{Calls, MemFiles, MemSink, OpenGate, Rooms, Texts};
 use std::alloc::Global;
 use std::process::Abort;
 use std::sync::Wait;
@@ -188,7 +188,15 @@ fn check_row<R: Threads + Wait + Sync + Abort>(
     let mut files = files_of(alloc, row.file, row.evidence, &[])?;
     let mut out = sink_with(alloc, 1000, &[])?;
     let mut err = sink_with(alloc, 7, &[])?;
-    let finish = run(rt, alloc, words.as_slice(), &mut files, &mut out, &mut err);
+    let finish = run(
+        rt,
+        alloc,
+        words.as_slice(),
+        &mut files,
+        &mut out,
+        &mut err,
+        &OpenGate,
+    );
     let wanted = joined(alloc, row.out)?;
     assert_eq!(rt; finish.status, row.status, "{}", row.err);
     assert_eq!(rt; out.got(), wanted.as_bytes(), "{}", row.err);
@@ -270,7 +278,15 @@ fn check_fault<R: Threads + Wait + Sync + Abort>(
     let mut files = files_of(alloc, FIRST, &ALL, fault.reads)?;
     let mut out = sink_with(alloc, 10, fault.writes)?;
     let mut err = sink_with(alloc, 7, &[])?;
-    let finish = run(rt, alloc, words.as_slice(), &mut files, &mut out, &mut err);
+    let finish = run(
+        rt,
+        alloc,
+        words.as_slice(),
+        &mut files,
+        &mut out,
+        &mut err,
+        &OpenGate,
+    );
     assert_eq!(rt; finish.status, fault.status, "{}", fault.words);
     assert_eq!(rt; out.got(), fault.out.as_bytes(), "{}", fault.words);
     assert_eq!(rt; err.got(), fault.err.as_bytes(), "{}", fault.words);

@@ -2,7 +2,7 @@
 use super::{FIRST, FIRST_SETS, FOUR, ONE_SETS, sink_with, words_of};
 use crate::plain::draw_problem;
 use crate::run;
-use gm_ports::{Calls, Files, MemFiles, MemSink, Rooms, SureFiles, Texts};
+use gm_ports::{Calls, Files, MemFiles, MemSink, OpenGate, Rooms, SureFiles, Texts};
 use std::alloc::Global;
 use std::process::Abort;
 use std::sync::Wait;
@@ -37,7 +37,15 @@ fn run_with<R: Threads + Wait + Sync, F: Files>(
     let words = words_of(alloc, line)?;
     let mut out = sink_with(alloc, 10, failing)?;
     let mut err = sink_with(alloc, 7, &[])?;
-    let finish = run(rt, alloc, words.as_slice(), files, &mut out, &mut err);
+    let finish = run(
+        rt,
+        alloc,
+        words.as_slice(),
+        files,
+        &mut out,
+        &mut err,
+        &OpenGate,
+    );
     Ok(Ended {
         status: finish.status,
         out,

@@ -5,7 +5,7 @@ use Rattle.gm_tool.proofs.file_report.prepare.Goals as goal
 
 -- the text is the report of the sets of the closing's records
 pub returns : goal.returns
-returns c =
+returns g c =
     let left = c.in_ok-left.left in
     record {
       left = c.in_ok-left.ensures;

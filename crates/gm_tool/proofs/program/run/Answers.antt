@@ -12,7 +12,7 @@ use Rattle.gm_tool.specs.declared.ending.Finish.{Finish}
 use Rattle.gm_tool.specs.Endings.{error_line, finish_of, line_of}
 use Rattle.gm_tool.specs.Listing.{IsAfterwards, IsAmong}
 use Rattle.gm_tool.specs.Run.{GetsLine, IsToldByStatus, TellsAccepted, bounds_of, evidence_asked}
-use Rattle.gm_tool.proofs.RunLemmas.{named-from, same_listing, same_checking, not_both, listing-from, begun-from, report_fault-from, evidence_fault-from, checking-from, ending_status, left_of, not_refused, not_refused-alone, not_refused-evidence}
+use Rattle.gm_tool.proofs.RunLemmas.{bounds-from, named-from, same_listing, same_checking, not_both, listing-from, begun-from, report_fault-from, evidence_fault-from, checking-from, ending_status, left_of, not_refused, not_refused-alone, not_refused-evidence}
 use Rattle.gm_tool.proofs.program.run.Goals as goal
 use Rattle.gm_tool.proofs.program.run.Goals.{in-Ok-Some-List, in-Ok-Some-Check, in-Ok-None, in-Err}
 
@@ -28,7 +28,7 @@ returns-clause-listing g c = λ l asks afterwards.
           let asked = sym (ap (option_map asked_by) (w.in-Ok-Some-List.field-0-is ∙ ap Some w.in-Ok-Some-List.field-0-0-is)) ∙ w.in-Ok-Some-List.ensures.asked in
           listing-from files _ l w.bounds_for-bounds.result _ (g.F.Files.state r.new.files) (g.F.Files.state c.match-read_words.files)
           (g.O.Sink.got c.args.out.now) (g.O.Sink.got r.new.out) (g.O.Sink.got c.match-read_words.out) _ Line (finish_of r.result) c.finish_of.result
-          (same_listing words _ l asked asks) (ap₂ (λ (conflicts limit : ℕ). record { conflicts = conflicts; limit = limit }) w.bounds_for-bounds.ensures.conflicts w.bounds_for-bounds.ensures.limit)
+          (same_listing words _ l asked asks) (bounds-from w.bounds_for-bounds.result _ _ _ w.bounds_for-bounds.ensures.jobs w.bounds_for-bounds.ensures.conflicts w.bounds_for-bounds.ensures.limit)
           refl (ap g.F.Files.state w.files-is) (ap g.O.Sink.got w.out-is)
           (c.finish_of.ensures ∙ ap finish_of w.ending-is) (λ line is. subst Line (ap line_of w.ending-is ∙ is) c.write_error_line.ensures) r.ensures.listing afterwards
       | in-Ok-Some-Check w ↦
@@ -173,7 +173,7 @@ returns-clause-error_line g c = λ by_status.
           ap line_of w.ending-is
           ∙ r.ensures.line (λ five. false≢true (subst IsToldByStatus (status ∙ five) by_status)) (λ seven. false≢true (subst IsToldByStatus (status ∙ seven) by_status))
           ∙ ap (λ (b : Bounds). error_line b (finish_of r.result).status)
-          (ap₂ (λ (conflicts limit : ℕ). record { conflicts = conflicts; limit = limit }) w.bounds_for-bounds.ensures.conflicts w.bounds_for-bounds.ensures.limit ∙ ap bounds_of asked)
+          (bounds-from w.bounds_for-bounds.result _ _ _ w.bounds_for-bounds.ensures.jobs w.bounds_for-bounds.ensures.conflicts w.bounds_for-bounds.ensures.limit ∙ ap bounds_of asked)
           ∙ ap (error_line (bounds_of words)) (sym status)
       | in-Ok-Some-Check w ↦
           let r = w.check_file-ending in
