@@ -1,9 +1,6 @@
 -- What a scan of a word tells of its number.
-use Rattle.std.proofs.Common.{◌≡◌, ℕ, ◌+◌, ◌-◌, ◌*◌, ◌%◌, ◌^◌, ◌<◌, ◌≤◌, ◌&&◌, Bool, true, cond, List, length, get_or, refl, sym, ◌∙◌, ap, arith, inl, inr, Option, Some, None}
-use Rattle.std.specs.Prelude.{nat_le, nat_lt}
-use Rattle.std.specs.Char.{is_ascii_digit, digit_value}
-use Rattle.std.proofs.lemmas.Str.{digit_value_digit}
-use Rattle.std.proofs.lemmas.Bool.{cases_lt, and_from, le-leb, lt-ltb}
+use Rattle.std.proofs.Common.{◌≡◌, ℕ, ◌+◌, ◌-◌, ◌^◌, Bool, cond, List, length, get_or, refl, sym, ◌∙◌, ap, arith, inl, inr, Option, Some, None}
+use Rattle.std.proofs.lemmas.Bool.{cases_lt}
 use Rattle.std.specs.List.{fold}
 use Rattle.evidence_text.specs.Scan.{digit_onto, form_of, word_from}
 use Rattle.evidence_text.specs.Reading.{number_in}
@@ -33,16 +30,3 @@ pub number_in-scanned : (line : List ℕ) (from end : ℕ) (value : Option ℕ) 
 number_in-scanned line from end value f ends is form =
     ap (λ (o : Option ℕ). cond f o None) is
     ∙ number_in-form (word_from line from) f (form ∙ form_of-word line from (end - from) (omega (arith, ends)))
-
--- a digit behind a value that has room for it
-pub digit_onto-fits : (v b : ℕ) → b < 256 → (b + 208) % 256 ≤ 9 → v ≤ 1844674407370955160 → Some (v * 10 + (b + 208) % 256) ≡ digit_onto (Some v) b
-digit_onto-fits v b byte digit small =
-    let low : 48 ≤ b = omega (arith, byte, digit) in
-    let high : b ≤ 57 = omega (arith, byte, digit) in
-    let value : digit_value b + 48 ≡ b = digit_value_digit b (low, high) in
-    let same : (b + 208) % 256 ≡ digit_value b = omega (arith, low, high, value) in
-    let n : ℕ = v * 10 + digit_value b in
-    let is_digit : is_ascii_digit b ≡ true = and_from (nat_le 48 b) (nat_le b 57) (le-leb 48 b low) (le-leb b 57 high) in
-    let fits : nat_lt n (2 ^ 64) ≡ true = lt-ltb n (2 ^ 64) (omega (arith, high, value, small)) in
-    ap (λ d. Some (v * 10 + d)) same
-    ∙ sym (ap (λ t. cond (t && nat_lt n (2 ^ 64)) (Some n) None) is_digit ∙ ap (λ t. cond t (Some n) None) fits)

@@ -1,16 +1,11 @@
 //! The number that a word writes.
 //!
 //! A word is measured and valued in one loop. A value that no `u64` holds makes no number, and nor does a byte that is no
-//! digit; whether the first digit is a zero too many is looked at behind the loop. Nearly all words are short numbers, so
-//! the digits at the front are valued in a loop that can't overflow, and the word is gone over with more care only where
-//! that loop ends in it.
+//! digit; whether the first digit is a zero too many is looked at behind the loop.
 ghost use Rattle.std.specs.Prelude.{◌≡◌, ◌+◌, ◌-◌, ◌^◌, ◌≤◌, length, slice_index, Some};
 ghost use Rattle.std.specs.List.{fold};
 ghost use Rattle.evidence_text.specs.Reading.{number_in};
 ghost use Rattle.evidence_text.specs.Scan.{digit_onto, form_of, word_from};
-
-/// The greatest value that surely has room for one digit more.
-const MOST_BEFORE: u64 = 1_844_674_407_370_955_160;
 
 /// Where a word ends, and the number that it writes.
 #[derive(Clone, Copy, Debug)]
@@ -37,38 +32,6 @@ pub(crate) fn scan(line: &[u8], from: usize) -> Scanned
 
 /// Where the word ends, and the value of its digits, zeros before others or not.
 fn digits(line: &[u8], from: usize) -> (usize, Option<u64>)
-    requires { from ≤ length line.now }
-    ensures end { result.0 ≡ from + length (word_from line.now from) }
-    ensures within { result.0 ≤ length line.now }
-    ensures value { result.1 ≡ fold digit_onto (Some 0) (word_from line.now from) }
-{
-    let (end, value) = front_digits(line, from);
-    if end == line.len() || line[end] == b' ' {
-        return (end, Some(value));
-    }
-    any_bytes(line, from)
-}
-
-/// The digits from a place on whose value surely fits: where they end, and their value.
-fn front_digits(line: &[u8], from: usize) -> (usize, u64)
-    requires { from ≤ length line.now }
-    ensures within { result.0 ≤ length line.now }
-    ensures end { result.0 + length (word_from line.now result.0) ≡ from + length (word_from line.now from) }
-    ensures value { fold digit_onto (Some result.1) (word_from line.now result.0) ≡ fold digit_onto (Some 0) (word_from line.now from) }
-{
-    let mut value = 0;
-    for at in from..line.len() {
-        let digit = line[at].wrapping_sub(b'0');
-        if digit > 9 || value > MOST_BEFORE {
-            return (at, value);
-        }
-        value = value * 10 + u64::from(digit);
-    }
-    (line.len(), value)
-}
-
-/// The same as `digits`, of any word.
-fn any_bytes(line: &[u8], from: usize) -> (usize, Option<u64>)
     requires { from ≤ length line.now }
     ensures end { result.0 ≡ from + length (word_from line.now from) }
     ensures within { result.0 ≤ length line.now }

@@ -1,5 +1,5 @@
 use Rattle.evidence_text.proofs.WordLemmas.{value-step, place-step}
-use Rattle.evidence_text.proofs.scan.any_bytes.Goals as goal
+use Rattle.evidence_text.proofs.scan.digits.Goals as goal
 
 pub loop-at-preserved : goal.loop-at-preserved
 loop-at-preserved c =

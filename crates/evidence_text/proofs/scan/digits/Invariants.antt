@@ -2,7 +2,7 @@ use Rattle.std.proofs.Common.{◌≡◌, ◌+◌, length}
 use Rattle.std.specs.List.{fold}
 use Rattle.std.specs.Prelude.{Some}
 use Rattle.evidence_text.specs.Scan.{digit_onto, word_from}
-use Rattle.evidence_text.proofs.scan.any_bytes.Given as goal
+use Rattle.evidence_text.proofs.scan.digits.Given as goal
 
 -- what was read and what is left of the word make the whole
 abbrev pub invariant-loop-at : goal.invariant-loop-at
