@@ -89,11 +89,23 @@ for file in "$here"/*.gcnf; do
 done
 try 'many sets' 0 '' pairs.report list pairs.gcnf
 
+# Any number of workers gives the same whole report, and as many sets up to a limit.
+for jobs in 1 2 3 7 64; do
+    for file in "$here"/*.gcnf; do
+        name=${file##*/}
+        try "$name by $jobs" 0 '' "${file%.gcnf}.report" list "$file" --jobs "$jobs"
+    done
+    try "many sets by $jobs" 0 '' pairs.report list --jobs="$jobs" pairs.gcnf
+    try_partial "a limit of 5 by $jobs" 4 'gmus: limit of 5 records reached' "$here/laptop.report" 5 list "$here/laptop.gcnf" --limit 5 --jobs "$jobs"
+done
+
 bad='gmus: bad command line'
 try 'no words' 2 "$bad" nothing
 try 'another command' 2 "$bad" nothing lost "$here/first.gcnf"
 try 'no file' 2 "$bad" nothing list
 try 'a limit of 0' 2 "$bad" nothing list "$here/first.gcnf" --limit 0
+try 'no worker' 2 "$bad" nothing list "$here/first.gcnf" --jobs 0
+try '65 workers' 2 "$bad" nothing list "$here/first.gcnf" --jobs 65
 try_partial 'no budget' 3 'gmus: budget of 0 conflicts spent' "$here/door.report" '' list "$here/door.gcnf" --conflicts 0
 try_partial 'a small budget' 3 'gmus: budget of 9 conflicts spent' pairs.report '' list --conflicts=9 pairs.gcnf
 try_partial 'a limit of 1' 4 'gmus: limit of 1 records reached' "$here/first.report" 1 list "$here/first.gcnf" --limit 1

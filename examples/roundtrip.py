@@ -1,11 +1,12 @@
 #!/usr/bin/env python3
-"""Lists small random problems with evidence, whole and partly, and has the program check what it wrote.
+"""Lists small random problems with evidence, whole and partly, by one worker and by more, and has the program check what
+it wrote.
 
     examples/roundtrip.py PROGRAM [COUNT]
 
 Each of COUNT problems (200) is listed whole, up to a limit of records, and within a budget of conflicts. The report of
-`check` has to be that of `list`, byte for byte. Prints how many listings ended with each status; ends with 1 where two
-reports differ, or where one kind of listing did not come at all.
+`check` has to be that of `list`, byte for byte, and each whole report that of one worker. Prints how many listings ended
+with each status; ends with 1 where two reports differ, or where one kind of listing did not come at all.
 """
 import collections
 import os
@@ -15,6 +16,7 @@ import sys
 import tempfile
 
 SEED = 20261127
+JOBS = 2, 3, 7, 64
 
 
 def problem(draw):
@@ -44,11 +46,15 @@ def main():
         for number in range(count):
             with open(file, "w") as out:
                 out.write(problem(draw))
-            for options in [], ["--limit", str(draw.randint(1, 4))], ["--conflicts", str(draw.randint(0, 1))]:
+            whole = run(program, "list", file)
+            ways = [[], ["--limit", str(draw.randint(1, 4))], ["--conflicts", str(draw.randint(0, 1))]]
+            ways.append(["--jobs", str(JOBS[number % len(JOBS)])])
+            ways.append([*ways[1], "--jobs", "2"])
+            for options in ways:
                 status, report = run(program, "list", file, "--evidence", evidence, *options)
                 checked = run(program, "check", file, evidence)
                 statuses[status] += 1
-                if status not in (0, 3, 4) or checked != (0, report):
+                if status not in (0, 3, 4) or checked != (0, report) or (status == 0 and (status, report) != whole):
                     print(f"differs problem {number} {' '.join(options)}: list ends with {status}, check with {checked[0]}")
                     failed = True
     print(", ".join(f"{statuses[status]} with status {status}" for status in sorted(statuses)))

@@ -141,6 +141,7 @@ impl Search {
         ensures vars { self.new.trail.vars ≡ self.old.trail.vars }
         ensures true_first { self.new.true_first ≡ self.old.true_first }
     {
+        // Choices that are positive only satisfy the map's clauses for long, so watches are parked then.
         let told = propagate(&mut self.store, &mut self.trail, self.true_first);
         if self.trail.top() == 0 {
             self.log_units(alloc)?;

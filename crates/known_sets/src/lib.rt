@@ -28,8 +28,8 @@ mod neighbours;
 mod numbers;
 mod oracle;
 mod satisfied;
-mod turning;
 #[cfg(test)]
 mod tests;
+mod turning;
 
 pub use oracle::{KnownSets, MOST_BYTES};

@@ -37,7 +37,9 @@ pub fn turn_all(
         if number >= satisfied.len() || *looks > most {
             return Ok(());
         }
-        turn_one(alloc, rotation, problem, shrinking, satisfied, number, looks)?;
+        turn_one(
+            alloc, rotation, problem, shrinking, satisfied, number, looks,
+        )?;
     }
     Ok(())
 }
@@ -64,7 +66,9 @@ fn turn_one(
         return Ok(());
     };
     let assign = lent.evidence.copy()?;
-    turn_by_each(alloc, rotation, problem, shrinking, satisfied, &out, &assign, group, looks)
+    turn_by_each(
+        alloc, rotation, problem, shrinking, satisfied, &out, &assign, group, looks,
+    )
 }
 
 // Flips each variable that may make the group true.
@@ -87,7 +91,9 @@ fn turn_by_each(
     }
     for var in rotation.candidates(alloc, problem, assign, group)? {
         if var > 0 && var <= vars {
-            turn_by(alloc, rotation, problem, shrinking, satisfied, out, assign, var)?;
+            turn_by(
+                alloc, rotation, problem, shrinking, satisfied, out, assign, var,
+            )?;
             *looks = looks.saturating_add(rotation.cost(var));
         }
     }

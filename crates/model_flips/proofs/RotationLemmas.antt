@@ -110,12 +110,12 @@ has-with-kept set g h there =
     elim (cases_lt h g) [
       | inl below ↦ list_any-append (λ k. eqb k h) low (g ∷ high) ∙ or_left (has low h) (has (g ∷ high) h) (has-filter (λ k. ltb k g) set h ∙ and_from (ltb h g) (has set h) (lt-ltb h g below) there)
       | inr past ↦ elim (cases_eq h g) [
-          | inl same ↦ subst (λ k. has (with_group set g) k ≡ true) (sym same) (has-with set g)
-          | inr other ↦
-              list_any-append (λ k. eqb k h) low (g ∷ high)
-              ∙ or_right (has low h) (has (g ∷ high) h)
-              (or_right (eqb g h) (has high h) (has-filter (λ k. ltb g k) set h ∙ and_from (ltb g h) (has set h) (lt-ltb g h (omega (arith, past, λ (e : g ≡ h). other (sym e)))) there))
-        ]
+        | inl same ↦ subst (λ k. has (with_group set g) k ≡ true) (sym same) (has-with set g)
+        | inr other ↦
+            list_any-append (λ k. eqb k h) low (g ∷ high)
+            ∙ or_right (has low h) (has (g ∷ high) h)
+            (or_right (eqb g h) (has high h) (has-filter (λ k. ltb g k) set h ∙ and_from (ltb g h) (has set h) (lt-ltb g h (omega (arith, past, λ (e : g ≡ h). other (sym e)))) there))
+      ]
     ]
 
 In-slice_get : (clauses : List Clause) (c : Clause) → In c clauses → (at : ℕ) × (slice_get clauses at ≡ Some c)
@@ -188,12 +188,12 @@ Satisfies-turned p lists out left w v var b well_formed positive is ascends rega
     made all c inside out_of range =
         elim (cases_Bool (has out c.group)) [
           | inl was_out ↦ elim (regained c.group was_out) [
-              | inl l ↦ absurd (false≢true (sym out_of ∙ l))
-              | inr held ↦ elim (or_cases (not (eqb c.group c.group)) (clause_true v c.lits) (all_at (λ (e : Clause). not (eqb e.group c.group) || clause_true v e.lits) p.clauses c held inside)) [
-                  | inl clash ↦ absurd (false≢true (sym (ap not (eq-eqb c.group c.group refl)) ∙ clash))
-                  | inr it ↦ it
-                ]
+            | inl l ↦ absurd (false≢true (sym out_of ∙ l))
+            | inr held ↦ elim (or_cases (not (eqb c.group c.group)) (clause_true v c.lits) (all_at (λ (e : Clause). not (eqb e.group c.group) || clause_true v e.lits) p.clauses c held inside)) [
+              | inl clash ↦ absurd (false≢true (sym (ap not (eq-eqb c.group c.group refl)) ∙ clash))
+              | inr it ↦ it
             ]
+          ]
           | inr was_in ↦
               let present : is_present (complement p.groups out) c ≡ true =
               elim range [
