@@ -163,13 +163,18 @@ fn search_begins_where_the_last_one_ended(rt: HostRuntime) -> Result<(), AllocEr
         Lit::new(4),
         Lit::new(5),
     ])?;
-    // the variable whose literal is made false, and that of the literal which is watched in its place
-    let rows: [(i32, i32); 4] = [(1, 3), (3, 4), (4, 5), (5, 1)];
-    for (variable, watched) in rows {
-        assert!(rt; bench.decide(literal(-variable)) == 0, "{variable}");
-        assert!(rt; bench.store.head(literal(watched)) == Some(1), "{variable}");
-        bench.back(0);
-    }
+    // 1 is false, so that 3 is watched; and then the search begins at 3, at 4, and at 5, from where it comes to 1
+    assert!(rt; bench.decide(Lit::new(-1)) == 0);
+    assert!(rt; bench.store.head(Lit::new(3)) == Some(1));
+    bench.back(0);
+    assert!(rt; bench.decide(Lit::new(-3)) == 0);
+    assert!(rt; bench.store.head(Lit::new(4)) == Some(1));
+    bench.back(0);
+    assert!(rt; bench.decide(Lit::new(-4)) == 0);
+    assert!(rt; bench.store.head(Lit::new(5)) == Some(1));
+    bench.back(0);
+    assert!(rt; bench.decide(Lit::new(-5)) == 0);
+    assert!(rt; bench.store.head(Lit::new(1)) == Some(1));
     Ok(())
 }
 
