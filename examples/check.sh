@@ -116,6 +116,20 @@ try 'an empty file' 5 'gmus: input refused: 1 NoHeader at line 1 byte 1' nothing
 try 'a file that is not there' 6 'gmus: read fault on input' nothing list lost
 try 'a folder' 6 'gmus: read fault on input' nothing list .
 
+# Evidence about the three smallest problems has no step that isn't needed: an input that is a goal is named itself.
+try_evidence() { # what to try, the file's text, the wanted evidence; each with "%" for a line's end
+    printf '%s' "$2" | tr '%' '\n' >small.gcnf
+    printf '%s' "$3" | tr '%' '\n' >wanted
+    "$program" list small.gcnf --evidence written >out 2>err </dev/null
+    status=$?
+    mv written out
+    judge "$1" 0 '' wanted
+}
+try_evidence 'evidence about nothing' 'p gcnf 0 0 0%' 'p gmev 1 0 0 0%m 0%w 0 0%x 1%e complete%'
+try_evidence 'evidence about a background' 'p gcnf 1 2 1%{0} 1 0%{0} -1 0%' 'p gmev 1 1 2 1%u 0%d 3 0 1 2 0%r 0 3%x 1%e complete%'
+try_evidence 'evidence about an empty clause' 'p gcnf 0 1 1%{1} 0%' \
+    'p gmev 1 0 1 1%u 1 0%r 0 1%w 1 0%m 1 0%w 0 0%r 1 1%d 3 0 1 2 0%x 3%e complete%'
+
 # Evidence: as it is, cut before it is closed, with a hint left out, about another file, and none.
 evidence=$here/first.evidence
 try 'evidence' 0 '' "$here/first.report" check "$here/first.gcnf" "$evidence"
