@@ -1,4 +1,7 @@
 //! Clauses come back as they were added.
+ghost use Rattle.std.specs.Prelude.{◌≡◌};
+ghost use Rattle.clause_store.specs.Clauses.{IsId};
+
 use crate::Store;
 use sat_base::Lit;
 use std::alloc::AllocError;
@@ -136,6 +139,15 @@ fn two_literals_of_three_tell_the_third(rt: HostRuntime) -> Result<(), AllocErro
     Ok(())
 }
 
+// The position of a clause after it was set to this place.
+fn position_set_to(store: &mut Store, id: u64, place: usize) -> usize
+    requires { IsId store.old.clauses id }
+    ensures { store.new ≡ store.old }
+{
+    store.set_position(id, place);
+    store.position(id)
+}
+
 #[test]
 fn position_is_the_one_that_was_set(rt: HostRuntime) -> Result<(), AllocError> {
     let alloc = rt.alloc();
@@ -144,12 +156,11 @@ fn position_is_the_one_that_was_set(rt: HostRuntime) -> Result<(), AllocError> {
     let three = store.add(&[a, b, c], true)?;
     let four = store.add(&[a, b, c, d], true)?;
     assert!(rt; store.position(four) == 0);
-    // the place set, and the one that is read: none beyond the end
-    let rows: [(usize, usize); 4] = [(3, 3), (1, 1), (4, 4), (9, 4)];
-    for (place, read) in rows {
-        store.set_position(four, place);
-        assert!(rt; store.position(four) == read, "{place}");
-    }
+    assert!(rt; position_set_to(&mut store, four, 3) == 3);
+    assert!(rt; position_set_to(&mut store, four, 1) == 1);
+    assert!(rt; position_set_to(&mut store, four, 4) == 4);
+    // None is beyond the end.
+    assert!(rt; position_set_to(&mut store, four, 9) == 4);
     store.set_position(three, 2);
     assert!(rt; store.third(three, a, b) == Some(c));
     Ok(())
