@@ -79,9 +79,9 @@ fn no_groups_have_one_set(rt: HostRuntime) -> Result<(), Fail> {
         return Ok(());
     };
     let proof = map.empty_proof(alloc)?;
-    assert_eq!(rt; proof.len(), 1);
-    assert_eq!(rt; proof.goal(), 2);
-    assert!(rt; proof.step(0).lits.is_empty());
+    // The block is the empty clause itself.
+    assert_eq!(rt; proof.len(), 0);
+    assert_eq!(rt; proof.goal(), 1);
     Ok(())
 }
 

@@ -143,14 +143,16 @@ impl Told {
 // were, and where there was no room for them.
 type Row = (&'static [u32], &'static str, u64, u64, u64);
 
+// The assignment of {2}, in which x is false, leaves out the group 1 alone. With x true it leaves out 2 and 3, and answers
+// for {1} and {1, 4}.
 const SHRINKING: [Row; 7] = [
     (&[1, 2], "unsat", 1, 1, 1),
     (&[2], "sat", 2, 1, 2),
-    (&[1], "sat", 3, 1, 3),
-    (&[1, 3, 4], "unsat", 4, 2, 4),
-    (&[3, 4], "sat", 4, 2, 5),
-    (&[1, 4], "sat", 4, 2, 6),
-    (&[1, 3], "sat", 5, 2, 7),
+    (&[1], "sat", 2, 1, 3),
+    (&[1, 3, 4], "unsat", 3, 2, 4),
+    (&[3, 4], "sat", 3, 2, 5),
+    (&[1, 4], "sat", 3, 2, 6),
+    (&[1, 3], "sat", 4, 2, 7),
 ];
 
 const GROWING: [Row; 6] = [
@@ -170,14 +172,14 @@ const SEEDS: [Row; 4] = [
     (&[2, 3, 4], "sat", 3, 0, 4),
 ];
 
-// The assignments of {2} and {1} also satisfy the groups 3 and 4, and the group 4.
+// The assignment of {2} also satisfies the groups 3 and 4. With x true it satisfies 1 and 4.
 const MODELS: [Row; 6] = [
     (&[1, 2], "unsat", 1, 1, 1),
     (&[2], "sat", 2, 1, 2),
-    (&[1], "sat", 3, 1, 3),
-    (&[2, 3, 4], "sat", 3, 1, 4),
-    (&[1, 4], "sat", 3, 1, 5),
-    (&[1, 3], "sat", 4, 1, 6),
+    (&[1], "sat", 2, 1, 3),
+    (&[2, 3, 4], "sat", 2, 1, 4),
+    (&[1, 4], "sat", 2, 1, 5),
+    (&[1, 3], "sat", 3, 1, 6),
 ];
 
 // The first row whose answer or number of questions is another one.
