@@ -1,3 +1,4 @@
+use Rattle.std.proofs.Common.{inl, inr}
 use Rattle.gm_tool.specs.Run.{bounds_for}
 use Rattle.gmus.proofs.EvidenceLemmas.{enumerated-closing, valid-evidence}
 use Rattle.gmus.proofs.system.run_on_system.Goals as goal
@@ -7,3 +8,11 @@ pub returns-clause-enumerated : goal.returns-clause-enumerated
 returns-clause-enumerated g c = λ l asked after.
     let (p, of_file, listed, evidence) = c.run.ensures.listing l asked after in
     (p, enumerated-closing p (bounds_for l) c.run.result.status c.run.result.logs _ _ c.run.result.closing listed, valid-evidence p l.evidence _ _ c.run.result evidence)
+
+-- a fault on the report, or on the evidence that was asked for
+pub returns-clause-write_fault : goal.returns-clause-write_fault
+returns-clause-write_fault g c = λ seven.
+    elim (c.run.ensures.write_fault seven) [
+      | inl report ↦ inl report.rose
+      | inr evidence ↦ inr (evidence.wanted, evidence.rose)
+    ]
