@@ -4,3 +4,4 @@ pub mod Places
 pub mod Leading
 pub mod Analysis
 pub mod Rows
+pub mod Pending

@@ -18,8 +18,9 @@ ghost use Rattle.learn_step.specs.Reasons.{AreReasoned};
 ghost use Rattle.learn_step.specs.Analysis.{IsBroughtIn, IsForced, IsStep};
 
 use crate::learnt::Learnt;
+use crate::pending::Pending;
 use clause_store::Store;
-use sat_base::{Lit, WorkList};
+use sat_base::Lit;
 use smallvec::SmallVec;
 use std::alloc::{AllocError, Global};
 use trail_book::{Entry, Trail};
@@ -28,7 +29,7 @@ use trail_book::{Entry, Trail};
 #[derive(Drop)]
 pub(crate) struct Analysis {
     /// Where the trail makes the literals false that are still to be looked at.
-    pub places: WorkList,
+    pub places: Pending,
     /// The literals that stay.
     pub lits: Vec<Lit>,
     /// The ids of the clauses that were used, the last one first in the order of propagation.
@@ -43,7 +44,7 @@ impl Analysis {
         ensures hints { result.hints.items ≡ [] }
     {
         Analysis {
-            places: WorkList::new(alloc),
+            places: Pending::new(alloc),
             lits: Vec::new(alloc),
             hints: SmallVec::new(alloc),
         }
@@ -146,7 +147,7 @@ pub(crate) fn hint(entry: &Entry) -> Option<u64>
 
 /// Inserts the places below this one of the variables of these literals.
 fn insert_below(
-    places: &mut WorkList,
+    places: &mut Pending,
     trail: &Trail,
     lits: &[Lit],
     below: u32,

@@ -19,6 +19,7 @@ mod cores;
 mod first_uip;
 mod learnt;
 mod origin;
+mod pending;
 #[cfg(test)]
 mod tests;
 
