@@ -3,7 +3,7 @@
 //! A learnt clause that no longer helps still costs a visit wherever one of its watched literals becomes false. So
 //! between searches, at level 0, where many more are live than have to stay, those go that are longer than the live
 //! learnt ones are in the mean, the oldest first, until no more may go. The walk over all clauses is worth it only
-//! where some hundreds can go at once.
+//! where some hundreds can go at once, and is not made again before some hundreds more are learnt: many may have to stay.
 //!
 //! A clause of which no literal is true forces none, so no value of level 0 rests on it: it is neither a reason nor the
 //! clause of a unit step. Clauses that are satisfied at level 0 are passed over; they are never visited in any case.
@@ -23,7 +23,7 @@ use sat_base::Lit;
 use std::alloc::AllocError;
 use trail_book::Trail;
 
-// So many have to be live beyond those that stay, before the clauses are looked at.
+// So many have to be live beyond those that stay, and learnt since the last walk, before the clauses are looked at.
 const EXCESS: u64 = 500;
 
 /// Forgets learnt clauses, where many more are live than have to stay: it goes back to level 0 then.
@@ -35,13 +35,18 @@ pub fn forget(search: &mut Search) -> Result<(), AllocError>
     ensures true_first { search.new.true_first ≡ search.old.true_first }
 {
     let live = search.log.live_learned();
-    if live < EXCESS || !may_forget(live - EXCESS, search.log.learned()) {
+    let learned = search.log.learned();
+    if live < EXCESS || learned.saturating_sub(search.walked) < EXCESS {
+        return Ok(());
+    }
+    if !may_forget(live - EXCESS, learned) {
         return Ok(());
     }
     search.to_root();
     let longest = mean_length(search);
     forget_long(search, longest)?;
     rebuild(&mut search.store, &search.trail);
+    search.walked = learned;
     Ok(())
 }
 

@@ -55,6 +55,8 @@ pub struct Search {
     pub assumed_true: usize,
     /// How many conflicts stood since the search began, or since the last restart.
     pub conflicts: u32,
+    /// How many clauses had been learnt when they were last walked over for forgetting.
+    pub walked: u64,
     /// Whether choices are positive literals only.
     pub true_first: bool,
     /// What is decided first otherwise.

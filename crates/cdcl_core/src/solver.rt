@@ -72,6 +72,7 @@ impl Solver {
             assumed_levels: 0,
             assumed_true: 0,
             conflicts: 0,
+            walked: 0,
             true_first,
             plan: Plan::new(alloc, vars)?,
         };

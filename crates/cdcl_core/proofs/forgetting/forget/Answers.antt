@@ -26,7 +26,7 @@ returns-clause-ready c =
     let stale = c.in_ok-forget_long.ensures.stale in
     record {
       assumed = [];
-      search = search_root_free (record s { store = c.rebuild.new.store })
+      search = search_root_free (record s { store = c.rebuild.new.store; walked = c.learned-learned.result })
           (record {
             vars = c.rebuild.ensures.clauses.vars ∙ stale.vars;
             kept = c.rebuild.ensures.kept;
