@@ -2,8 +2,8 @@
 //!
 //! Where nothing is left to propagate, the assumed literals are decided in their order, and then variables without
 //! value: those of the plan, if one is followed (`plan.rt`), and then in the order that the turn began, as each was last held
-//! (Pipatsrisawat and Darwiche 2007); or positive, in that order, where it is asked for. Which assumed literals are true is not asked again for each decision: the
-//! search remembers how far they all are, and forgets it only where it goes back below them.
+//! (Pipatsrisawat and Darwiche 2007), or positive where that is asked for. Which assumed literals are true is not asked
+//! again for each decision: the search remembers how far they all are, and forgets it only where it goes back below them.
 ghost use Rattle.std.specs.Prelude.{◌≡◌, ℕ, ℤ, length, take, true, IfOk, IfSome, IfNone};
 ghost use Rattle.sat_base.specs.Members.{In};
 ghost use Rattle.sat_base.specs.Literals.{AreLiterals, IsLiteral, literal_true};
@@ -34,20 +34,21 @@ pub enum Next {
     Full,
 }
 
-// A literal without value: positive where that is asked for, and else of the plan, or as it was last held.
+// A literal without value: of the plan, or as it was last held; a positive one where that is asked for.
 fn choice(trail: &mut Trail, plan: &mut Plan, true_first: bool) -> Option<Lit>
     ensures some { IfSome result (λ lit. IsUnset (trues trail.old.entries) lit × IsLiteral trail.old.vars lit) }
     ensures positive { IfSome result (λ lit. true_first ≡ true → IsPositive lit) }
     ensures none { IfNone result ((lit : ℤ) → IsLiteral trail.old.vars lit → HasValue (trues trail.old.entries) lit) }
     ensures same { trail.new ≡ trail.old }
 {
-    if true_first {
-        return trail.pick_true();
-    }
-    if let Some(lit) = plan.next(trail) {
+    if let Some(lit) = plan.next(trail, true_first) {
         return Some(lit);
     }
-    trail.pick()
+    if true_first {
+        trail.pick_true()
+    } else {
+        trail.pick()
+    }
 }
 
 // Moves over the assumed literals that are true, from place `reached` on.
@@ -136,7 +137,7 @@ impl Search {
                 Ok(None)
             }
             Next::Full => {
-                self.plan.keep(&self.trail);
+                self.plan.end(&self.trail, self.true_first);
                 let assign = assignment(alloc, &self.trail)?;
                 Ok(Some(Solved::Sat(assign)))
             }

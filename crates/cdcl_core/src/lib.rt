@@ -17,7 +17,7 @@
 //! the head says what holds in each round and why that suffices (`specs/State.antt`). `conflicts.rt` and `decisions.rt`
 //! are the two ways on from there, `entrance.rt` has learnt clauses be watched, `units.rt` logs what holds at level 0,
 //! and `steps.rt` keeps log and clauses in step. `activity.rt` says which variables are bumped, `restart.rt` when the
-//! search begins anew, and `resuming.rt` what of the trail it goes on from.
+//! search begins anew, `resuming.rt` what of the trail it goes on from, and `leaving.rt` how it is sent elsewhere.
 //!
 //! Not said here: how many units a search needs, which core it finds, which model beyond that those of `new_true` under no
 //! assumed literals are greatest, and that memory suffices.
@@ -28,6 +28,7 @@ mod conflicts;
 mod decisions;
 mod entrance;
 mod forgetting;
+mod leaving;
 mod plan;
 mod restart;
 mod resuming;

@@ -4,22 +4,36 @@
 //! again in the order in which they came onto the trail, those that have no value when their turn comes; the order by
 //! activity is asked for behind the first conflict, or where no literal of the plan is left. Nothing rests on the plan: each
 //! literal is looked at before it is decided.
-ghost use Rattle.std.specs.Prelude.{◌≡◌, ◌^◌, ◌<◌, true, IfSome};
+//!
+//! Where choices are positive only, no assignment is planned again: the plan has a few variables that were false in
+//! assignments that were left (`leaving.rt`), the latest first.
+ghost use Rattle.std.specs.Prelude.{◌≡◌, true, IfSome};
 ghost use Rattle.sat_base.specs.Literals.{IsLiteral};
 ghost use Rattle.sat_base.specs.Units.{IsUnset};
 ghost use Rattle.trail_book.specs.Trail.{trues};
+ghost use Rattle.trail_book.specs.Order.{IsPositive};
 
 use sat_base::Lit;
 use std::alloc::{AllocError, Global};
+use std::mem;
 use trail_book::Trail;
 
-/// The literals of the last assignment that was found.
+// So many literals at most are put in front.
+const FIRST: usize = 4;
+
+// At so many counts it is time for another beginning at first. Each interval is twice as long as the one before.
+const FIRST_INTERVAL: u32 = 50;
+
+/// The literals that are decided first.
 #[derive(Drop)]
 pub struct Plan {
     // One place a variable, of which the first `len` count.
     lits: Vec<Lit>,
     len: usize,
     next: usize,
+    // How many counts since the last beginning, and at how many the next one is due.
+    count: u32,
+    interval: u32,
 }
 
 impl Plan {
@@ -29,12 +43,16 @@ impl Plan {
             lits: vec![in alloc; Lit::new(1); vars as usize]?,
             len: 0,
             next: 0,
+            count: 0,
+            interval: FIRST_INTERVAL,
         })
     }
 
-    /// Begins with the first literal again.
-    pub fn begin(&mut self) {
-        self.next = 0;
+    /// Begins with the first literal again. Where choices are positive only, nothing but what is put in front begins it.
+    pub fn begin(&mut self, true_first: bool) {
+        if !true_first {
+            self.next = 0;
+        }
     }
 
     /// Leaves the literals that are left.
@@ -42,8 +60,12 @@ impl Plan {
         self.next = self.len;
     }
 
-    /// Takes the literals of this trail, the oldest first.
-    pub fn keep(&mut self, trail: &Trail) {
+    /// Ends with a trail on which each variable has a value: its literals are planned, the oldest first. Where choices are
+    /// positive only, they are not.
+    pub fn end(&mut self, trail: &Trail, true_first: bool) {
+        if true_first {
+            return self.stop();
+        }
         self.len = 0;
         for place in 0..trail.len() {
             self.push(trail.at(place));
@@ -57,13 +79,44 @@ impl Plan {
         }
     }
 
-    /// The next literal that has no value on this trail.
-    pub fn next(&mut self, trail: &Trail) -> Option<Lit>
-        ensures { IfSome result (λ lit. IsUnset (trues trail.now.entries) lit × IsLiteral trail.now.vars lit) }
+    /// Counts one more, and tells whether it is time for another beginning.
+    pub fn is_due(&mut self) -> bool {
+        self.count = self.count.saturating_add(1);
+        if self.count < self.interval {
+            return false;
+        }
+        self.count = 0;
+        self.interval = self.interval.saturating_mul(2);
+        true
+    }
+
+    /// Puts a literal in front of the others, of which few stay, and begins with it.
+    pub fn put_first(&mut self, lit: Lit) {
+        let most = FIRST.min(self.lits.len());
+        let mut moved = lit;
+        for at in 0..most {
+            mem::swap(&mut self.lits[at], &mut moved);
+        }
+        self.len = self.len.saturating_add(1).min(most);
+        self.next = 0;
+    }
+
+    /// The literal that was put in front last, where there is one.
+    pub fn first(&self) -> Option<Lit> {
+        if self.len == 0 {
+            return None;
+        }
+        self.lits.first().copied()
+    }
+
+    /// The next literal that has no value on this trail, and is positive where that is asked for.
+    pub fn next(&mut self, trail: &Trail, true_first: bool) -> Option<Lit>
+        ensures unset { IfSome result (λ lit. IsUnset (trues trail.now.entries) lit × IsLiteral trail.now.vars lit) }
+        ensures positive { IfSome result (λ lit. true_first ≡ true → IsPositive lit) }
     {
         for at in self.next..self.len.min(self.lits.len()) {
             let lit = self.lits[at];
-            if is_free(trail, lit) {
+            if is_free(trail, lit) && (!true_first || lit.is_positive()) {
                 self.next = at + 1;
                 return Some(lit);
             }

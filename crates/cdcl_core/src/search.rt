@@ -85,7 +85,7 @@ impl Search {
         self.trail.start_at(turn);
         self.resume(assumed);
         self.conflicts = 0;
-        self.plan.begin();
+        self.plan.begin(self.true_first);
         let answer = self.search(alloc, assumed, purse)?;
         Ok(answer)
     }

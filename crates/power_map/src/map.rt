@@ -75,6 +75,8 @@ impl MapEngine for PowerMap {
     }
 
     fn seed(&mut self, alloc: Global, turn: u64, purse: &mut Purse) -> Result<Seed, AllocError> {
+        // Where no block came since that takes the last seed out, another worker is still at it.
+        self.solver.leave();
         match self.solver.solve(alloc, &[], turn, purse)? {
             Solved::Sat(assign) => Ok(Seed::Set(set_of(alloc, self.solver.vars(), &assign)?)),
             Solved::Unsat(step) => {

@@ -29,6 +29,17 @@ fn takes_out(side: Side, found: &[u32], set: &GroupSet) -> bool {
     true
 }
 
+// The groups of three that are left out, as bits.
+fn left_out(set: &GroupSet) -> u32 {
+    let mut bits = 0;
+    for (group, bit) in [(1, 1), (2, 2), (3, 4)] {
+        if !set.contains(group) {
+            bits |= bit;
+        }
+    }
+    bits
+}
+
 #[test]
 fn each_seed_is_new_until_none_is_left(rt: HostRuntime) -> Result<(), Fail> {
     let alloc = rt.alloc();
@@ -60,6 +71,26 @@ fn each_seed_is_new_until_none_is_left(rt: HostRuntime) -> Result<(), Fail> {
     let proof = map.empty_proof(alloc)?;
     assert_eq!(rt; proof.goal().checked_sub(5), Some(proof.len() as u64));
     assert_eq!(rt; map.into_log().inputs(), 5);
+    Ok(())
+}
+
+#[test]
+fn seeds_that_no_block_takes_out_differ(rt: HostRuntime) -> Result<(), Fail> {
+    let alloc = rt.alloc();
+    let mut map = PowerMap::new(alloc, 3)?;
+    map.block(alloc, &set_of(alloc, 3, &[1, 2, 3])?, Side::Up)?;
+    let mut purse = Purse { left: 10 };
+    let mut sum = 0;
+    for count in 0..3 {
+        let Seed::Set(set) = map.seed(alloc, 0, &mut purse)? else {
+            assert!(rt; false, "seed {count}");
+            return Ok(());
+        };
+        assert_eq!(rt; set.len(), 2, "seed {count}");
+        sum |= left_out(&set);
+    }
+    // Each of the three groups was left out once.
+    assert_eq!(rt; sum, 7);
     Ok(())
 }
 

@@ -1,6 +1,8 @@
-use Rattle.std.proofs.Common.{[], ◌∙◌, refl}
+use Rattle.std.proofs.Common.{[], ◌∙◌, refl, sym, ap, subst}
+use Rattle.cdcl_core.specs.Solver.{Solver}
 use Rattle.cdcl_core.specs.Answers.{IsModel, IsGreatestModel, IsRefuted}
 use Rattle.lrat_steps.specs.Log.{inputs_of}
+use Rattle.power_map.specs.Inside.{IsKept}
 use Rattle.power_map.proofs.MapLemmas.{has_models, kept_after, seed_found, none_left}
 use Rattle.power_map.proofs.map.PowerMapMapEngine.seed.Goals as goal
 
@@ -9,9 +11,9 @@ invariant_of-self c =
     let a = c.self.inside in
     record {
       kept =
-          kept_after a.solver c.solve.new.self c.args.purse.now.left c.solve.new.purse.left a.sides.items a.empty
-          c.self.invariant.kept c.in_err-assign.ensures.paid c.in_err-assign.ensures.vars;
-      true_first = c.in_err-assign.ensures.true_first ∙ c.self.invariant.true_first;
+          kept_after c.leave.new.self c.solve.new.self c.args.purse.now.left c.solve.new.purse.left a.sides.items a.empty
+          (subst (λ (v : Solver). IsKept v.vars v.log a.sides.items a.empty) (sym c.leave.ensures) c.self.invariant.kept) c.in_err-assign.ensures.paid c.in_err-assign.ensures.vars;
+      true_first = c.in_err-assign.ensures.true_first ∙ (ap (λ (v : Solver). v.true_first) c.leave.ensures ∙ c.self.invariant.true_first);
     }
 
 pub returns-in_err-assign-clause-models : goal.returns-in_err-assign-clause-models
@@ -19,17 +21,17 @@ returns-in_err-assign-clause-models c =
     let a = c.self.inside in
     let s = c.solve.new.self in
     has_models s.vars s.log a.sides.items a.empty
-    (kept_after a.solver s c.args.purse.now.left c.solve.new.purse.left a.sides.items a.empty
-    c.self.invariant.kept c.in_err-assign.ensures.paid c.in_err-assign.ensures.vars)
+    (kept_after c.leave.new.self s c.args.purse.now.left c.solve.new.purse.left a.sides.items a.empty
+    (subst (λ (v : Solver). IsKept v.vars v.log a.sides.items a.empty) (sym c.leave.ensures) c.self.invariant.kept) c.in_err-assign.ensures.paid c.in_err-assign.ensures.vars)
 
 pub invariant_of-self-in_err-set_of-in-Sat : goal.invariant_of-self-in_err-set_of-in-Sat
 invariant_of-self-in_err-set_of-in-Sat c =
     let a = c.self.inside in
     record {
       kept =
-          kept_after a.solver c.solve.new.self c.args.purse.now.left c.solve.new.purse.left a.sides.items a.empty
-          c.self.invariant.kept c.in_ok-assign.ensures.paid c.in_ok-assign.ensures.vars;
-      true_first = c.in_ok-assign.ensures.true_first ∙ c.self.invariant.true_first;
+          kept_after c.leave.new.self c.solve.new.self c.args.purse.now.left c.solve.new.purse.left a.sides.items a.empty
+          (subst (λ (v : Solver). IsKept v.vars v.log a.sides.items a.empty) (sym c.leave.ensures) c.self.invariant.kept) c.in_ok-assign.ensures.paid c.in_ok-assign.ensures.vars;
+      true_first = c.in_ok-assign.ensures.true_first ∙ (ap (λ (v : Solver). v.true_first) c.leave.ensures ∙ c.self.invariant.true_first);
     }
 
 pub returns-in_err-set_of-in-Sat-clause-models : goal.returns-in_err-set_of-in-Sat-clause-models
@@ -42,9 +44,9 @@ invariant_of-self-in-Sat c =
     let a = c.self.inside in
     record {
       kept =
-          kept_after a.solver c.solve.new.self c.args.purse.now.left c.solve.new.purse.left a.sides.items a.empty
-          c.self.invariant.kept c.in_ok-assign.ensures.paid c.in_ok-assign.ensures.vars;
-      true_first = c.in_ok-assign.ensures.true_first ∙ c.self.invariant.true_first;
+          kept_after c.leave.new.self c.solve.new.self c.args.purse.now.left c.solve.new.purse.left a.sides.items a.empty
+          (subst (λ (v : Solver). IsKept v.vars v.log a.sides.items a.empty) (sym c.leave.ensures) c.self.invariant.kept) c.in_ok-assign.ensures.paid c.in_ok-assign.ensures.vars;
+      true_first = c.in_ok-assign.ensures.true_first ∙ (ap (λ (v : Solver). v.true_first) c.leave.ensures ∙ c.self.invariant.true_first);
     }
 
 pub invariant_of-self-in-Dry : goal.invariant_of-self-in-Dry
@@ -52,9 +54,9 @@ invariant_of-self-in-Dry c =
     let a = c.self.inside in
     record {
       kept =
-          kept_after a.solver c.solve.new.self c.args.purse.now.left c.solve.new.purse.left a.sides.items a.empty
-          c.self.invariant.kept c.in_ok-assign.ensures.paid c.in_ok-assign.ensures.vars;
-      true_first = c.in_ok-assign.ensures.true_first ∙ c.self.invariant.true_first;
+          kept_after c.leave.new.self c.solve.new.self c.args.purse.now.left c.solve.new.purse.left a.sides.items a.empty
+          (subst (λ (v : Solver). IsKept v.vars v.log a.sides.items a.empty) (sym c.leave.ensures) c.self.invariant.kept) c.in_ok-assign.ensures.paid c.in_ok-assign.ensures.vars;
+      true_first = c.in_ok-assign.ensures.true_first ∙ (ap (λ (v : Solver). v.true_first) c.leave.ensures ∙ c.self.invariant.true_first);
     }
 
 -- the model breaks no block
@@ -63,7 +65,7 @@ returns-in_ok-set_of-in-Sat-clause-answer c =
     let s = c.solve.new.self in
     let m : IsModel s.vars (inputs_of s.log) [] c.in-Sat.assign = rw c.in-Sat.is at c.in_ok-assign.ensures.answer in
     let most : IsGreatestModel s.vars (inputs_of s.log) c.in-Sat.assign =
-    rw c.in-Sat.is at c.in_ok-assign.ensures.greatest c.self.invariant.true_first refl in
+    rw c.in-Sat.is at c.in_ok-assign.ensures.greatest (ap (λ (v : Solver). v.true_first) c.leave.ensures ∙ c.self.invariant.true_first) refl in
     seed_found s.vars s.log c.self.inside.sides.items c.self.inside.empty [] c.in-Sat.assign
     c.in_ok-set_of-in-Sat.field-0 (invariant_of-self-in-Sat c).kept m most c.in_ok-set_of-in-Sat.ensures
 
@@ -79,16 +81,16 @@ returns-in-Unsat-clause-answer c =
     let s = c.solve.new.self in
     let r : IsRefuted s.log [] c.in-Unsat.step = rw c.in-Unsat.is at c.in_ok-assign.ensures.answer in
     none_left s.vars s.log a.sides.items a.empty c.in-Unsat.step
-    (kept_after a.solver s c.args.purse.now.left c.solve.new.purse.left a.sides.items a.empty
-    c.self.invariant.kept c.in_ok-assign.ensures.paid c.in_ok-assign.ensures.vars) r
+    (kept_after c.leave.new.self s c.args.purse.now.left c.solve.new.purse.left a.sides.items a.empty
+    (subst (λ (v : Solver). IsKept v.vars v.log a.sides.items a.empty) (sym c.leave.ensures) c.self.invariant.kept) c.in_ok-assign.ensures.paid c.in_ok-assign.ensures.vars) r
 
 pub returns-in-Unsat-clause-models : goal.returns-in-Unsat-clause-models
 returns-in-Unsat-clause-models c =
     let a = c.self.inside in
     let s = c.solve.new.self in
     has_models s.vars s.log a.sides.items a.empty
-    (kept_after a.solver s c.args.purse.now.left c.solve.new.purse.left a.sides.items a.empty
-    c.self.invariant.kept c.in_ok-assign.ensures.paid c.in_ok-assign.ensures.vars)
+    (kept_after c.leave.new.self s c.args.purse.now.left c.solve.new.purse.left a.sides.items a.empty
+    (subst (λ (v : Solver). IsKept v.vars v.log a.sides.items a.empty) (sym c.leave.ensures) c.self.invariant.kept) c.in_ok-assign.ensures.paid c.in_ok-assign.ensures.vars)
 
 pub returns-in-Dry-clause-models : goal.returns-in-Dry-clause-models
 returns-in-Dry-clause-models c =
