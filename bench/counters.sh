@@ -6,13 +6,13 @@
 #
 # The program prints its counts on standard error when it ends. The counters change bodies and no contract, so all is
 # proved as before, but for the calls of C that count: the changed functions anew, and else what is kept of earlier checks.
-# counters/ has the patches: for propagation, for the searches, and for the oracle that remembers.
+# counters/ has the patches: for propagation, for the searches, for the oracle that remembers, and for several workers.
 set -eu
 here=$(CDPATH= cd -- "$(dirname -- "$0")" && pwd)
 folder=${1:-$(mktemp -d "${TMPDIR:-/tmp}/gmus-counters-XXXXXX")}
 git clone -q "$(dirname -- "$here")" "$folder"
 cd "$folder"
-git apply "$here/counters/propagation.patch" "$here/counters/search.patch" "$here/counters/known.patch"
+git apply "$here/counters/propagation.patch" "$here/counters/search.patch" "$here/counters/known.patch" "$here/counters/workers.patch"
 mkdir -p crates/bench_count/src crates/bench_count/c
 cp "$here/counters/count.rt.txt" crates/bench_count/src/lib.rt
 cp "$here/counters/count.c" crates/bench_count/c/
