@@ -11,6 +11,10 @@ use Rattle.gcnf_text.specs.Table.{first_offence}
 abbrev pub FaultlessIsRead : Type 0
 FaultlessIsRead = (text : List ℕ) → first_offence text ≡ None → (p : Problem) × Reads text p
 
+-- a text of a problem has no offence
+abbrev pub ReadIsFaultless : Type 0
+ReadIsFaultless = (text : List ℕ) (p : Problem) → Reads text p → first_offence text ≡ None
+
 -- a text is one of at most one problem
 abbrev pub ReadsOne : Type 0
 ReadsOne = (text : List ℕ) (p q : Problem) → Reads text p → Reads text q → q ≡ p

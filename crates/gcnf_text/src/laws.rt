@@ -1,10 +1,15 @@
 //! Laws over the definitions alone. Each is the contract of a function that has no code.
-ghost use Rattle.gcnf_text.specs.Laws.{FaultlessIsRead, ReadsOne, FirstOffenceStops};
+ghost use Rattle.gcnf_text.specs.Laws.{FaultlessIsRead, ReadIsFaultless, ReadsOne, FirstOffenceStops};
 ghost use Rattle.gcnf_text.specs.Plain.{PlainIsRead};
 
 /// A text without an offence is one of a problem.
 pub fn faultless_is_read()
     ensures { FaultlessIsRead }
+{}
+
+/// A text of a problem has no offence.
+pub fn read_is_faultless()
+    ensures { ReadIsFaultless }
 {}
 
 /// A text is one of at most one problem: its bytes say all of it.
