@@ -22,8 +22,7 @@ def read(path):
     return variables, groups, found
 
 
-def main(path):
-    variables, groups, clauses = read(path)
+def report(variables, groups, clauses):
     # for each assignment, the groups it satisfies, where it satisfies the background
     satisfied = set()
     for values in product([False, True], repeat=variables):
@@ -45,11 +44,15 @@ def main(path):
             conflicts.append(sorted(chosen))
         if sat(everything - chosen) and all(not sat(everything - chosen | {g}) for g in chosen):
             corrections.append(sorted(chosen))
-    print(f"p gmus {groups}\ns COMPLETE")
+    return text_of(groups, conflicts, corrections)
+
+
+def text_of(groups, conflicts, corrections):
+    lines = [f"p gmus {groups}", "s COMPLETE"]
     for letter, sets in (("u", conflicts), ("m", corrections)):
-        for chosen in sorted(sets):
-            print(" ".join([letter] + [str(g) for g in chosen] + ["0"]))
-    print(f"e {len(conflicts)} {len(corrections)}")
+        lines += [" ".join([letter] + [str(g) for g in chosen] + ["0"]) for chosen in sorted(sets)]
+    return "\n".join(lines + [f"e {len(conflicts)} {len(corrections)}", ""])
 
 
-main(sys.argv[1])
+if __name__ == "__main__":
+    sys.stdout.write(report(*read(sys.argv[1])))

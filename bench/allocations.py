@@ -1,0 +1,116 @@
+#!/usr/bin/env python3
+"""Refuses each allocation of the program in turn.
+
+    bench/allocations.py --gmus PROGRAM [--dense 1000] [--step 100] [--try NUMBERS]
+
+The commands are a listing by one worker, one by two workers with evidence, a checking, and a made case where the program
+has that command. Of each, every allocation up to --dense is refused, and then each --step-th to the last one. A run has to
+end with 8 and its line and no report, or with 0 and the full output, or with 6 or 7 and their line where a call of the real
+files or streams found no memory. Where evidence was asked for, what stands under its name with 0 is accepted evidence.
+
+The allocations are refused by a small library (allocations/refuse.c) that is loaded before the program. With --try N,M,..
+those of the first command are refused by the toolchain's own option too (`rt try --fail-alloc`), which builds the program
+once for each number, about a minute each. Needs Python 3.9, Linux and a C compiler. Ends with 1 where a run ends otherwise.
+"""
+import argparse
+import collections
+import os
+import subprocess
+import sys
+import tempfile
+
+HERE = os.path.dirname(os.path.abspath(__file__))
+TOP = os.path.dirname(HERE)
+
+FIRST = os.path.join(TOP, "examples", "first.gcnf")
+LINES = {8: "gmus: out of memory\n", 6: ("gmus: read fault on input\n", "gmus: read fault on evidence\n"),
+         7: ("gmus: write fault on report\n", "gmus: write fault on evidence\n")}
+
+
+def run(gmus, words, folder, library, at):
+    """Status, output, error, and how many allocations there were."""
+    counted = os.path.join(folder, "count")
+    with open(counted, "wb") as count:
+        count.write(bytes(8))
+    done = subprocess.run([gmus, *words], cwd=folder, stdout=subprocess.PIPE, stderr=subprocess.PIPE, timeout=120,
+                          env={**os.environ, "LD_PRELOAD": library, "REFUSE_AT": str(at), "REFUSE_COUNT": counted})
+    with open(counted, "rb") as count:
+        return done.returncode, done.stdout.decode(), done.stderr.decode(), int.from_bytes(count.read(), sys.byteorder)
+
+
+def fault(words, found, full, folder, gmus):
+    """What is wrong with an ending, if anything is."""
+    status, out, err, _ = found
+    if status == 0:
+        if (out, err) != (full, ""):
+            return "an output that is not the full one"
+        if "--evidence" in words:
+            checked = subprocess.run([gmus, "check", words[1], "b"], cwd=folder, stdout=subprocess.PIPE)
+            return None if (checked.returncode, checked.stdout.decode()) == (0, full) else "evidence that is refused"
+        return None
+    if status == 8:
+        return None if (out, err) in (("", LINES[8]), ("", "")) else "8 with an output"
+    if status in (6, 7):
+        return None if err in LINES[status] and (status == 7 or not out) and full.startswith(out) else "a fault that is told wrongly"
+    return "another status"
+
+
+def numbers(last, dense, step):
+    return list(range(1, min(last, dense) + 1)) + list(range(dense + step, last + 1, step))
+
+
+def try_command(gmus, words, folder, library, given):
+    status, full, err, last = run(gmus, words, folder, library, 0)
+    if (status, err) != (0, ""):
+        sys.exit(f"{' '.join(words)}: status {status} with no allocation refused: {err}")
+    counts, wrong = collections.Counter(), 0
+    for at in numbers(last, given.dense, given.step):
+        found = run(gmus, words, folder, library, at)
+        counts[found[0]] += 1
+        what = fault(words, found, full, folder, gmus)
+        if what:
+            wrong += 1
+            print(f"{' '.join(words)}: allocation {at} refused: {what}: {found[:3]}")
+    statuses = ", ".join(f"{count} with {status}" for status, count in sorted(counts.items()))
+    print(f"{' '.join(words)}: {last} allocations, {sum(counts.values())} refused in turn: {statuses}; {wrong} wrong", flush=True)
+    return wrong
+
+
+def try_by_toolchain(numbers_text):
+    """The same of the first command by the toolchain's option: 8, or 0 with the full output."""
+    wrong = 0
+    for at in filter(None, numbers_text.split(",")):
+        done = subprocess.run(["rt", "try", "--fail-alloc", at, "--data", f"f={FIRST}", "--", "list", "f", "--jobs", "1"],
+                              cwd=os.path.join(TOP, "crates", "gmus"), stdout=subprocess.PIPE, stderr=subprocess.PIPE)
+        last = done.stderr.decode().strip().split("\n")[-1]
+        print(f"rt try --fail-alloc {at}: status {done.returncode}, {last}", flush=True)
+        wrong += done.returncode not in (0, 8)
+    return wrong
+
+
+def main():
+    words = argparse.ArgumentParser(description=__doc__, formatter_class=argparse.RawDescriptionHelpFormatter)
+    words.add_argument("--gmus", required=True)
+    words.add_argument("--dense", type=int, default=1000)
+    words.add_argument("--step", type=int, default=100)
+    words.add_argument("--try", dest="tried", default="", help="numbers for the toolchain's own option")
+    given = words.parse_args()
+    gmus, wrong = os.path.abspath(given.gmus), 0
+    with tempfile.TemporaryDirectory() as folder:
+        library = os.path.join(folder, "refuse.so")
+        subprocess.run(["cc", "-O2", "-shared", "-fPIC", "-o", library, os.path.join(HERE, "allocations", "refuse.c")], check=True)
+        with open(FIRST, "rb") as first, open(os.path.join(folder, "f"), "wb") as out:
+            out.write(first.read())
+        subprocess.run([gmus, "list", "f", "--evidence", "a"], cwd=folder, stdout=subprocess.DEVNULL, check=True)
+        commands = ["list f --jobs 1", "list f --jobs 2 --evidence b", "check f a", "drill 900 1"]
+        if subprocess.run([gmus, "drill", "900", "1"], stdout=subprocess.DEVNULL, stderr=subprocess.DEVNULL).returncode == 2:
+            print("drill 900 1: this program has no such command")
+            commands.pop()
+        for line in commands:
+            wrong += try_command(gmus, line.split(), folder, library, given)
+    wrong += try_by_toolchain(given.tried)
+    sys.exit(1 if wrong else 0)
+
+
+if __name__ == "__main__":
+    main()

@@ -1,0 +1,310 @@
+#!/usr/bin/env python3
+"""Compares the program with plain ones on files, evidence and command lines that were made and changed by chance.
+
+    bench/fuzz.py --gmus PROGRAM [--cases 20000] [--seed 1] [--only NUMBER]
+
+Of four cases two are files, one is evidence and one is a line of words. A file is told by the table of plain_reader.py, and
+an accepted one is listed by brute_force.py. Evidence is checked by tools/check_evidence.py. Of words, plain_reader.py says
+what they ask for, about small files whose reports are known. Status, standard output, standard error and what stands under
+the evidence's name have to be those. A case is made from the seed and its number alone, so --only makes one again. Ends
+with 1 where there is a difference, and says how to make it again. Needs Python 3.9.
+"""
+import argparse
+import collections
+import os
+import random
+import subprocess
+import sys
+import tempfile
+
+HERE = os.path.dirname(os.path.abspath(__file__))
+sys.path[:0] = [HERE, os.path.join(os.path.dirname(HERE), "tools")]
+
+import brute_force  # noqa: E402
+import check_evidence  # noqa: E402
+import make_case  # noqa: E402
+import mutate_evidence  # noqa: E402
+import plain_reader  # noqa: E402
+
+
+class Difference(Exception):
+    """What was wanted, and what came."""
+
+
+def run(gmus, words):
+    done = subprocess.run([gmus, *words], stdout=subprocess.PIPE, stderr=subprocess.PIPE, timeout=60)
+    return done.returncode, done.stdout, done.stderr.decode()
+
+
+def compare(wanted, found, what):
+    if wanted != found:
+        raise Difference(f"{what}\nwanted {wanted}\ncame   {found}")
+
+
+def write(name, text):
+    with open(name, "wb") as out:
+        out.write(text)
+
+
+# ---- files
+
+TOKENS = [b"p", b"gcnf", b"cnf", b"{", b"}", b"{1}", b"{0}", b"0", b"-0", b"+1", b"1", b"-1", b"2", b"-2", b"007", b"3", b"c", b"x", b"-",
+          b"--1", b"1x", b"65536", b"65537", b"1000000", b"1000001", b"16384", b"16385", b"8000000", b"99999999999999999999",
+          b"-99999999999999999999", b"9223372036854775807", b"\xc3\xa4", b"\0"]
+SPACES = [b" ", b"\n", b"\t", b"\r\n", b"  ", b"\nc x\n", b"\n \tc {9} 9 0\n", b"\rc", b""]
+
+
+def change_token(chance, text):
+    tokens = plain_reader.tokens_of(text)[0]
+    lines = text.split(b"\n")
+    if not tokens:
+        return chance.choice(TOKENS) + text
+    token, line, byte = chance.choice(tokens)
+    kept = lines[line - 1]
+    middle = chance.choice([chance.choice(TOKENS), chance.choice(tokens)[0], b"", token + chance.choice(SPACES), chance.choice(SPACES) + token])
+    lines[line - 1] = kept[:byte - 1] + middle + kept[byte - 1 + len(token):]
+    return b"\n".join(lines)
+
+
+def change_file(chance, text):
+    for _ in range(chance.choice([0, 1, 1, 1, 2, 4])):
+        how = chance.choice([change_token, change_token, mutate_evidence.change_byte, mutate_evidence.change_line])
+        text = how(chance, text)
+    return text
+
+
+def wanted_listing(text):
+    """Status, output and error line of a listing of this text."""
+    offence = plain_reader.first_offence(text)
+    if offence:
+        return 5, b"", offence
+    variables, groups, clauses = plain_reader.problem_of(text)
+    numbers = {at: new for new, at in enumerate(sorted({abs(lit) for _, lits in clauses for lit in lits}), 1)}
+    clauses = [(group, [numbers[abs(lit)] * (1 if lit > 0 else -1) for lit in lits]) for group, lits in clauses]
+    used = sorted({group for group, _ in clauses} - {0})
+    places = {0: 0, **{group: at for at, group in enumerate(used, 1)}}
+    small = brute_force.report(len(numbers), len(used), [(places[group], lits) for group, lits in clauses])
+    # groups without clauses are in no set
+    lines = small.split("\n")
+    lines[0] = f"p gmus {groups}"
+    for at, line in enumerate(lines):
+        if line[:2] in ("u ", "m "):
+            lines[at] = " ".join([line[0]] + [str(used[int(word) - 1]) if word != "0" else word for word in line.split()[1:]])
+    return 0, "\n".join(lines).encode(), ""
+
+
+def try_file(chance, gmus, folder):
+    text = change_file(chance, mutate_evidence.random_problem(chance).encode())
+    name = os.path.join(folder, "file")
+    write(name, text)
+    wanted = wanted_listing(text)
+    compare(wanted, run(gmus, ["list", name, "--jobs", str(chance.choice([1, 1, 1, 2, 5]))]), repr(text))
+    return f"file, status {wanted[0]}" + (wanted[2].split(":")[-1].split(" at ")[0] if wanted[2] else "")
+
+
+# ---- evidence
+
+def try_evidence(chance, gmus, folder):
+    text = mutate_evidence.random_problem(chance)
+    problem = check_evidence.Problem(text)
+    whole = mutate_evidence.evidence(problem)
+    evidence = whole if chance.random() < 0.1 else mutate_evidence.changed(chance, whole)
+    file, name = os.path.join(folder, "file"), os.path.join(folder, "evidence")
+    write(file, text.encode())
+    write(name, evidence)
+    kind, told = mutate_evidence.plain(problem, evidence)
+    wanted = (0, told, "") if kind == "yes" else (9, b"", f"gmus: evidence refused: {told.decode()}\n")
+    compare(wanted, run(gmus, ["check", file, name]), repr((text, evidence)))
+    return f"evidence, status {wanted[0]}" + (" " + told.decode().split(": ")[1] if kind == "no" else "")
+
+
+# ---- words
+
+ONE = b"p gcnf 0 1 1\n{1} 0\n"  # an empty clause: it clashes by itself
+BOTH = b"p gmev 1 0 1 1\nu 1 0\nr 0 1\nw 1 0\nm 1 0\nw 0 0\nr 1 1\nd 3 0 1 2 0\nx 3\ne complete\n"
+HALF = b"p gmev 1 0 1 1\nm 1 0\nw 0 0\nr 1 1\ne partial\n"
+TEXTS = {"f": ONE, "-": ONE, "-x": ONE, "--limit": ONE, "help": ONE, "list": ONE, "=": ONE, "g": b"p gcnf 0 0 0\n",
+         "bad": b"p cnf 1 1\n", "e": BOTH, "half": HALF, "wrong": BOTH.replace(b"x 3", b"x 1")}
+FILES = ["f", "f", "f", "f", "-", "-x", "--limit", "help", "list", "=", "g", "bad", "missing", ""]
+EVIDENCE = ["e", "e", "half", "wrong", "f", "missing", "", "-"]
+OUTPUTS = ["out", "out", "-", "f", "", "no/out", "-o", "--jobs"]
+NUMBERS = ["0", "1", "2", "3", "5", "64", "65", "+2", "007", "-1", "", "x", "1x", " 1", "1000000000", "1000000001", "18446744073709551615",
+           "18446744073709551616", "+", "\u0661"]
+OTHERS = ["--", "-", "-h", "--help", "--version", "help", "-j", "--job", "--jobs", "--limit=2", "frob", "", "list", "f", "--=1"]
+
+
+def option(chance, name):
+    pool = {"evidence": OUTPUTS, "resume": EVIDENCE}.get(name, NUMBERS)
+    if name in ("jobs", "limit", "conflicts") and chance.random() < 0.6:
+        pool = ["1", "2", "3"]
+    value = chance.choice(pool)
+    return [f"--{name}={value}"] if chance.random() < 0.5 else [f"--{name}", value]
+
+
+def draw_words(chance, commands):
+    command = chance.choice(sorted(commands))
+    if command == "drill":
+        words = [chance.choice(NUMBERS[:6] + NUMBERS), chance.choice(["1", "2", "3", "0", "x", "+2", "1001"])]
+    else:
+        words = [chance.choice(FILES)] + ([chance.choice(EVIDENCE)] if command == "check" else [])
+    for name in commands[command]:
+        if chance.random() < 0.4:
+            parts = option(chance, name)
+            at = chance.randrange(len(words) + 1)
+            words[at:at] = parts
+    words = [command] + words
+    if chance.random() < 0.3:
+        at = chance.randrange(len(words) + 1)
+        words[at:at + chance.choice([0, 0, 1])] = [chance.choice(OTHERS)]
+    return words
+
+
+def opening(given, text):
+    """The sets that the resumed records hold, or the answer that ends the run."""
+    if "resume" not in given:
+        return [], None
+    if given["resume"] not in TEXTS:
+        return None, (6, b"", "gmus: read fault on evidence\n")
+    try:
+        sets = check_evidence.check(check_evidence.Problem(text.decode()), TEXTS[given["resume"]])[1]
+        return sets["u"] + sets["m"], None
+    except check_evidence.Refused as refused:
+        return None, (9, b"", f"gmus: evidence refused: {refused}\n")
+
+
+def report_of(text, status):
+    groups = plain_reader.problem_of(text)[1]
+    sets = brute_force.report(*plain_reader.problem_of(text)).split("\n", 2)[2]
+    return f"p gmus {groups}\ns {'COMPLETE' if status == 0 else 'PARTIAL'}\n{sets}".encode()
+
+
+def wanted_of_list(given):
+    """The answers that a listing may give; which set of two is found first is free."""
+    name = given["file"]
+    if name not in TEXTS:
+        return [(6, b"", "gmus: read fault on input\n")]
+    text = TEXTS[name]
+    offence = plain_reader.first_offence(text)
+    if offence:
+        return [(5, b"", offence)]
+    held, ends = opening(given, text)
+    if ends:
+        return [ends]
+    if given.get("evidence") in ("", "no/out"):
+        return [(7, b"", "gmus: write fault on evidence\n")]
+    limit, sets = given.get("limit", 1000000000), report_of(text, 0).count(b"\n") - 3
+    if limit > sets:
+        return [(0, report_of(text, 0), "")]
+    line = f"gmus: limit of {limit} records reached\n"
+    if max(limit, len(held)) >= sets:
+        return [(4, report_of(text, 4), line)]
+    lists = [b"p gmus 1\ns PARTIAL\nu 1 0\ne 1 0\n", b"p gmus 1\ns PARTIAL\nm 1 0\ne 0 1\n"]
+    return [(4, report, line) for report in (lists[1:] if held else lists)]
+
+
+def wanted_of_check(given):
+    if given["file"] not in TEXTS:
+        return [(6, b"", "gmus: read fault on input\n")]
+    text = TEXTS[given["file"]]
+    offence = plain_reader.first_offence(text)
+    if offence:
+        return [(5, b"", offence)]
+    if given["evidence"] not in TEXTS:
+        return [(6, b"", "gmus: read fault on evidence\n")]
+    problem = check_evidence.Problem(text.decode())
+    kind, told = mutate_evidence.plain(problem, TEXTS[given["evidence"]])
+    return [(0, told, "")] if kind == "yes" else [(9, b"", f"gmus: evidence refused: {told.decode()}\n")]
+
+
+def wanted_of_drill(given):
+    links = make_case.widths(given["seed"], given["size"])
+    wide = links.count(2)
+    return [(0, f"drill {len(links) + wide} {2 ** wide} {len(links)}\n".encode(), "")]
+
+
+def try_words(chance, gmus, folder, commands):
+    words = draw_words(chance, commands)
+    asked = plain_reader.words_read(words, commands)
+    here = os.getcwd()
+    for name, text in TEXTS.items():
+        write(os.path.join(folder, name), text)
+    for name in ("out", "-o", "--jobs"):
+        if os.path.exists(os.path.join(folder, name)):
+            os.remove(os.path.join(folder, name))
+    os.chdir(folder)
+    try:
+        found = run(gmus, words)
+        compare(True, found in wanted_of(asked), f"{words} {asked} {found}")
+        compare_names(asked, found, words)
+    finally:
+        os.chdir(here)
+    return f"words, status {found[0]}"
+
+
+def wanted_of(asked):
+    if asked is None:
+        return [(2, b"", "gmus: bad command line\n")]
+    command, given = asked
+    return {"list": wanted_of_list, "check": wanted_of_check, "drill": wanted_of_drill}[command](given)
+
+
+def compare_names(asked, found, words):
+    """No name changes but the one that the evidence was asked under, and that holds evidence of the report."""
+    output = asked[1].get("evidence") if asked and asked[0] == "list" else None
+    for name, text in TEXTS.items():
+        if name != output:
+            with open(name, "rb") as held:
+                compare(text, held.read(), f"{words} {name}")
+    if output is not None and found[0] in (0, 4):
+        with open(output, "rb") as held:
+            problem = check_evidence.Problem(TEXTS[asked[1]["file"]].decode())
+            compare(("yes", found[1]), mutate_evidence.plain(problem, held.read()), f"{words}")
+    elif output not in TEXTS and output:
+        compare(False, os.path.exists(output), f"{words}")
+
+
+def commands_of(gmus, folder):
+    """The commands that this program has, each with its options."""
+    commands = {"list": ["jobs", "conflicts", "limit", "evidence"], "check": []}
+    if run(gmus, ["drill", "0", "1"])[0] == 0:
+        commands["drill"] = ["jobs"]
+    write(os.path.join(folder, "f"), ONE)
+    if run(gmus, ["list", os.path.join(folder, "f"), "--resume", os.path.join(folder, "none")])[0] == 6:
+        commands["list"].append("resume")
+    return commands
+
+
+# ---- all cases
+
+def try_case(number, seed, gmus, folder, commands):
+    chance = random.Random(f"{seed}/{number}")
+    kind = number % 4
+    if kind == 3:
+        return try_words(chance, gmus, folder, commands)
+    return (try_evidence if kind == 2 else try_file)(chance, gmus, folder)
+
+
+def main():
+    words = argparse.ArgumentParser(description=__doc__, formatter_class=argparse.RawDescriptionHelpFormatter)
+    words.add_argument("--gmus", required=True)
+    words.add_argument("--cases", type=int, default=20000)
+    words.add_argument("--seed", type=int, default=1)
+    words.add_argument("--only", type=int, help="the number of the one case that is tried")
+    given = words.parse_args()
+    gmus, counts, differences = os.path.abspath(given.gmus), collections.Counter(), 0
+    with tempfile.TemporaryDirectory() as folder:
+        commands = commands_of(gmus, folder)
+        for number in range(given.cases) if given.only is None else [given.only]:
+            try:
+                counts[try_case(number, given.seed, gmus, folder, commands)] += 1
+            except Difference as difference:
+                differences += 1
+                print(f"case {number}: {difference}\nagain: bench/fuzz.py --gmus {given.gmus} --seed {given.seed} --only {number}")
+    for what, count in sorted(counts.items()):
+        print(f"{count:7} {what}")
+    print(f"{sum(counts.values())} cases without a difference, {differences} with one; seed {given.seed}; commands {' '.join(sorted(commands))}")
+    sys.exit(1 if differences else 0)
+
+
+if __name__ == "__main__":
+    main()

@@ -1,0 +1,168 @@
+"""The reader of GCNF and the reader of the words, as tables: slow, plain, and independent of gmus.
+
+`first_offence(text)` is None where the text is accepted, and else the line that a refused file is told. `problem_of(text)`
+is the problem of an accepted one. `words_read(words, commands)` is what the words of a command line ask for, or None.
+Both are from docs/FORMATS.md and the README alone.
+"""
+import re
+
+MAX = {"vars": 65536, "clauses": 1000000, "groups": 16384, "literals": 8000000, "bytes": 134217728}
+NAMES = {1: "NoHeader", 2: "BadHeader", 3: "BadToken", 4: "VarTooBig", 5: "GroupTooBig", 6: "NoGroup", 7: "Truncated",
+         8: "TooManyClauses", 9: "TooLarge"}
+
+
+# ---- tokens
+
+def tokens_of(text):
+    """Each token with its line and byte, and the place of the end."""
+    found, lines = [], text.split(b"\n")
+    for number, line in enumerate(lines, 1):
+        if line.lstrip(b" \t")[:1] == b"c":
+            continue
+        for match in re.finditer(rb"[{}]|[^ \t\r{}]+", line):
+            found.append((match.group(), number, match.start() + 1))
+    return found, (len(lines), len(lines[-1]) + 1)
+
+
+def number(token):
+    """The value of a number; None of a brace and of a word."""
+    if not re.fullmatch(rb"-?[0-9]+", token) or re.fullmatch(rb"-0+", token):
+        return None
+    return int(token) if len(token) < 100 else (-1 if token[:1] == b"-" else 1) * (10 ** 18 if token.strip(b"-0") else 0)
+
+
+# ---- the table: what follows a token, by what is due. A state is a list: its name, the header's numbers, the clauses that
+# were ended and the literals that were read. The answer is the next name, or a refusal's number with its limit.
+
+def after(state, token):
+    value = number(token)
+    name, header, ended, literals = state
+    if name == "start":
+        return "format" if token == b"p" else (1, None)
+    if name == "format":
+        return "vars" if token == b"gcnf" else (2, None)
+    if name in ("vars", "clauses", "groups"):
+        if value is None or value < 0:
+            return 2, None
+        if value > MAX[name]:
+            return 9, name
+        header.append(value)
+        return {"vars": "clauses", "clauses": "groups", "groups": "between"}[name]
+    if name == "between":
+        if token != b"{" and value is None:
+            return 3, None
+        if ended == header[1]:
+            return 8, None
+        return "group" if token == b"{" else (6, None)
+    if name == "group":
+        if value is None or value < 0:
+            return 3, None
+        return "close" if value <= header[2] else (5, None)
+    if name == "close":
+        return "literals" if token == b"}" else (3, None)
+    if value is None:
+        return 3, None
+    if value == 0:
+        state[2] += 1
+        return "between"
+    if abs(value) > header[0]:
+        return 4, None
+    if literals == MAX["literals"]:
+        return 9, "literals"
+    state[3] += 1
+    return "literals"
+
+
+def at_end(state):
+    if state[0] == "start":
+        return 1
+    if state[0] in ("format", "vars", "clauses", "groups"):
+        return 2
+    return None if state[0] == "between" and state[2] == state[1][1] else 7
+
+
+def told(offence, limit, line, byte):
+    return "gmus: input refused: %d %s%s at line %d byte %d\n" % (offence, NAMES[offence], " " + limit if limit else "", line, byte)
+
+
+def first_offence(text):
+    if len(text) > MAX["bytes"]:
+        return told(9, "bytes", 0, 0)
+    tokens, end = tokens_of(text)
+    state = ["start", [], 0, 0]
+    for token, line, byte in tokens:
+        follows = after(state, token)
+        if not isinstance(follows, str):
+            return told(*follows, line, byte)
+        state[0] = follows
+    offence = at_end(state)
+    return told(offence, None, *end) if offence else None
+
+
+def problem_of(text):
+    """Variables, groups, and each clause as its group and its literals, of an accepted text."""
+    tokens = [token for token, _, _ in tokens_of(text)[0]]
+    variables, count, groups = map(int, tokens[2:5])
+    clauses, at = [], 5
+    for _ in range(count):
+        group, lits, at = int(tokens[at + 1]), [], at + 3
+        while int(tokens[at]) != 0:
+            lits.append(int(tokens[at]))
+            at += 1
+        clauses.append((group, lits))
+        at += 1
+    return variables, groups, clauses
+
+
+# ---- the words: a command's places, and its options with the numbers that they take (None: any text)
+
+GREATEST = 2 ** 64 - 1
+COMMANDS = {
+    "list": (["file"], {"jobs": (1, 64), "conflicts": (0, GREATEST), "limit": (1, 1000000000), "evidence": None, "resume": None}),
+    "check": (["file", "evidence"], {}),
+    "drill": ([("seed", (0, GREATEST)), ("size", (1, 1000))], {"jobs": (1, 64)}),
+}
+
+
+def value_of(text, numbers):
+    """The number of a text as Rust reads a u64, where it is in range; the text itself where any is taken; else None."""
+    if numbers is None:
+        return text
+    if not re.fullmatch(r"\+?[0-9]+", text, re.ASCII) or not numbers[0] <= int(text) <= numbers[1]:
+        return None
+    return int(text)
+
+
+def words_read(words, commands):
+    """The command with its values by name, where these are the commands with their options; None where it is refused."""
+    if not words or words[0] not in commands:
+        return None
+    places, options = COMMANDS[words[0]]
+    names, given, rest, ended = commands[words[0]], {}, [], False
+    words = list(words)
+    command, at = words[0], 1
+    while at < len(words):
+        word, at = words[at], at + 1
+        if ended or word == "-" or not word.startswith("-"):
+            rest.append(word)
+        elif word == "--":
+            ended = True
+        else:
+            name, equals, text = word[2:].partition("=")
+            if not word.startswith("--") or name not in names or name in given:
+                return None
+            if not equals:
+                if at == len(words) or words[at] != "-" and words[at].startswith("-"):
+                    return None
+                text, at = words[at], at + 1
+            given[name] = value_of(text, options[name])
+            if given[name] is None:
+                return None
+    if len(rest) != len(places):
+        return None
+    for place, text in zip(places, rest):
+        name, numbers = place if isinstance(place, tuple) else (place, None)
+        given[name] = value_of(text, numbers)
+        if given[name] is None:
+            return None
+    return command, given

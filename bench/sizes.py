@@ -1,0 +1,169 @@
+#!/usr/bin/env python3
+"""Runs the program at the limits of its formats, and on outputs and inputs that are none, with the peak of its memory.
+
+    bench/sizes.py --gmus PROGRAM [--only WORD] [--evidence-limit]
+
+Each limit is reached exactly and passed by one; then a header that promises what does not come, a report of 16,384 groups, a
+reader that leaves, a folder, a file that may not be read, and a name that is not UTF-8. Each row has its status, the end of
+what is told, the seconds, and the peak of the resident memory; some 15 MB of that are this program's own. --evidence-limit adds texts of evidence of 2,147,483,648 bytes
+and one more, for which some gigabytes of memory and of the disk are needed. Ends with 1 where a row ends otherwise. Needs
+Python 3.9 and Linux; run as root, it drops to nobody for the file that may not be read.
+"""
+import argparse
+import os
+import subprocess
+import sys
+import tempfile
+import time
+
+UNKNOWN, REFUSED = object(), "gmus: input refused: "
+
+
+class Run:
+    """A run of the program: its status, output and error, its seconds, and its peak in megabytes."""
+
+    def __init__(self, command, stdout=None, preexec_fn=None):
+        begun = time.monotonic()
+        with tempfile.TemporaryFile() as out, tempfile.TemporaryFile() as err:
+            child = subprocess.Popen(command, stdout=stdout or out, stderr=err, preexec_fn=preexec_fn)
+            _, state, usage = os.wait4(child.pid, 0)
+            child.returncode = os.waitstatus_to_exitcode(state)
+            out.seek(0)
+            err.seek(0)
+            self.out, self.err = out.read(), err.read().decode("utf-8", "replace")
+        self.status, self.seconds, self.peak = child.returncode, time.monotonic() - begun, usage.ru_maxrss // 1024
+
+
+def put(folder, name, *parts):
+    """Each part is a text, or a text with how often it stands there. It is never whole in memory, which would count as a run's."""
+    path = os.path.join(folder, name)
+    with open(path, "wb") as out:
+        for part in parts:
+            text, times = part if isinstance(part, tuple) else (part, 1)
+            for _ in range(times):
+                out.write(text)
+    return path
+
+
+def padded(folder, name, length):
+    """A file of so many bytes: the rest of it is one comment."""
+    head = b"p gcnf 0 0 0\nc"
+    rest = length - len(head)
+    return put(folder, name, head, (b"x" * 1024, rest // 1024), b"x" * (rest % 1024))
+
+
+def clauses(folder, name, count):
+    return put(folder, name, b"p gcnf 1 %d 0\n" % count, (b"{0} 1 0\n", count))
+
+
+def literals(folder, name, count):
+    """So many literals in a thousand clauses, of which the last may be longer."""
+    each = count // 1000
+    return put(folder, name, b"p gcnf 65536 1000 0\n", (b"{0} " + b"1 " * each + b"0\n", 999),
+               b"{0} " + b"1 " * (count - 999 * each) + b"0\n")
+
+
+def alone(folder, name, groups):
+    """Each group clashes with the background alone, so it is a conflict, and all together are the one correction."""
+    return put(folder, name, b"p gcnf 1 %d %d\n{0} -1 0\n" % (groups + 1, groups), b"".join(b"{%d} 1 0\n" % g for g in range(1, groups + 1)))
+
+
+def alone_report(groups):
+    sets = "".join(f"u {g} 0\n" for g in range(1, groups + 1)) + "m " + "".join(f"{g} " for g in range(1, groups + 1)) + "0\n"
+    return f"p gmus {groups}\ns COMPLETE\n{sets}e {groups} 1\n".encode()
+
+
+def empty_report(groups):
+    return f"p gmus {groups}\ns COMPLETE\nm 0\ne 0 1\n".encode()
+
+
+def as_nobody():
+    if os.getuid() == 0:
+        os.setgid(65534)
+        os.setuid(65534)
+
+
+def limit_rows(folder):
+    """What is tried, the words behind `list`, the status, the output, and the error."""
+    yield "65,536 variables", put(folder, "v", b"p gcnf 65536 0 0"), 0, empty_report(0), ""
+    yield "65,537 variables", put(folder, "v", b"p gcnf 65537 0 0"), 5, b"", REFUSED + "9 TooLarge vars at line 1 byte 8\n"
+    yield "16,384 groups", put(folder, "g", b"p gcnf 65536 0 16384"), 0, empty_report(16384), ""
+    yield "16,385 groups", put(folder, "g", b"p gcnf 0 0 16385"), 5, b"", REFUSED + "9 TooLarge groups at line 1 byte 12\n"
+    yield "1,000,000 clauses", clauses(folder, "c", 1000000), 0, empty_report(0), ""
+    yield "1,000,001 clauses", clauses(folder, "c", 1000001), 5, b"", REFUSED + "9 TooLarge clauses at line 1 byte 10\n"
+    yield "8,000,000 literals", literals(folder, "l", 8000000), 0, empty_report(0), ""
+    yield "8,000,001 literals", literals(folder, "l", 8000001), 5, b"", REFUSED + "9 TooLarge literals at line 1001 byte 16005\n"
+    yield "134,217,728 bytes", padded(folder, "b", 134217728), 0, empty_report(0), ""
+    yield "134,217,729 bytes", padded(folder, "b", 134217729), 5, b"", REFUSED + "9 TooLarge bytes at line 0 byte 0\n"
+    yield "a million clauses promised", put(folder, "p", b"p gcnf 65536 1000000 16384"), 5, b"", REFUSED + "7 Truncated at line 1 byte 27\n"
+    yield "a report of 16,384 groups", alone(folder, "r", 16384), 0, alone_report(16384), ""
+    yield "no file", os.path.join(folder, "none"), 6, b"", "gmus: read fault on input\n"
+    yield "a folder", folder, 6, b"", "gmus: read fault on input\n"
+    yield "a name that is not UTF-8", os.fsencode(put(folder, "n", b"p gcnf 0 0 0")) + b"\xff", 2, b"", "gmus: bad command line\n"
+
+
+def evidence_rows(folder):
+    """Texts of evidence at the limit of bytes: zeros are no head, but the length is told first."""
+    for length, told in ((2 ** 31, "line 1: 3 Truncated"), (2 ** 31 + 1, "line 0: 6 TooLong")):
+        path = os.path.join(folder, "e")
+        with open(path, "wb") as out:
+            out.truncate(length)
+        yield f"{length:,} bytes of evidence", path, f"gmus: evidence refused: {told}\n"
+
+
+class Table:
+    """Prints a row for each run, and counts those that ended otherwise."""
+
+    def __init__(self, only):
+        self.only, self.wrong = only, 0
+        print("| What | Status | Told | Seconds | Peak MB |\n|---|---|---|---|---|")
+
+    def wants(self, what):
+        return self.only in what
+
+    def row(self, what, run, status, out, err):
+        right = run.status == status and (out is UNKNOWN or run.out == out) and run.err == err
+        told = run.err.strip() or run.out[-12:].decode().replace("\n", " ").strip()
+        print(f"| {what} | {run.status} | {told} | {run.seconds:.2f} | {run.peak} |" + ("" if right else " WRONG |"), flush=True)
+        self.wrong += not right
+
+
+def leaving_reader(gmus, path):
+    """A reader of the report that leaves before the first byte."""
+    reading, writing = os.pipe()
+    os.close(reading)
+    try:
+        return Run([gmus, "list", path], stdout=writing)
+    finally:
+        os.close(writing)
+
+
+def main():
+    words = argparse.ArgumentParser(description=__doc__, formatter_class=argparse.RawDescriptionHelpFormatter)
+    words.add_argument("--gmus", required=True)
+    words.add_argument("--only", default="", help="the rows whose name has this word in it")
+    words.add_argument("--evidence-limit", action="store_true")
+    given = words.parse_args()
+    gmus, table = os.path.abspath(given.gmus), Table(given.only)
+    with tempfile.TemporaryDirectory() as folder:
+        os.chmod(folder, 0o755)
+        for what, path, status, out, err in limit_rows(folder):
+            if table.wants(what):
+                table.row(what, Run([gmus, "list", path]), status, out, err)
+        small = put(folder, "s", b"p gcnf 0 0 0")
+        if table.wants("a reader that leaves"):
+            table.row("a reader that leaves", leaving_reader(gmus, small), 7, UNKNOWN, "gmus: write fault on report\n")
+        if table.wants("a full disk"):
+            with open("/dev/full", "wb") as full:
+                table.row("a full disk", Run([gmus, "list", small], stdout=full), 7, UNKNOWN, "gmus: write fault on report\n")
+        if table.wants("a file that may not be read"):
+            os.chmod(small, 0)
+            table.row("a file that may not be read", Run([gmus, "list", small], preexec_fn=as_nobody), 6, b"", "gmus: read fault on input\n")
+            os.chmod(small, 0o644)
+        for what, path, err in evidence_rows(folder) if given.evidence_limit else ():
+            table.row(what, Run([gmus, "check", small, path]), 9, b"", err)
+    sys.exit(1 if table.wrong else 0)
+
+
+if __name__ == "__main__":
+    main()
