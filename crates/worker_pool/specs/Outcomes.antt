@@ -1,5 +1,5 @@
 -- What is left of an enumeration by several workers.
-use Rattle.std.specs.Prelude.{◌≡◌, ℕ, ◌<◌, List, [], ◌∷◌, ◌++◌, length, All, slice_index_or, sum_by, MatchOption}
+use Rattle.std.specs.Prelude.{◌≡◌, ℕ, ◌<◌, List, [], ◌∷◌, ◌++◌, length, All, slice_index_or, sum_by, None, MatchOption}
 use Rattle.lrat_steps.specs.Log.{LogStep, learned_count}
 use Rattle.map_core.specs.declared.entry.Entry.{Entry}
 use Rattle.map_core.specs.declared.entry.Opening.{Opening}
@@ -30,7 +30,9 @@ pub record IsLeft (o : Opening) (logs : List (List LogStep)) (closing : Closing)
   pub workers : (w : ℕ) (d : List LogStep) → w < o.workers → IsDone o.problem o.tops (slice_index_or worker_logs w d) (calls_of w closing.history)
   pub learned : learned_in logs ≡ state.spent
 
--- the verdict is the closing's, and nothing is closed only for want of memory; the count is that of the logs
+-- the verdict is the closing's, and nothing is closed only for want of memory, where there are no logs either; the count is
+-- that of the logs
 pub record IsOutcome (o : Opening) (left : Outcome) : Type 0 where
   pub closing : MatchOption left.closing (left.verdict ≡ Memory) (λ c. IsLeft o left.logs c × (left.verdict ≡ c.verdict))
+  pub no_logs : left.closing ≡ None → left.logs ≡ []
   pub spent : left.spent ≡ learned_in left.logs
