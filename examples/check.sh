@@ -116,6 +116,14 @@ try 'an empty file' 5 'gmus: input refused: 1 NoHeader at line 1 byte 1' nothing
 try 'a file that is not there' 6 'gmus: read fault on input' nothing list lost
 try 'a folder' 6 'gmus: read fault on input' nothing list .
 
+# Cases that two numbers make, whose counts are known beforehand; no file is read or written for them.
+echo 'drill 16 8 13' >drilled
+for jobs in 1 4; do
+    try "a drill by $jobs" 0 '' drilled drill 7 12 --jobs "$jobs"
+done
+try 'a drill of no size' 2 "$bad" nothing drill 7 0
+try 'a drill with a limit' 2 "$bad" nothing drill 7 12 --limit 5
+
 # Evidence about the three smallest problems has no step that isn't needed: an input that is a goal is named itself.
 try_evidence() { # what to try, the file's text, the wanted evidence; each with "%" for a line's end
     printf '%s' "$2" | tr '%' '\n' >small.gcnf

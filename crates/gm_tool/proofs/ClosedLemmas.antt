@@ -24,7 +24,7 @@ AreDistinctMinimal-from s ok =
     record { minimal = all-minimal s.opening.problem s.records ok.opening.problem ok.accepted; distinct = ok.distinct }
 
 -- the verdict of each status
-complete_by : (v : Verdict) → status_by v ≡ 0 → v ≡ verdict.Complete
+pub complete_by : (v : Verdict) → status_by v ≡ 0 → v ≡ verdict.Complete
 complete_by verdict.Complete e = refl
 complete_by verdict.Limit e = absurd (omega arith)
 complete_by verdict.Budget e = absurd (omega arith)
@@ -113,7 +113,7 @@ limit-reached {b = b} {c = c} h v =
     omega arith
 
 -- where nothing is missing
-holds-all : {p : Problem} {b : Bounds} {logs : List (List LogStep)} {c : Closing} → IsClosedFor p b logs c → c.verdict ≡ verdict.Complete → HoldsAll p c.records
+pub holds-all : {p : Problem} {b : Bounds} {logs : List (List LogStep)} {c : Closing} → IsClosedFor p b logs c → c.verdict ≡ verdict.Complete → HoldsAll p c.records
 holds-all {p} {c = c} h v =
     subst (HoldsAll p) (sym h.left.closing_is.records) (subst (λ q. HoldsAll q h.left.state.records) (of-problem h) (h.left.closing_is.all v))
 
@@ -122,7 +122,7 @@ by-status : (v : Verdict) (status n : ℕ) → (status ≢ 7 → status_by v ≡
 by-status v status n is same other = is (λ seven. other (sym same ∙ seven)) ∙ same
 
 -- what the logs and the closing tell
-enumerated : {p : Problem} {b : Bounds} {logs : List (List LogStep)} {c : Closing} → IsClosedFor p b logs c → c.verdict ≢ verdict.Memory
+pub enumerated : {p : Problem} {b : Bounds} {logs : List (List LogStep)} {c : Closing} → IsClosedFor p b logs c → c.verdict ≢ verdict.Memory
     → (status : ℕ) → (status ≢ 7 → status_by c.verdict ≡ status) → IsEnumerated p b status logs c
 enumerated {c = c} h enough status is =
     record {

@@ -1,5 +1,6 @@
 -- What is said of a named file, said of the file that the words name.
-use Rattle.std.proofs.Common.{◌≡◌, ◌≢◌, ℕ, List, [], ◌∷◌, Bool, true, false, Option, Some, None, is_some, ◌==◌, inl, inr, arith, ap, ap₂, sym, subst, refl, ◌∙◌}
+use Rattle.std.proofs.Common.{◌≡◌, ◌≢◌, ◌⊎◌, ℕ, List, [], ◌∷◌, Bool, true, false, Option, Some, None, is_some, ◌==◌, inl, inr, arith, ap, ap₂, sym, subst, refl, ◌∙◌}
+use Rattle.std.specs.Prelude.{MatchOption}
 use Rattle.std.proofs.lemmas.Bool.{true≢false, false≢true, eqb-true}
 use Rattle.map_core.specs.declared.closing.Verdict.{Verdict}
 use Rattle.map_core.specs.declared.closing.Verdict.TheVariants as verdict
@@ -12,12 +13,13 @@ use Rattle.sat_base.proofs.Members.{any_from}
 use Rattle.gm_base.specs.Problem.{Problem}
 use Rattle.gm_ports.specs.Faults.{Rose}
 use Rattle.gm_ports.specs.FilesState.{FilesState}
-use Rattle.gm_words.specs.Reading.{Asked, Listing, Checking, listing, checking}
+use Rattle.gm_words.specs.Reading.{Asked, Listing, Checking, Drilling, listing, checking, drilling}
 use Rattle.gm_tool.specs.declared.enumeration.Bounds.{Bounds}
 use Rattle.gm_tool.specs.declared.ending.Ending.{Ending}
 use Rattle.gm_tool.specs.declared.ending.Ending.TheVariants.{BadWords, Refused, ReadFault, EvidenceFault, EvidenceRefused, Checked, CheckCutOff, Memory, Listed, CutOff, EvidenceCutOff}
 use Rattle.gm_tool.specs.declared.ending.Finish.{Finish}
 use Rattle.gm_tool.specs.Checking.{IsChecked, IsEvidenceRefusal}
+use Rattle.gm_tool.specs.Drilling.{TellsDrilling}
 use Rattle.gm_tool.specs.Endings.{finish_of, status_by, report_cut_line, evidence_cut_line}
 use Rattle.gm_tool.specs.Evidence.{TellsEvidence, LeavesBegun, IsReportFault, IsEvidenceFault}
 use Rattle.gm_tool.specs.Input.{OfFile, IsReadFor}
@@ -25,15 +27,17 @@ use Rattle.gm_tool.specs.Listing.{IsAfterwards, IsAmong, TellsListing}
 use Rattle.gm_tool.proofs.EvidenceLemmas.{evidence-told}
 use Rattle.gm_tool.specs.Run.{OfNamed, IsToldFile, IsStatus, TellsAccepted, bounds_for, file_asked}
 
-pub named-from : (asked : Asked) (words : Option Asked) (files : FilesState) (P : List ℕ → Type 0)
-    → Some asked ≡ words → OfFile (files.held (file_asked asked)) P → OfNamed words files P
-named-from asked words files P is h = subst (λ w. OfNamed w files P) is h
+pub named-from : (asked : Asked) (words : Option Asked) (name : List ℕ) (files : FilesState) (P : List ℕ → Type 0)
+    → Some asked ≡ words → file_asked (Some asked) ≡ Some name → OfFile (files.held name) P → OfNamed words files P
+named-from asked words name files P is named h =
+    subst (λ w. OfNamed w files P) is (subst (λ n. MatchOption n ⊥ (λ m. OfFile (files.held m) P)) (sym named) h)
 
 -- the words ask for one thing
 listing_or : Listing → Option Asked → Listing
 listing_or l None = l
 listing_or l (Some (listing k)) = k
 listing_or l (Some (checking c)) = l
+listing_or l (Some (drilling d)) = l
 
 pub same_listing : (words : Option Asked) (l k : Listing) → Some (listing l) ≡ words → words ≡ Some (listing k) → l ≡ k
 unfolding listing_or
@@ -43,19 +47,44 @@ checking_or : Checking → Option Asked → Checking
 checking_or c None = c
 checking_or c (Some (listing l)) = c
 checking_or c (Some (checking d)) = d
+checking_or c (Some (drilling d)) = c
 
 pub same_checking : (words : Option Asked) (c d : Checking) → Some (checking c) ≡ words → words ≡ Some (checking d) → c ≡ d
 unfolding checking_or
 same_checking words c d is asked = ap (checking_or c) (is ∙ asked)
 
-asks_listing : Option Asked → Bool
-asks_listing None = false
-asks_listing (Some (listing l)) = true
-asks_listing (Some (checking c)) = false
+drilling_or : Drilling → Option Asked → Drilling
+drilling_or d None = d
+drilling_or d (Some (listing l)) = d
+drilling_or d (Some (checking c)) = d
+drilling_or d (Some (drilling k)) = k
+
+pub same_drilling : (words : Option Asked) (d k : Drilling) → Some (drilling d) ≡ words → words ≡ Some (drilling k) → d ≡ k
+unfolding drilling_or
+same_drilling words d k is asked = ap (drilling_or d) (is ∙ asked)
+
+-- and not for two
+command_of : Option Asked → ℕ
+command_of None = 0
+command_of (Some (listing l)) = 1
+command_of (Some (checking c)) = 2
+command_of (Some (drilling d)) = 3
 
 pub not_both : (words : Option Asked) (l : Listing) (c : Checking) → Some (listing l) ≡ words → words ≡ Some (checking c) → ⊥
-unfolding asks_listing
-not_both words l c is asked = true≢false (ap asks_listing (is ∙ asked))
+unfolding command_of
+not_both words l c is asked = true≢false (ap (λ (w : Option Asked). command_of w == 1) (is ∙ asked))
+
+pub lists-not_drills : (words : Option Asked) (l : Listing) (d : Drilling) → Some (listing l) ≡ words → words ≡ Some (drilling d) → ⊥
+unfolding command_of
+lists-not_drills words l d is asked = true≢false (ap (λ (w : Option Asked). command_of w == 1) (is ∙ asked))
+
+pub checks-not_drills : (words : Option Asked) (c : Checking) (d : Drilling) → Some (checking c) ≡ words → words ≡ Some (drilling d) → ⊥
+unfolding command_of
+checks-not_drills words c d is asked = true≢false (ap (λ (w : Option Asked). command_of w == 2) (is ∙ asked))
+
+-- words that ask for a listing or a checking name a file
+pub names_file : (words : Option Asked) (asked : Asked) (name : List ℕ) → Some asked ≡ words → file_asked (Some asked) ≡ Some name → file_asked words ≡ None → ⊥
+names_file words asked name is named none = let never : Some name ≡ None = sym named ∙ ap file_asked is ∙ none in cc
 
 asks : Option Asked → Bool
 asks None = false
@@ -106,6 +135,10 @@ pub checking-from : (files : FilesState) (c d : Checking) (old new got : Option 
     → IsAfterwards answer → (p : Problem) × OfFile (files.held d.file) (λ text. Reads text p) × IsChecked p (files.held d.evidence) answer old got
 checking-from files c d old new got status answer same n f h = rw (← same, n, f) h
 
+pub drilling-from : (d k : Drilling) (old new got : Option (List ℕ)) (finish answer : Finish) → d ≡ k → got ≡ new → answer ≡ finish
+    → (IsAfterwards finish.status → TellsDrilling d old new finish) → IsAfterwards answer.status → TellsDrilling k old got answer
+drilling-from d k old new got finish answer same n f h = rw (← same, n, f) h
+
 -- each ending has one of the statuses
 verdict_status : (v : Verdict) → IsStatus (status_by v)
 verdict_status verdict.Complete = refl
@@ -144,6 +177,26 @@ left_of status known two five six seven nine =
     by s (inr (inr (inr (inr (inr (inr (inr (inl z)))))))) is = subst (IsAmong (0 ∷ 3 ∷ 4 ∷ 8 ∷ [])) (sym (is ∙ z)) refl
     by s (inr (inr (inr (inr (inr (inr (inr (inr (inl z))))))))) is = absurd (nine (is ∙ z))
     by s (inr (inr (inr (inr (inr (inr (inr (inr (inr none))))))))) is = absurd none
+
+-- what is left of a drilling's without a fault
+pub written_of : (status : ℕ) → (status ≡ 8) ⊎ IsAfterwards status → status ≢ 7 → IsAmong (0 ∷ 3 ∷ 4 ∷ 8 ∷ []) status
+written_of status (inl eight) seven = subst (IsAmong (0 ∷ 3 ∷ 4 ∷ 8 ∷ [])) (sym eight) refl
+written_of status (inr after) seven =
+    let (s, i, e) = any_from (λ (k : ℕ). status == k) (0 ∷ 3 ∷ 4 ∷ 7 ∷ []) after in
+    let is : status ≡ s = eqb-true status s e in
+    by s i is
+  where
+    by : (s : ℕ) → In s (0 ∷ 3 ∷ 4 ∷ 7 ∷ []) → status ≡ s → IsAmong (0 ∷ 3 ∷ 4 ∷ 8 ∷ []) status
+    by s (inl z) is = subst (IsAmong (0 ∷ 3 ∷ 4 ∷ 8 ∷ [])) (sym (is ∙ z)) refl
+    by s (inr (inl z)) is = subst (IsAmong (0 ∷ 3 ∷ 4 ∷ 8 ∷ [])) (sym (is ∙ z)) refl
+    by s (inr (inr (inl z))) is = subst (IsAmong (0 ∷ 3 ∷ 4 ∷ 8 ∷ [])) (sym (is ∙ z)) refl
+    by s (inr (inr (inr (inl z)))) is = absurd (seven (is ∙ z))
+    by s (inr (inr (inr (inr none)))) is = absurd none
+
+-- a drilling has no other status
+pub not_drilled : (status n : ℕ) → (status ≡ 8) ⊎ IsAfterwards status → status ≡ n → n ≢ 8 → (IsAfterwards n → ⊥) → ⊥
+not_drilled status n (inl eight) is not_eight not_after = not_eight (sym is ∙ eight)
+not_drilled status n (inr after) is not_eight not_after = not_after (subst IsAfterwards is after)
 
 -- an accepted file is not refused
 pub not_refused : (held : Option (Option (List ℕ))) (P : List ℕ → Type 0) (offence : Offence)

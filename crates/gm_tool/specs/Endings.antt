@@ -1,7 +1,8 @@
 -- How a run ends: what it answers, and what it tells on standard error.
 --
 -- Another command joins by a line in `finish_of` for each new ending, with its text in `plain_line`; if it enumerates, its
--- endings hold an `Enumerated`, and it promises `IsEnumerated` of its problem and, in a record beside `IsListed`, its texts.
+-- endings hold an `Enumerated`, and it promises `IsEnumerated` of its problem and, in a record beside `IsListed`, its texts, as
+-- `IsDrilled` does.
 use Rattle.std.specs.Prelude.{ℕ, List, [], ◌==◌, codes, if◌then◌else◌, Some, None}
 use Rattle.map_core.specs.declared.closing.Verdict.{Verdict}
 use Rattle.map_core.specs.declared.closing.Verdict.TheVariants as verdict

@@ -6,5 +6,6 @@ pub mod Endings
 pub mod Input
 pub mod Evidence
 pub mod Listing
+pub mod Drilling
 pub mod Checking
 pub mod Run

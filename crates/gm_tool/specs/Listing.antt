@@ -55,12 +55,12 @@ pub record IsListed (p : Problem) (b : Bounds) (status : ℕ) (logs : List (List
 abbrev pub TellsListing : Problem → Bounds → Option (List ℕ) → Option (List ℕ) → Finish → Type 0
 TellsListing p b old new finish = MatchOption finish.closing ⊥ (IsListed p b finish.status finish.logs old new)
 
--- all that is to be written is made
-pub record IsPrepared (p : Problem) (b : Bounds) (prepared : Prepared) : Type 0 where
+-- all that is to be written is made, with the text for what is left
+pub record IsPrepared (p : Problem) (b : Bounds) (text_for : Closing → List ℕ) (prepared : Prepared) : Type 0 where
   pub left : IsLeft p b prepared.left
   pub enough_memory : prepared.left.closing.verdict ≢ verdict.Memory
   pub line : prepared.line.items ≡ error_line b (status_by prepared.left.closing.verdict)
-  pub text : prepared.text.items ≡ report_for p prepared.left.closing
+  pub text : prepared.text.items ≡ text_for prepared.left.closing
 
 -- the ending tells this offence, or memory was wanting for its line
 abbrev pub IsRefusing : Offence → Ending → Type 0

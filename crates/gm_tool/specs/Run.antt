@@ -1,5 +1,5 @@
 -- What the status of a run tells of the words, of the file that they name, and of what was written.
-use Rattle.std.specs.Prelude.{◌≡◌, ◌⊎◌, ℕ, List, [], ◌∷◌, Option, Some, None, MatchOption}
+use Rattle.std.specs.Prelude.{◌≡◌, ◌⊎◌, ℕ, List, [], ◌∷◌, Option, Some, None, MatchOption, ⊤}
 use Rattle.gm_base.specs.Problem.{Problem}
 use Rattle.gm_ports.specs.Faults.{Rose}
 use Rattle.gm_ports.specs.FilesState.{FilesState}
@@ -7,17 +7,20 @@ use Rattle.gm_ports.specs.Told.{ToldAppends, ToldGrowsWithin}
 use Rattle.gcnf_text.specs.declared.offence.Offence.{Offence}
 use Rattle.gcnf_text.specs.Grammar.{Reads}
 use Rattle.gcnf_text.specs.Read.{IsRefused}
-use Rattle.gm_words.specs.Reading.{Asked, Listing, Checking, listing, checking}
+use Rattle.gm_words.specs.Reading.{Asked, Listing, Checking, listing, checking, drilling}
 use Rattle.gm_audit.specs.Refusals.{first_refusal}
 use Rattle.gm_tool.specs.declared.enumeration.Bounds.{Bounds}
+use Rattle.gm_tool.specs.Drilling.{drill_bounds}
 use Rattle.gm_tool.specs.Input.{OfFile}
 use Rattle.gm_tool.specs.Listing.{IsAmong}
 use Rattle.gm_tool.specs.Refusals.{refusal_line}
 
--- the file that is to be listed, or checked
-abbrev pub file_asked : Asked → List ℕ
-file_asked (listing l) = l.file
-file_asked (checking c) = c.file
+-- the name of the file that is to be listed, or checked
+abbrev pub file_asked : Option Asked → Option (List ℕ)
+file_asked None = None
+file_asked (Some (listing l)) = Some l.file
+file_asked (Some (checking c)) = Some c.file
+file_asked (Some (drilling d)) = None
 
 -- the budget and the limit of a listing
 abbrev pub bounds_for : Listing → Bounds
@@ -26,29 +29,30 @@ bounds_for l = record { jobs = l.jobs; conflicts = l.conflicts; limit = l.limit 
 abbrev pub no_bounds : Bounds
 no_bounds = record { jobs = 0; conflicts = 0; limit = 0 }
 
--- where the words ask for no listing, no bound is named
+-- where the words ask for no listing, no bound is named; a drilling has the greatest
 abbrev pub bounds_of : Option Asked → Bounds
 bounds_of None = no_bounds
 bounds_of (Some (listing l)) = bounds_for l
 bounds_of (Some (checking c)) = no_bounds
+bounds_of (Some (drilling d)) = drill_bounds d.jobs
 
 -- the name under which evidence is asked for
 abbrev pub evidence_asked : Option Asked → Option (List ℕ)
 evidence_asked None = None
 evidence_asked (Some (listing l)) = l.evidence
 evidence_asked (Some (checking c)) = None
+evidence_asked (Some (drilling d)) = None
 
 -- a fact of the file that the words name: it is vacuous where the file is not told, and false where the words name none
 abbrev pub OfNamed : Option Asked → FilesState → (List ℕ → Type 0) → Type 0
-OfNamed None files P = ⊥
-OfNamed (Some asked) files P = OfFile (files.held (file_asked asked)) P
+OfNamed words files P = MatchOption (file_asked words) ⊥ (λ name. OfFile (files.held name) P)
 
 -- a file that is held under a name is told, and there, and this holds of its bytes
 abbrev pub IsToldFile : Option (Option (List ℕ)) → (List ℕ → Type 0) → Type 0
 IsToldFile held P = MatchOption held ⊥ (λ file. MatchOption file ⊥ P)
 
 -- the file that the words name is told, and is a text of some problem; and evidence, where they name some, has nothing that
--- it is refused for
+-- it is refused for. A drilling names none
 abbrev pub TellsAccepted : Option Asked → FilesState → Type 0
 TellsAccepted None files = ⊥
 TellsAccepted (Some (listing l)) files = IsToldFile (files.held l.file) (λ text. (p : Problem) × Reads text p)
@@ -56,6 +60,7 @@ TellsAccepted (Some (checking c)) files =
     IsToldFile (files.held c.file)
     (λ text. ((p : Problem) × Reads text p)
     × ((p : Problem) → Reads text p → IsToldFile (files.held c.evidence) (λ evidence. first_refusal p evidence ≡ None)))
+TellsAccepted (Some (drilling d)) files = ⊤
 
 -- the words ask for a checking, and the file that it names is a text of some problem
 pub record ChecksAccepted (words : Option Asked) (files : FilesState) : Type 0 where

@@ -7,7 +7,7 @@ ghost use Rattle.gm_ports.specs.FilesState.{ReadingLeaves, WritingLeaves, StaysA
 ghost use Rattle.evidence_text.specs.Readable.{HasRecordIds};
 ghost use Rattle.gm_words.specs.Requests.{AreGoodJobs, text_of};
 ghost use Rattle.gm_base.specs.Problem.{Problem as GroupedClauses};
-ghost use Rattle.gm_tool.specs.Closed.{is_complete, learned_in};
+ghost use Rattle.gm_tool.specs.Closed.{is_complete, learned_in, report_for};
 ghost use Rattle.gm_tool.specs.Endings.{error_line, finish_of, line_of, status_by};
 ghost use Rattle.gm_tool.specs.Evidence.{evidence_of, TellsEvidence, IsBegun, LeavesBegun, IsReportFault, IsEvidenceFault};
 ghost use Rattle.gm_tool.specs.Input.{OfFile, IsReadFor};
@@ -32,7 +32,7 @@ use std::sync::Wait;
 use std::thread::Threads;
 
 /// The line that tells which bound was reached; no bytes where none was. An enumeration that wanted memory has no line.
-fn line_by(alloc: Global, bounds: Bounds, verdict: Verdict) -> Result<Vec<u8>, AllocError>
+pub fn line_by(alloc: Global, bounds: Bounds, verdict: Verdict) -> Result<Vec<u8>, AllocError>
     ensures line { IfOk result (λ line. line.items ≡ error_line bounds (status_by verdict)) }
     ensures enough_memory { IfOk result (λ _. verdict ≢ Verdict.Memory) }
 {
@@ -51,12 +51,12 @@ fn is_complete(verdict: Verdict) -> bool
     matches!(verdict, Verdict::Complete)
 }
 
-/// A listing before its report is written.
+/// A listing or a drilling before its text is written.
 #[derive(Drop)]
 pub struct Prepared {
-    line: Vec<u8>,
-    text: Vec<u8>,
-    left: Enumerated,
+    pub line: Vec<u8>,
+    pub text: Vec<u8>,
+    pub left: Enumerated,
 }
 
 /// Enumerates, and makes all that is to be written.
@@ -68,7 +68,7 @@ fn prepare<G: Gate, R: Threads + Wait + Sync>(
     gate: &G,
 ) -> Result<Prepared, AllocError>
     requires { AreGoodJobs bounds.jobs }
-    ensures { IfOk result (IsPrepared problem.now bounds) }
+    ensures { IfOk result (IsPrepared problem.now bounds (report_for problem.now)) }
 {
     let left = list_sets(rt, alloc, problem, bounds, gate)?;
     let line = line_by(alloc, bounds, left.closing.verdict)?;

@@ -7,6 +7,8 @@
 //! let finish = run(&rt, alloc, &words, &mut files, &mut out, &mut err, &gate);
 //! ```
 //!
+//! Or it checks evidence about the file, or makes a case from two numbers and counts its minimal sets.
+//!
 //! Start reading at `run` in `program` and at `specs/Run.antt` and `specs/Listing.antt`, which say what each status tells of
 //! the words, the file, the problem and the report; `specs/Endings.antt` says how another command joins. Then
 //! `enumeration`: an oracle over the learning solver for each worker, a map, and what the workers of `worker_pool` leave of
@@ -17,6 +19,8 @@
 
 mod bounds_line;
 mod check_report;
+mod drill_line;
+mod drill_report;
 mod ending;
 mod enumeration;
 mod error_line;

@@ -5,16 +5,18 @@ ghost use Rattle.gm_base.specs.Problem.{Problem};
 ghost use Rattle.gm_ports.specs.Faults.{Rose};
 ghost use Rattle.gm_ports.specs.FilesState.{ReadingLeaves, StaysAsTold};
 ghost use Rattle.gcnf_text.specs.Grammar.{Reads};
-ghost use Rattle.gm_words.specs.Reading.{Listing as Listed, Checking as Checked, words_read, listing, checking};
+ghost use Rattle.gm_words.specs.Reading.{Listing as Listed, Checking as Checked, Drilling as Drilled, words_read, listing, checking, drilling};
 ghost use Rattle.gm_tool.specs.Closed.{learned_in};
 ghost use Rattle.gm_tool.specs.Checking.{IsChecked, IsEvidenceRefusal};
+ghost use Rattle.gm_tool.specs.Drilling.{TellsDrilling};
 ghost use Rattle.gm_tool.specs.Endings.{bare, error_line, input_fault_line, evidence_fault_line};
 ghost use Rattle.gm_tool.specs.Evidence.{TellsEvidence, LeavesBegun, IsReportFault, IsEvidenceFault};
 ghost use Rattle.gm_tool.specs.Input.{OfFile, IsReadFor};
 ghost use Rattle.gm_tool.specs.Listing.{IsAfterwards, IsAmong, TellsListing};
-ghost use Rattle.gm_tool.specs.Run.{OfNamed, TellsAccepted, ChecksAccepted, GetsLine, IsRefusal, IsStatus, IsSilent, IsFaultless, IsBefore, IsToldByStatus, bounds_for, bounds_of, evidence_asked};
+ghost use Rattle.gm_tool.specs.Run.{OfNamed, TellsAccepted, ChecksAccepted, GetsLine, IsRefusal, IsStatus, IsSilent, IsFaultless, IsBefore, IsToldByStatus, bounds_for, bounds_of, evidence_asked, file_asked};
 
 use crate::check_report::check_file;
+use crate::drill_report::drill_case;
 use crate::ending::{Ending, Finish, finish_of};
 use crate::enumeration::Bounds;
 use crate::error_line::write_error_line;
@@ -38,7 +40,8 @@ fn bounds_for(listing: Listing<'_>) -> Bounds
     }
 }
 
-/// Lists all minimal conflicts and corrections of the file that the words name, or checks evidence about it.
+/// Lists all minimal conflicts and corrections of the file that the words name, or checks evidence about it, or counts those
+/// of a case that is made from two numbers.
 ///
 /// `words` are those behind the program's name. Status 0 of `list` says that the file is accepted and was read to its end,
 /// and that `out` got exactly the report of all its minimal conflicts and all its minimal corrections, each once, in
@@ -46,7 +49,8 @@ fn bounds_for(listing: Listing<'_>) -> Bounds
 /// sets were recorded as `--limit` allows; `out` got a report of these sets, each of which is minimal. With these three the
 /// file of `--evidence`, where it is asked for, got the evidence of the sets first. Status 0 of `check` says that file and
 /// evidence are accepted, and that `out` got the report of the sets that the evidence shows to be minimal, of all where it
-/// is complete.
+/// is complete. Status 0 of `drill` says that `out` got one line, with the numbers of groups, of all minimal conflicts and of
+/// all minimal corrections of the case.
 pub fn run<R: Threads + Wait + Sync, F: Files, O: Sink, E: Sink, G: Gate>(
     rt: &R,
     alloc: Global,
@@ -67,6 +71,8 @@ pub fn run<R: Threads + Wait + Sync, F: Files, O: Sink, E: Sink, G: Gate>(
         LeavesBegun ((F.state files.old).held l.file) (F.state files.old) (F.state files.new) }
     ensures checking { (c : Checked) → words_read (map string_bytes words.now) ≡ Some (checking c) → IsAfterwards result.status →
         (p : Problem) × OfFile ((F.state files.old).held c.file) (λ text. Reads text p) × IsChecked p ((F.state files.old).held c.evidence) result.status (O.got out.old) (O.got out.new) }
+    ensures drilling { (d : Drilled) → words_read (map string_bytes words.now) ≡ Some (drilling d) → IsAfterwards result.status →
+        TellsDrilling d (O.got out.old) (O.got out.new) result }
     ensures nothing_listed { IsBefore result.status → result ≡ bare result.status }
     ensures nothing_listed_in_check { (c : Checked) → words_read (map string_bytes words.now) ≡ Some (checking c) → result ≡ bare result.status }
     ensures bad_words { result.status ≡ 2 → words_read (map string_bytes words.now) ≡ None }
@@ -85,9 +91,11 @@ pub fn run<R: Threads + Wait + Sync, F: Files, O: Sink, E: Sink, G: Gate>(
     ensures accepted { ¬ Rose (F.state files.old).read_faults (F.state files.new).read_faults → ¬ Rose (F.state files.old).write_faults (F.state files.new).write_faults →
         ¬ Rose (O.faults out.old) (O.faults out.new) →
         TellsAccepted (words_read (map string_bytes words.now)) (F.state files.old) → IsAmong (0 ∷ 3 ∷ 4 ∷ 8 ∷ []) result.status }
+    ensures drilled { (d : Drilled) → words_read (map string_bytes words.now) ≡ Some (drilling d) → ¬ Rose (O.faults out.old) (O.faults out.new) →
+        IsAmong (0 ∷ 3 ∷ 4 ∷ 8 ∷ []) result.status }
 
     // What stays, and what standard error got.
-    ensures untouched { words_read (map string_bytes words.now) ≡ None → F.state files.new ≡ F.state files.old }
+    ensures untouched { file_asked (words_read (map string_bytes words.now)) ≡ None → F.state files.new ≡ F.state files.old }
     ensures unasked { evidence_asked (words_read (map string_bytes words.now)) ≡ None → ReadingLeaves (F.state files.old) (F.state files.new) }
     ensures before { IsBefore result.status → ReadingLeaves (F.state files.old) (F.state files.new) }
     ensures names { (name : List ℕ) → evidence_asked (words_read (map string_bytes words.now)) ≢ Some name → StaysAsTold ((F.state files.old).held name) ((F.state files.new).held name) }
@@ -116,6 +124,7 @@ pub fn run<R: Threads + Wait + Sync, F: Files, O: Sink, E: Sink, G: Gate>(
         Ok(Some(Request::Check(checking))) => {
             check_file(alloc, checking.file, checking.evidence, files, out)
         }
+        Ok(Some(Request::Drill(drilling))) => drill_case(rt, alloc, drilling, out, gate),
         Ok(None) => Ending::BadWords,
         Err(AllocError) => Ending::Memory,
     };

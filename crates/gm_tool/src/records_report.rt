@@ -1,8 +1,10 @@
-//! The report of the sets that records are about.
-ghost use Rattle.std.specs.Prelude.{◌≡◌, ◌<◌, ◌≤◌, IfOk};
+//! The report of the sets that records are about, and how many they are.
+ghost use Rattle.std.specs.Prelude.{◌≡◌, ◌<◌, ◌≤◌, IfOk, length};
 ghost use Rattle.report_text.specs.Reports.{IsReportOf};
 ghost use Rattle.gm_tool.specs.Closed.{conflicts_in, corrections_in};
+ghost use Rattle.gm_tool.specs.Drilling.{drill_line};
 
+use crate::drill_line::line_of_counts;
 use evidence_rec::Record;
 use gm_base::{Kind, Sets};
 use report_text::report;
@@ -31,6 +33,19 @@ pub fn report_of(
         complete,
         &found.conflicts,
         &found.corrections,
+    )
+}
+
+/// The line of how many sets of each kind these records have, where the greatest group is this one.
+pub fn counts_of(alloc: Global, groups: u32, records: &[Record]) -> Result<Vec<u8>, AllocError>
+    ensures { IfOk result (λ line. line.items ≡ drill_line groups (length (conflicts_in records.now)) (length (corrections_in records.now))) }
+{
+    let found = sets_of(alloc, records)?;
+    line_of_counts(
+        alloc,
+        groups,
+        found.conflicts.len(),
+        found.corrections.len(),
     )
 }
 

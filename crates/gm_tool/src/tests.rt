@@ -1,4 +1,5 @@
 mod checking;
+mod drilling;
 mod evidence;
 
 use super::*;

@@ -21,6 +21,10 @@ place_rule id = record (new_rule id) { required = true }
 abbrev pub number_rule : Text → ℕ → ℕ → Rule
 number_rule id low high = record (new_rule id) { long = Some id; parser = Some (Unsigned low high) }
 
+-- the same number as a word that is required at its place
+abbrev pub placed_rule : Text → ℕ → ℕ → Rule
+placed_rule id low high = record (place_rule id) { parser = Some (Unsigned low high) }
+
 -- `--id TEXT`: any text, where it is given
 abbrev pub text_rule : Text → Rule
 text_rule id = record (new_rule id) { long = Some id }
@@ -35,6 +39,13 @@ greatest_limit = 1000000000
 -- the most workers, where one is meant if the option is not given
 abbrev pub greatest_jobs : ℕ
 greatest_jobs = 64
+
+-- the greatest seed, and the greatest size of a case
+abbrev pub greatest_seed : ℕ
+greatest_seed = 2 ^ 64 - 1
+
+abbrev pub greatest_size : ℕ
+greatest_size = 1000
 
 -- `--jobs J`
 abbrev pub jobs_rule : Rule
@@ -52,6 +63,14 @@ limit_rule = number_rule (codes "limit") 1 greatest_limit
 abbrev pub evidence_rule : Rule
 evidence_rule = text_rule (codes "evidence")
 
+-- `SEED`
+abbrev pub seed_rule : Rule
+seed_rule = placed_rule (codes "seed") 0 greatest_seed
+
+-- `SIZE`
+abbrev pub size_rule : Rule
+size_rule = placed_rule (codes "size") 1 greatest_size
+
 -- `list FILE [--jobs J] [--conflicts B] [--limit L]`
 abbrev pub numbered_list_app : App
 numbered_list_app = with_rule (with_rule (with_rule (with_rule (new_app (codes "list"))
@@ -66,6 +85,10 @@ abbrev pub check_app : App
 check_app = with_rule (with_rule (new_app (codes "check"))
     (place_rule (codes "file"))) (place_rule (codes "evidence"))
 
+-- `drill SEED SIZE [--jobs J]`
+abbrev pub drill_app : App
+drill_app = with_rule (with_rule (with_rule (new_app (codes "drill")) seed_rule) size_rule) jobs_rule
+
 -- the command without its subcommands: the program's name is not among the words, and a subcommand is due
 abbrev pub gmus_top : App
 gmus_top = record (new_app (codes "gmus")) {
@@ -74,7 +97,7 @@ gmus_top = record (new_app (codes "gmus")) {
 
 -- the command
 abbrev pub gmus_app : App
-gmus_app = with_subcommand (with_subcommand gmus_top list_app.top) check_app.top
+gmus_app = with_subcommand (with_subcommand (with_subcommand gmus_top list_app.top) check_app.top) drill_app.top
 
 -- ---- what the words ask for
 
@@ -91,9 +114,16 @@ pub record Checking : Type 0 where
   pub file : Text
   pub evidence : Text
 
+-- what `drill` is asked for
+pub record Drilling : Type 0 where
+  pub seed : ℕ
+  pub size : ℕ
+  pub jobs : ℕ
+
 pub data Asked : Type 0 where
   listing : Listing → Asked
   checking : Checking → Asked
+  drilling : Drilling → Asked
 
 -- the number that a text says, where the option takes the text
 abbrev pub number_by : Rule → Text → Option ℕ
@@ -103,6 +133,10 @@ number_by rule text = if value_passes rule text
 -- the number of an option, or `other` where it is not given
 abbrev pub number_or : ℕ → Rule → List Row → Option ℕ
 number_or other rule rows = option_map_or (number_by rule) (first_of rule.id rows) (Some other)
+
+-- the number that stands at a place, where it is one that may
+abbrev pub number_at : Rule → List Row → Option ℕ
+number_at rule rows = option_and_then (number_by rule) (first_of rule.id rows)
 
 -- a listing, where each of its parts can be had; evidence need not be named
 abbrev pub listing_with : Option Text → Option ℕ → Option ℕ → Option ℕ → Option Text → Option Asked
@@ -125,10 +159,20 @@ checking_with _ _ = None
 abbrev pub checking_of : List Row → Option Asked
 checking_of rows = checking_with (first_of (codes "file") rows) (first_of (codes "evidence") rows)
 
+-- a drilling, where its three numbers can be had
+abbrev pub drilling_with : Option ℕ → Option ℕ → Option ℕ → Option Asked
+drilling_with (Some seed) (Some size) (Some jobs) = Some (drilling (record { seed = seed; size = size; jobs = jobs }))
+drilling_with _ _ _ = None
+
+-- what the values of `drill` ask for
+abbrev pub drilling_of : List Row → Option Asked
+drilling_of rows = drilling_with (number_at seed_rule rows) (number_at size_rule rows) (number_or 1 jobs_rule rows)
+
 -- what a subcommand's values ask for
 abbrev pub asked_of : Text → List Row → Option Asked
 asked_of name rows = if bytes_eq name (codes "list") then listing_of rows
-    else (if bytes_eq name (codes "check") then checking_of rows else None)
+    else (if bytes_eq name (codes "check") then checking_of rows
+    else (if bytes_eq name (codes "drill") then drilling_of rows else None))
 
 -- the subcommand and its values, by clap's reading; none where that refuses the words
 abbrev pub words_read : List Text → Option Asked

@@ -3,7 +3,7 @@ use Rattle.std.specs.Prelude.{◌≡◌, ℕ, [], ◌∷◌, Option, Some, None,
 use Rattle.std.proofs.Common.{refl}
 use Rattle.clap.proofs.OnLiterals.{clap_on_literals}
 use Rattle.clap.specs.Walk.{Text}
-use Rattle.gm_words.specs.Reading.{Asked, Listing, greatest_conflicts, greatest_limit, listing, checking, words_read}
+use Rattle.gm_words.specs.Reading.{Asked, Listing, greatest_conflicts, greatest_limit, greatest_seed, listing, checking, drilling, words_read}
 
 -- `list` of a file, with no option
 abbrev pub plain_listing : Text → Listing
@@ -152,3 +152,29 @@ pub refused_jobs :
     × (words_read (codes "list" ∷ codes "f" ∷ codes "--jobs" ∷ codes "--" ∷ codes "4" ∷ []) ≡ None)
 unfolding clap_on_literals
 refused_jobs = (refl, refl, refl)
+
+-- `drill` of a seed and a size, by so many workers
+abbrev pub drill_of : ℕ → ℕ → ℕ → Option Asked
+drill_of seed size jobs = Some (drilling (record { seed = seed; size = size; jobs = jobs }))
+
+pub read_drill :
+    (words_read (codes "drill" ∷ codes "7" ∷ codes "12" ∷ []) ≡ drill_of 7 12 1)
+    × (words_read (codes "drill" ∷ codes "18446744073709551615" ∷ codes "1000" ∷ []) ≡ drill_of greatest_seed 1000 1)
+    × (words_read (codes "drill" ∷ codes "0" ∷ codes "--jobs" ∷ codes "4" ∷ codes "+01" ∷ []) ≡ drill_of 0 1 4)
+    × (words_read (codes "drill" ∷ codes "--jobs=64" ∷ codes "--" ∷ codes "0" ∷ codes "1" ∷ []) ≡ drill_of 0 1 64)
+unfolding clap_on_literals
+read_drill = (refl, refl, refl, refl)
+
+-- one number, three, numbers out of range, none, and the options of `list`
+pub refused_drill :
+    (words_read (codes "drill" ∷ []) ≡ None)
+    × (words_read (codes "drill" ∷ codes "7" ∷ []) ≡ None)
+    × (words_read (codes "drill" ∷ codes "7" ∷ codes "12" ∷ codes "1" ∷ []) ≡ None)
+    × (words_read (codes "drill" ∷ codes "18446744073709551616" ∷ codes "12" ∷ []) ≡ None)
+    × (words_read (codes "drill" ∷ codes "-1" ∷ codes "12" ∷ []) ≡ None)
+    × (words_read (codes "drill" ∷ codes "7" ∷ codes "0" ∷ []) ≡ None)
+    × (words_read (codes "drill" ∷ codes "7" ∷ codes "1001" ∷ []) ≡ None)
+    × (words_read (codes "drill" ∷ codes "f" ∷ codes "12" ∷ []) ≡ None)
+    × (words_read (codes "drill" ∷ codes "7" ∷ codes "12" ∷ codes "--limit" ∷ codes "5" ∷ []) ≡ None)
+unfolding clap_on_literals
+refused_drill = (refl, refl, refl, refl, refl, refl, refl, refl, refl)

@@ -2,9 +2,9 @@
 ghost use Rattle.std.specs.Prelude.{◌≡◌, IfOk, false};
 ghost use Rattle.clap.specs.Words.{app_of, rule_of};
 ghost use Rattle.clap.specs.declared.builder.command.Command.TheViews.{out-Command};
-ghost use Rattle.gm_words.specs.Reading.{check_app, gmus_app, gmus_top, list_app, numbered_list_app, place_rule, text_rule};
+ghost use Rattle.gm_words.specs.Reading.{check_app, drill_app, gmus_app, gmus_top, list_app, numbered_list_app, place_rule, text_rule};
 
-use crate::options::{CONFLICTS, JOBS, LIMIT};
+use crate::options::{CONFLICTS, JOBS, LIMIT, SEED, SIZE};
 use clap::{Arg, Command};
 use std::alloc::{AllocError, Global};
 
@@ -14,7 +14,8 @@ pub(crate) fn gmus_command<'a>(alloc: Global) -> Result<Command<'a>, AllocError>
 {
     gmus_top_command(alloc)
         .subcommand(list_command(alloc)?)?
-        .subcommand(check_command(alloc)?)
+        .subcommand(check_command(alloc)?)?
+        .subcommand(drill_command(alloc)?)
 }
 
 /// The command without its subcommands. The words do not begin with the program's name.
@@ -54,6 +55,17 @@ fn check_command<'a>(alloc: Global) -> Result<Command<'a>, AllocError>
     Command::new(alloc, "check")
         .arg(place(alloc, "file"))?
         .arg(place(alloc, "evidence"))
+}
+
+/// `drill SEED SIZE [--jobs J]`
+fn drill_command<'a>(alloc: Global) -> Result<Command<'a>, AllocError>
+    ensures app { IfOk result (λ c. app_of c ≡ drill_app) }
+    ensures local { IfOk result (λ c. (out-Command c).has_globals ≡ false) }
+{
+    Command::new(alloc, "drill")
+        .arg(SEED.place(alloc))?
+        .arg(SIZE.place(alloc))?
+        .arg(JOBS.arg(alloc))
 }
 
 /// `--name TEXT`, which need not be given.

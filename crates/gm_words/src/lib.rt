@@ -6,6 +6,7 @@
 //! match read_words(alloc, words)? {
 //!     Some(Request::List(listing)) => list(listing.file, listing.jobs, listing.conflicts, listing.limit, listing.evidence),
 //!     Some(Request::Check(checking)) => check(checking.file, checking.evidence),
+//!     Some(Request::Drill(drilling)) => drill(drilling.seed, drilling.size, drilling.jobs),
 //!     None => usage(),
 //! }
 //! ```
@@ -21,7 +22,7 @@ mod read;
 mod request;
 
 pub use read::read_words;
-pub use request::{Checking, Listing, Request};
+pub use request::{Checking, Drilling, Listing, Request};
 
 #[cfg(test)]
 mod tests;

@@ -1,18 +1,18 @@
-//! The options whose value is a number.
+//! The numbers of a command line, as an option's value or as a word at its place.
 //!
 //! A number is said once, here: clap is told of it, and its text is read by it. The text is one that Rust reads as a
 //! `u64`, with a number between two bounds. clap refuses every other text, but tells nothing of a subcommand's values
 //! but their text, so the number is read and compared once more where it is wanted.
 ghost use Rattle.std.specs.Prelude.{◌≡◌, ◌≤◌, IfSome, false};
 ghost use Rattle.clap.specs.Words.{rule_of};
-ghost use Rattle.gm_words.specs.Options.{option_rule};
+ghost use Rattle.gm_words.specs.Options.{option_rule, word_rule};
 ghost use Rattle.gm_words.specs.Reading.{number_by};
 
 use clap::Arg;
 use clap::builder::ValueParser;
 use std::alloc::Global;
 
-/// `--name NUMBER`, from `low` to `high`.
+/// `--name NUMBER`, or the NUMBER alone, from `low` to `high`.
 #[derive(Clone, Copy)]
 pub(crate) struct NumberOption {
     pub(crate) name: &'static str,
@@ -41,6 +41,20 @@ pub(crate) const LIMIT: NumberOption = NumberOption {
     high: 1_000_000_000,
 };
 
+/// `SEED`
+pub(crate) const SEED: NumberOption = NumberOption {
+    name: "seed",
+    low: 0,
+    high: u64::MAX,
+};
+
+/// `SIZE`
+pub(crate) const SIZE: NumberOption = NumberOption {
+    name: "size",
+    low: 1,
+    high: 1_000,
+};
+
 impl NumberOption {
     /// The option as clap is told of it.
     pub(crate) fn arg<'a>(self, alloc: Global) -> Arg<'a>
@@ -49,6 +63,16 @@ impl NumberOption {
     {
         Arg::new(alloc, self.name)
             .long(self.name)
+            .value_parser(ValueParser::Unsigned(self.low, self.high))
+    }
+
+    /// The word as clap is told of it, which is required at its place.
+    pub(crate) fn place<'a>(self, alloc: Global) -> Arg<'a>
+        ensures rule { rule_of result ≡ word_rule self }
+        ensures local { result.global ≡ false }
+    {
+        Arg::new(alloc, self.name)
+            .required(true)
             .value_parser(ValueParser::Unsigned(self.low, self.high))
     }
 

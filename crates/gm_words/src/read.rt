@@ -2,13 +2,13 @@
 ghost use Rattle.std.specs.Prelude.{◌≡◌, ◌≤◌, IfOk, IfSome, map, option_and_then, option_map, string_bytes};
 ghost use Rattle.clap.specs.Walk.{first_of, rows_of};
 ghost use Rattle.clap.specs.Words.{found_of, subcommand_rows_of};
-ghost use Rattle.gm_words.specs.Options.{option_rule};
-ghost use Rattle.gm_words.specs.Reading.{asked_of, checking_of, listing_of, number_or, words_read};
+ghost use Rattle.gm_words.specs.Options.{option_rule, word_rule};
+ghost use Rattle.gm_words.specs.Reading.{asked_of, checking_of, drilling_of, listing_of, number_at, number_or, words_read};
 ghost use Rattle.gm_words.specs.Requests.{HasGoodNumbers, asked_by, text_of};
 
 use crate::command::gmus_command;
-use crate::options::{CONFLICTS, JOBS, LIMIT, NumberOption};
-use crate::request::{Checking, Listing, Request};
+use crate::options::{CONFLICTS, JOBS, LIMIT, NumberOption, SEED, SIZE};
+use crate::request::{Checking, Drilling, Listing, Request};
 use clap::ArgMatches;
 use clap::error::ErrorKind;
 use std::alloc::{AllocError, Global};
@@ -41,6 +41,8 @@ fn request_of<'a>(matches: &ArgMatches<'a>) -> Option<Request<'a>>
         listing(inner)
     } else if name == "check" {
         checking(inner)
+    } else if name == "drill" {
+        drilling(inner)
     } else {
         None
     }
@@ -75,6 +77,21 @@ fn checking<'a>(matches: &ArgMatches<'a>) -> Option<Request<'a>>
     Some(Request::Check(Checking { file, evidence }))
 }
 
+/// What the matches of `drill` ask for.
+fn drilling<'a>(matches: &ArgMatches<'a>) -> Option<Request<'a>>
+    ensures asked { option_map asked_by result ≡ drilling_of (rows_of (found_of matches.now)) }
+    ensures numbers { IfSome result HasGoodNumbers }
+{
+    let seed = number_at(matches, SEED)?;
+    let size = number_at(matches, SIZE)?;
+    let jobs = number_or(matches, JOBS, JOBS.low)?;
+    Some(Request::Drill(Drilling {
+        seed,
+        size: size as u32,
+        jobs: jobs as u32,
+    }))
+}
+
 /// The text of an argument, if it was given.
 fn text_given<'a>(matches: &ArgMatches<'a>, id: &str) -> Option<&'a str>
     ensures { text_of result ≡ first_of id.now (rows_of (found_of matches.now)) }
@@ -94,4 +111,14 @@ fn number_or(matches: &ArgMatches<'_>, option: NumberOption, other: u64) -> Opti
         Some(text) => option.number_by(text),
         None => Some(other),
     }
+}
+
+/// The number at a place. `None` is no text, or one that may not stand there.
+fn number_at(matches: &ArgMatches<'_>, option: NumberOption) -> Option<u64>
+    ensures number { result ≡ number_at (word_rule option) (rows_of (found_of matches.now)) }
+    ensures low { IfSome result (λ n. option.low ≤ n) }
+    ensures high { IfSome result (λ n. n ≤ option.high) }
+{
+    let text = text_given(matches, option.name)?;
+    option.number_by(text)
 }

@@ -24,6 +24,17 @@ pub struct Checking<'a> {
     pub evidence: &'a str,
 }
 
+/// What `drill` is asked for.
+#[derive(Clone, Copy, Debug, PartialEq, Eq)]
+pub struct Drilling {
+    /// The number that the case is made from.
+    pub seed: u64,
+    /// How long the case's chain is.
+    pub size: u32,
+    /// How many workers there are.
+    pub jobs: u32,
+}
+
 /// What the words ask for.
 #[derive(Clone, Copy, Debug, PartialEq, Eq)]
 pub enum Request<'a> {
@@ -31,4 +42,6 @@ pub enum Request<'a> {
     List(Listing<'a>),
     /// `check FILE EVIDENCE`
     Check(Checking<'a>),
+    /// `drill SEED SIZE [--jobs J]`
+    Drill(Drilling),
 }

@@ -1,4 +1,4 @@
-use super::{Checking, Listing, Request, read_words};
+use super::{Checking, Drilling, Listing, Request, read_words};
 use crate::command::gmus_command;
 use std::alloc::Global;
 use std::test::Fail;
@@ -161,6 +161,28 @@ fn a_checking_has_two_names(rt: HostRuntime) -> Result<(), Fail> {
     Ok(())
 }
 
+#[test]
+fn a_drilling_has_two_numbers(rt: HostRuntime) -> Result<(), Fail> {
+    let rows = [
+        ("drill|7|12|", 7, 12, 1),
+        ("drill|0|1|", 0, 1, 1),
+        ("drill|18446744073709551615|1000|", u64::MAX, 1000, 1),
+        ("drill|+7|012|", 7, 12, 1),
+        ("drill|7|12|--jobs|4|", 7, 12, 4),
+        ("drill|7|--jobs=64|12|", 7, 12, 64),
+        ("drill|--jobs|2|7|12|", 7, 12, 2),
+        ("drill|--jobs=2|--|7|12|", 7, 12, 2),
+    ];
+    for (line, seed, size, jobs) in rows {
+        let words = split(rt.alloc(), line)?;
+        let Ok(Some(Request::Drill(drilling))) = read_words(rt.alloc(), words.as_slice()) else {
+            return Err(Fail::from("no drilling"));
+        };
+        assert!(rt; drilling == Drilling { seed, size, jobs }, "{line}");
+    }
+    Ok(())
+}
+
 /// The first of the lines that is not wrong.
 fn first_read<'a>(alloc: Global, lines: &[&'a str]) -> Result<Option<&'a str>, Fail> {
     for line in lines {
@@ -175,7 +197,7 @@ fn first_read<'a>(alloc: Global, lines: &[&'a str]) -> Result<Option<&'a str>, F
     Ok(None)
 }
 
-const OTHER: [&str; 38] = [
+const OTHER: [&str; 43] = [
     "",
     "|",
     "frob|",
@@ -206,7 +228,12 @@ const OTHER: [&str; 38] = [
     "check|--help|",
     "chec|f|e|",
     "check|f|e|--jobs|2|",
-    "drill|7|12|",
+    "drill|",
+    "drill|7|",
+    "drill|7|12|1|",
+    "drill|--|7|12|--jobs|2|",
+    "dril|7|12|",
+    "drill|--help|",
     "--jobs|2|list|f|",
     "f|list|",
     "--limit|5|list|f|",
@@ -222,7 +249,7 @@ fn other_lines_are_wrong(rt: HostRuntime) -> Result<(), Fail> {
     Ok(())
 }
 
-const UNKNOWN: [&str; 14] = [
+const UNKNOWN: [&str; 17] = [
     "list|f|--conflict|1|",
     "list|f|--conflict=1|",
     "list|f|--limits|1|",
@@ -237,6 +264,9 @@ const UNKNOWN: [&str; 14] = [
     "list|f|--resume|a|",
     "list|f|--evidenc|e|",
     "list|f|-e|e|",
+    "drill|7|12|--limit|5|",
+    "drill|7|12|--evidence|e|",
+    "drill|7|12|--seed|7|",
 ];
 
 #[test]
@@ -245,7 +275,7 @@ fn options_that_are_not_known_are_wrong(rt: HostRuntime) -> Result<(), Fail> {
     Ok(())
 }
 
-const VALUES: [&str; 26] = [
+const VALUES: [&str; 38] = [
     "list|f|--jobs|0|",
     "list|f|--jobs|65|",
     "list|f|--jobs|4294967297|",
@@ -272,6 +302,18 @@ const VALUES: [&str; 26] = [
     "list|f|--conflicts|5.0|",
     "list|f|--conflicts|\u{665}|",
     "list|f|--conflicts==5|",
+    "drill|18446744073709551616|12|",
+    "drill|-1|12|",
+    "drill|f|12|",
+    "drill||12|",
+    "drill|--|-1|12|",
+    "drill|7.0|12|",
+    "drill|7|0|",
+    "drill|7|1001|",
+    "drill|7|4294967297|",
+    "drill|7|-12|",
+    "drill|7|12|--jobs|0|",
+    "drill|7|12|--jobs|65|",
 ];
 
 #[test]
@@ -280,7 +322,7 @@ fn values_that_are_no_number_in_the_range_are_wrong(rt: HostRuntime) -> Result<(
     Ok(())
 }
 
-const REPEATED: [&str; 18] = [
+const REPEATED: [&str; 20] = [
     "list|f|--jobs|",
     "list|f|--jobs|--|4|",
     "list|f|--jobs|2|--jobs|2|",
@@ -299,6 +341,8 @@ const REPEATED: [&str; 18] = [
     "list|f|--evidence|--limit|5|",
     "list|f|--evidence|e|g|",
     "list|f|--evidence=e|--evidence=e|",
+    "drill|7|12|--jobs|",
+    "drill|7|12|--jobs|2|--jobs|2|",
 ];
 
 #[test]

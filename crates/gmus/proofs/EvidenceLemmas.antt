@@ -7,6 +7,7 @@ use Rattle.lrat_steps.specs.Log.{LogStep}
 use Rattle.map_core.specs.declared.closing.Closing.{Closing}
 use Rattle.gm_tool.specs.declared.ending.Finish.{Finish}
 use Rattle.gm_tool.specs.declared.enumeration.Bounds.{Bounds}
+use Rattle.gm_tool.specs.Drilling.{IsDrilled}
 use Rattle.gm_tool.specs.Evidence.{IsValid, IsEvidenced, TellsEvidence}
 use Rattle.gm_tool.specs.Listing.{IsEnumerated, IsListed}
 
@@ -15,6 +16,12 @@ pub enumerated-closing : (p : Problem) (b : Bounds) (status : ℕ) (logs : List 
     → MatchOption closing ⊥ (IsListed p b status logs old new) → MatchOption closing ⊥ (IsEnumerated p b status logs)
 enumerated-closing p b status logs old new None h = h
 enumerated-closing p b status logs old new (Some closing) h = h.enumerated
+
+-- so are those of a drilling
+pub drilled-closing : (p : Problem) (b : Bounds) (status : ℕ) (logs : List (List LogStep)) (old new : Option (List ℕ)) (closing : Option Closing)
+    → MatchOption closing ⊥ (IsDrilled p b status logs old new) → MatchOption closing ⊥ (IsEnumerated p b status logs)
+drilled-closing p b status logs old new None h = h
+drilled-closing p b status logs old new (Some closing) h = h.enumerated
 
 valid-closing : (p : Problem) (name : List ℕ) (files : FilesState) (Gets : List ℕ → Type 0) (status : ℕ) (closing : Option Closing)
     → MatchOption closing ⊥ (IsEvidenced p name files Gets status) → MatchOption closing ⊥ (IsValid p)

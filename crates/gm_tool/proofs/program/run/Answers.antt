@@ -12,9 +12,9 @@ use Rattle.gm_tool.specs.declared.ending.Finish.{Finish}
 use Rattle.gm_tool.specs.Endings.{error_line, finish_of, line_of}
 use Rattle.gm_tool.specs.Listing.{IsAfterwards, IsAmong}
 use Rattle.gm_tool.specs.Run.{GetsLine, IsToldByStatus, TellsAccepted, bounds_of, evidence_asked}
-use Rattle.gm_tool.proofs.RunLemmas.{bounds-from, named-from, same_listing, same_checking, not_both, listing-from, begun-from, report_fault-from, evidence_fault-from, checking-from, ending_status, left_of, not_refused, not_refused-alone, not_refused-evidence}
+use Rattle.gm_tool.proofs.RunLemmas.{bounds-from, named-from, names_file, same_listing, same_checking, same_drilling, not_both, lists-not_drills, checks-not_drills, listing-from, begun-from, report_fault-from, evidence_fault-from, checking-from, drilling-from, ending_status, left_of, written_of, not_drilled, not_none, not_refused, not_refused-alone, not_refused-evidence}
 use Rattle.gm_tool.proofs.program.run.Goals as goal
-use Rattle.gm_tool.proofs.program.run.Goals.{in-Ok-Some-List, in-Ok-Some-Check, in-Ok-None, in-Err}
+use Rattle.gm_tool.proofs.program.run.Goals.{in-Ok-Some-List, in-Ok-Some-Check, in-Ok-Some-Drill, in-Ok-None, in-Err}
 
 -- what is told of the listed file
 pub returns-clause-listing : goal.returns-clause-listing
@@ -34,6 +34,9 @@ returns-clause-listing g c = λ l asks afterwards.
       | in-Ok-Some-Check w ↦
           let asked = sym (ap (option_map asked_by) (w.in-Ok-Some-Check.field-0-is ∙ ap Some w.in-Ok-Some-Check.field-0-0-is)) ∙ w.in-Ok-Some-Check.ensures.asked in
           absurd (not_both words l _ (sym asks) (sym asked))
+      | in-Ok-Some-Drill w ↦
+          let asked = sym (ap (option_map asked_by) (w.in-Ok-Some-Drill.field-0-is ∙ ap Some w.in-Ok-Some-Drill.field-0-0-is)) ∙ w.in-Ok-Some-Drill.ensures.asked in
+          absurd (lists-not_drills words l _ (sym asks) (sym asked))
       | in-Ok-None w ↦ absurd (false≢true (subst (λ (f : Finish). IsAfterwards f.status) (c.finish_of.ensures ∙ ap finish_of w.ending-is) afterwards))
       | in-Err w ↦ absurd (false≢true (subst (λ (f : Finish). IsAfterwards f.status) (c.finish_of.ensures ∙ ap finish_of w.ending-is) afterwards))
     ]
@@ -52,6 +55,9 @@ returns-clause-begun g c = λ l asks eight.
       | in-Ok-Some-Check w ↦
           let asked = sym (ap (option_map asked_by) (w.in-Ok-Some-Check.field-0-is ∙ ap Some w.in-Ok-Some-Check.field-0-0-is)) ∙ w.in-Ok-Some-Check.ensures.asked in
           absurd (not_both words l _ (sym asks) (sym asked))
+      | in-Ok-Some-Drill w ↦
+          let asked = sym (ap (option_map asked_by) (w.in-Ok-Some-Drill.field-0-is ∙ ap Some w.in-Ok-Some-Drill.field-0-0-is)) ∙ w.in-Ok-Some-Drill.ensures.asked in
+          absurd (lists-not_drills words l _ (sym asks) (sym asked))
       | in-Ok-None w ↦ inl (subst (λ f. ReadingLeaves files (g.F.Files.state f)) (sym w.files-is) (ReadingLeaves-nothing files))
       | in-Err w ↦ inl (subst (λ f. ReadingLeaves files (g.F.Files.state f)) (sym w.files-is) (ReadingLeaves-nothing files))
     ]
@@ -77,6 +83,10 @@ returns-clause-write_fault g c = λ seven.
           let r = w.check_file-ending in
           let status = ap (λ (f : Finish). f.status) (c.finish_of.ensures ∙ ap finish_of w.ending-is) in
           inl (report_fault-from _ Line _ _ _ (ap g.O.Sink.faults w.out-is) (λ line is. subst Line (ap line_of w.ending-is ∙ is) c.write_error_line.ensures) (r.ensures.write_fault (sym status ∙ seven)))
+      | in-Ok-Some-Drill w ↦
+          let r = w.drill_case-ending in
+          let status = ap (λ (f : Finish). f.status) (c.finish_of.ensures ∙ ap finish_of w.ending-is) in
+          inl (report_fault-from _ Line _ _ _ (ap g.O.Sink.faults w.out-is) (λ line is. subst Line (ap line_of w.ending-is ∙ is) c.write_error_line.ensures) (r.ensures.cause (sym status ∙ seven)))
       | in-Ok-None w ↦ let status = ap (λ (f : Finish). f.status) (c.finish_of.ensures ∙ ap finish_of w.ending-is) in absurd (omega arith)
       | in-Err w ↦ let status = ap (λ (f : Finish). f.status) (c.finish_of.ensures ∙ ap finish_of w.ending-is) in absurd (omega arith)
     ]
@@ -96,6 +106,9 @@ returns-clause-checking g c = λ d asks afterwards.
           checking-from files _ d (g.O.Sink.got c.args.out.now) (g.O.Sink.got r.new.out) (g.O.Sink.got c.match-read_words.out)
           (finish_of r.result).status c.finish_of.result.status (same_checking words _ d asked asks) (ap g.O.Sink.got w.out-is)
           (ap (λ (f : Finish). f.status) (c.finish_of.ensures ∙ ap finish_of w.ending-is)) r.ensures.checked afterwards
+      | in-Ok-Some-Drill w ↦
+          let asked = sym (ap (option_map asked_by) (w.in-Ok-Some-Drill.field-0-is ∙ ap Some w.in-Ok-Some-Drill.field-0-0-is)) ∙ w.in-Ok-Some-Drill.ensures.asked in
+          absurd (checks-not_drills words d _ (sym asks) (sym asked))
       | in-Ok-None w ↦ absurd (false≢true (subst (λ (f : Finish). IsAfterwards f.status) (c.finish_of.ensures ∙ ap finish_of w.ending-is) afterwards))
       | in-Err w ↦ absurd (false≢true (subst (λ (f : Finish). IsAfterwards f.status) (c.finish_of.ensures ∙ ap finish_of w.ending-is) afterwards))
     ]
@@ -114,7 +127,7 @@ returns-clause-refused g c = λ five.
           let h = r.ensures.refused (sym status ∙ five) in
           record {
             offence = h.offence;
-            first = named-from _ words files (λ text. IsRefused text h.offence) asked h.first;
+            first = named-from _ words _ files (λ text. IsRefused text h.offence) asked refl h.first;
             line = subst Line (ap line_of w.ending-is ∙ h.line) c.write_error_line.ensures;
           }
       | in-Ok-Some-Check w ↦
@@ -124,9 +137,13 @@ returns-clause-refused g c = λ five.
           let h = r.ensures.refused (sym status ∙ five) in
           record {
             offence = h.offence;
-            first = named-from _ words files (λ text. IsRefused text h.offence) asked h.first;
+            first = named-from _ words _ files (λ text. IsRefused text h.offence) asked refl h.first;
             line = subst Line (ap line_of w.ending-is ∙ h.line) c.write_error_line.ensures;
           }
+      | in-Ok-Some-Drill w ↦
+          let r = w.drill_case-ending in
+          let status = ap (λ (f : Finish). f.status) (c.finish_of.ensures ∙ ap finish_of w.ending-is) in
+          absurd (not_drilled _ 5 r.ensures.statuses (sym status ∙ five) (omega arith) (λ after. false≢true after))
       | in-Ok-None w ↦ let status = ap (λ (f : Finish). f.status) (c.finish_of.ensures ∙ ap finish_of w.ending-is) in absurd (omega arith)
       | in-Err w ↦ let status = ap (λ (f : Finish). f.status) (c.finish_of.ensures ∙ ap finish_of w.ending-is) in absurd (omega arith)
     ]
@@ -155,6 +172,10 @@ returns-clause-evidence_refused g c = λ nine.
               line = subst Line (ap line_of w.ending-is ∙ h.2.line) c.write_error_line.ensures;
             },
           )
+      | in-Ok-Some-Drill w ↦
+          let r = w.drill_case-ending in
+          let status = ap (λ (f : Finish). f.status) (c.finish_of.ensures ∙ ap finish_of w.ending-is) in
+          absurd (not_drilled _ 9 r.ensures.statuses (sym status ∙ nine) (omega arith) (λ after. false≢true after))
       | in-Ok-None w ↦ let status = ap (λ (f : Finish). f.status) (c.finish_of.ensures ∙ ap finish_of w.ending-is) in absurd (omega arith)
       | in-Err w ↦ let status = ap (λ (f : Finish). f.status) (c.finish_of.ensures ∙ ap finish_of w.ending-is) in absurd (omega arith)
     ]
@@ -179,6 +200,12 @@ returns-clause-error_line g c = λ by_status.
           let r = w.check_file-ending in
           let status = ap (λ (f : Finish). f.status) (c.finish_of.ensures ∙ ap finish_of w.ending-is) in
           ap line_of w.ending-is ∙ r.ensures.line (subst IsToldByStatus status by_status) (bounds_of words) ∙ ap (error_line (bounds_of words)) (sym status)
+      | in-Ok-Some-Drill w ↦
+          let r = w.drill_case-ending in
+          let asked = sym (ap (option_map asked_by) (w.in-Ok-Some-Drill.field-0-is ∙ ap Some w.in-Ok-Some-Drill.field-0-0-is)) ∙ w.in-Ok-Some-Drill.ensures.asked in
+          let status = ap (λ (f : Finish). f.status) (c.finish_of.ensures ∙ ap finish_of w.ending-is) in
+          ap line_of w.ending-is ∙ r.ensures.line (λ seven. false≢true (subst IsToldByStatus (status ∙ seven) by_status))
+          ∙ ap (λ (b : Bounds). error_line b (finish_of r.result).status) (ap bounds_of asked) ∙ ap (error_line (bounds_of words)) (sym status)
       | in-Ok-None w ↦ ap line_of w.ending-is ∙ ap (λ (f : Finish). error_line (bounds_of words) f.status) (sym (c.finish_of.ensures ∙ ap finish_of w.ending-is))
       | in-Err w ↦ ap line_of w.ending-is ∙ ap (λ (f : Finish). error_line (bounds_of words) f.status) (sym (c.finish_of.ensures ∙ ap finish_of w.ending-is))
     ])
@@ -214,8 +241,71 @@ returns-clause-accepted g c = λ no_read no_evidence no_write tells.
           (λ six. no_read (subst (λ f. Rose files.read_faults (g.F.Files.state f).read_faults) (sym w.files-is) (r.ensures.read_fault six)))
           (λ seven. no_write (subst (λ o. Rose (g.O.Sink.faults c.args.out.now) (g.O.Sink.faults o)) (sym w.out-is) (r.ensures.write_fault seven).rose))
           (λ nine. let h = r.ensures.evidence_refused nine in not_refused-evidence files _ h.0 _ accepted h.1 h.2))
+      | in-Ok-Some-Drill w ↦
+          let r = w.drill_case-ending in
+          subst (λ (f : Finish). IsAmong (0 ∷ 3 ∷ 4 ∷ 8 ∷ []) f.status) (sym (c.finish_of.ensures ∙ ap finish_of w.ending-is))
+          (written_of (finish_of r.result).status r.ensures.statuses
+          (λ seven. no_write (subst (λ o. Rose (g.O.Sink.faults c.args.out.now) (g.O.Sink.faults o)) (sym w.out-is) (r.ensures.cause seven).rose)))
       | in-Ok-None w ↦
           let asked : None ≡ words_read (map string_bytes c.args.words.now) = sym (ap (option_map asked_by) w.in-Ok-None.field-0-is) ∙ w.in-Ok-None.ensures.asked in
           absurd (subst (λ words. TellsAccepted words files) (sym asked) tells)
       | in-Err w ↦ subst (λ (f : Finish). IsAmong (0 ∷ 3 ∷ 4 ∷ 8 ∷ []) f.status) (sym (c.finish_of.ensures ∙ ap finish_of w.ending-is)) refl
+    ]
+
+-- what is told of a case
+pub returns-clause-drilling : goal.returns-clause-drilling
+returns-clause-drilling g c = λ d asks afterwards.
+    let words = words_read (map string_bytes c.args.words.now) in
+    elim c.match-read_words.branch [
+      | in-Ok-Some-List w ↦
+          let asked = sym (ap (option_map asked_by) (w.in-Ok-Some-List.field-0-is ∙ ap Some w.in-Ok-Some-List.field-0-0-is)) ∙ w.in-Ok-Some-List.ensures.asked in
+          absurd (lists-not_drills words _ d asked asks)
+      | in-Ok-Some-Check w ↦
+          let asked = sym (ap (option_map asked_by) (w.in-Ok-Some-Check.field-0-is ∙ ap Some w.in-Ok-Some-Check.field-0-0-is)) ∙ w.in-Ok-Some-Check.ensures.asked in
+          absurd (checks-not_drills words _ d asked asks)
+      | in-Ok-Some-Drill w ↦
+          let r = w.drill_case-ending in
+          let asked = sym (ap (option_map asked_by) (w.in-Ok-Some-Drill.field-0-is ∙ ap Some w.in-Ok-Some-Drill.field-0-0-is)) ∙ w.in-Ok-Some-Drill.ensures.asked in
+          drilling-from _ d (g.O.Sink.got c.args.out.now) (g.O.Sink.got r.new.out) (g.O.Sink.got c.match-read_words.out) (finish_of r.result) c.finish_of.result
+          (same_drilling words _ d asked asks) (ap g.O.Sink.got w.out-is) (c.finish_of.ensures ∙ ap finish_of w.ending-is) r.ensures.drilling afterwards
+      | in-Ok-None w ↦ absurd (false≢true (subst (λ (f : Finish). IsAfterwards f.status) (c.finish_of.ensures ∙ ap finish_of w.ending-is) afterwards))
+      | in-Err w ↦ absurd (false≢true (subst (λ (f : Finish). IsAfterwards f.status) (c.finish_of.ensures ∙ ap finish_of w.ending-is) afterwards))
+    ]
+
+-- a drilling that can write its line ends
+pub returns-clause-drilled : goal.returns-clause-drilled
+returns-clause-drilled g c = λ d asks no_write.
+    let words = words_read (map string_bytes c.args.words.now) in
+    elim c.match-read_words.branch [
+      | in-Ok-Some-List w ↦
+          let asked = sym (ap (option_map asked_by) (w.in-Ok-Some-List.field-0-is ∙ ap Some w.in-Ok-Some-List.field-0-0-is)) ∙ w.in-Ok-Some-List.ensures.asked in
+          absurd (lists-not_drills words _ d asked asks)
+      | in-Ok-Some-Check w ↦
+          let asked = sym (ap (option_map asked_by) (w.in-Ok-Some-Check.field-0-is ∙ ap Some w.in-Ok-Some-Check.field-0-0-is)) ∙ w.in-Ok-Some-Check.ensures.asked in
+          absurd (checks-not_drills words _ d asked asks)
+      | in-Ok-Some-Drill w ↦
+          let r = w.drill_case-ending in
+          subst (λ (f : Finish). IsAmong (0 ∷ 3 ∷ 4 ∷ 8 ∷ []) f.status) (sym (c.finish_of.ensures ∙ ap finish_of w.ending-is))
+          (written_of (finish_of r.result).status r.ensures.statuses
+          (λ seven. no_write (subst (λ o. Rose (g.O.Sink.faults c.args.out.now) (g.O.Sink.faults o)) (sym w.out-is) (r.ensures.cause seven).rose)))
+      | in-Ok-None w ↦
+          let asked : None ≡ words_read (map string_bytes c.args.words.now) = sym (ap (option_map asked_by) w.in-Ok-None.field-0-is) ∙ w.in-Ok-None.ensures.asked in
+          absurd (not_none words _ asked asks)
+      | in-Err w ↦ subst (λ (f : Finish). IsAmong (0 ∷ 3 ∷ 4 ∷ 8 ∷ []) f.status) (sym (c.finish_of.ensures ∙ ap finish_of w.ending-is)) refl
+    ]
+
+-- no file is touched where the words name none
+pub returns-clause-untouched : goal.returns-clause-untouched
+returns-clause-untouched g c = λ none.
+    let words = words_read (map string_bytes c.args.words.now) in
+    elim c.match-read_words.branch [
+      | in-Ok-Some-List w ↦
+          let asked = sym (ap (option_map asked_by) (w.in-Ok-Some-List.field-0-is ∙ ap Some w.in-Ok-Some-List.field-0-0-is)) ∙ w.in-Ok-Some-List.ensures.asked in
+          absurd (names_file words _ _ asked refl none)
+      | in-Ok-Some-Check w ↦
+          let asked = sym (ap (option_map asked_by) (w.in-Ok-Some-Check.field-0-is ∙ ap Some w.in-Ok-Some-Check.field-0-0-is)) ∙ w.in-Ok-Some-Check.ensures.asked in
+          absurd (names_file words _ _ asked refl none)
+      | in-Ok-Some-Drill w ↦ ap g.F.Files.state w.files-is
+      | in-Ok-None w ↦ ap g.F.Files.state w.files-is
+      | in-Err w ↦ ap g.F.Files.state w.files-is
     ]
