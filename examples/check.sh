@@ -152,6 +152,17 @@ try 'a refused file with evidence' 5 'gmus: input refused: 5 GroupTooBig at line
 try 'no evidence' 6 'gmus: read fault on evidence' nothing check "$here/first.gcnf" lost
 try 'one name' 2 "$bad" nothing check "$here/first.gcnf"
 
+# A listing goes on from evidence: from the whole of it with nothing to learn, and from a part; it may be written over.
+try 'whole evidence resumed' 0 '' "$here/first.report" list "$here/first.gcnf" --resume "$evidence" --conflicts 0
+try 'a limit that is resumed' 4 'gmus: limit of 5 records reached' partial_report list "$here/first.gcnf" --resume "$evidence" --limit 5
+try 'bad evidence resumed' 9 'gmus: evidence refused: line 8: 12 NotFalse' nothing list "$here/first.gcnf" --resume bad_evidence
+try 'no evidence resumed' 6 'gmus: read fault on evidence' nothing list "$here/first.gcnf" --resume lost
+for jobs in 1 4; do
+    "$program" list pairs.gcnf --limit 100 --evidence part --jobs "$jobs" >out 2>err </dev/null
+    try "a part resumed by $jobs" 0 '' pairs.report list pairs.gcnf --resume part --evidence part --jobs "$jobs"
+    try "what it wrote by $jobs" 0 '' pairs.report check pairs.gcnf part
+done
+
 # Evidence that is asked for: whole and partial ones are accepted, by this program and by one that shares nothing with it.
 accepted() { # the problem, its evidence, and the report that both have to give
     try "evidence of ${1##*/}" 0 '' "$3" check "$1" "$2"

@@ -1,11 +1,10 @@
 -- What evidence shows, said of the report of its sets, and what is said of the file that holds it.
-use Rattle.std.proofs.Common.{◌≡◌, ℕ, ◌+◌, ◌++◌, Bool, true, false, List, [], Option, Some, None, IfSome, is_some, length, length-append, sym, ◌∙◌, ap, subst, arith, refl}
-use Rattle.std.specs.Prelude.{nat_lt, if◌then◌else◌}
+use Rattle.std.proofs.Common.{◌≡◌, ℕ, ◌+◌, Bool, true, false, List, Option, Some, None, IfSome, is_some, length, length-append, sym, ◌∙◌, ap, subst, arith, refl}
+use Rattle.std.specs.Prelude.{nat_lt}
 use Rattle.std.proofs.lemmas.Bool.{false≢true}
 use Rattle.sat_base.specs.Derivation.{Derivation}
 use Rattle.gm_base.specs.Problem.{Problem, IsProblem}
-use Rattle.gm_ports.specs.declared.whole.Reading.TheVariants.{Failed, TooLong}
-use Rattle.gm_ports.specs.declared.whole.Reading.{Reading}
+use Rattle.gm_ports.specs.declared.whole.Reading.TheVariants.{TooLong}
 use Rattle.gm_ports.specs.Reading.{SaysOfName}
 use Rattle.report_text.specs.Reports.{IsReportOf}
 use Rattle.lrat_check.specs.declared.why.Why.TheVariants as why
@@ -14,7 +13,6 @@ use Rattle.evidence_rec.specs.Records.{founds}
 use Rattle.evidence_rec.specs.Seeding.{shows_all_explored}
 use Rattle.evidence_rec.specs.Held.{HoldsAll, conflicts_in, corrections_in}
 use Rattle.evidence_rec.proofs.Explored.{closing-explores, explored-holds_all}
-use Rattle.evidence_text.specs.declared.offence.Offence.{Offence}
 use Rattle.gm_audit.specs.Audits.{AuditYes}
 use Rattle.gm_audit.specs.Refusals.{first_refusal, max_bytes}
 use Rattle.gm_tool.specs.Checking.{shown_report}

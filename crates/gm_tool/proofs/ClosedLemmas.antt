@@ -1,10 +1,12 @@
 -- What a listing that is over tells, by the status that it ends with.
-use Rattle.std.proofs.Common.{◌≡◌, ◌≢◌, ℕ, Bool, true, false, List, length, Option, refl, sym, ◌∙◌, ap, subst, arith}
-use Rattle.std.specs.Prelude.{if◌then◌else◌}
+use Rattle.std.proofs.Common.{◌≡◌, ◌≢◌, ℕ, ◌+◌, ◌≤◌, Bool, true, false, List, ◌++◌, length, length-append, Option, refl, sym, ◌∙◌, ap, subst, arith}
+use Rattle.std.specs.Prelude.{max, if◌then◌else◌}
 use Rattle.std.proofs.lemmas.Bool.{false≢true, leb-true}
 use Rattle.gm_base.specs.Problem.{Problem}
 use Rattle.gm_ports.specs.Told.{ToldAppends, ToldGrowsWithin}
 use Rattle.lrat_steps.specs.Log.{LogStep}
+use Rattle.evidence_rec.specs.declared.record.Record.{Record}
+use Rattle.map_core.specs.declared.entry.Opening.{Opening}
 use Rattle.map_core.specs.declared.closing.Verdict.{Verdict}
 use Rattle.map_core.specs.declared.closing.Verdict.TheVariants as verdict
 use Rattle.map_core.specs.declared.closing.Closing.{Closing}
@@ -13,7 +15,7 @@ use Rattle.map_core.specs.Core.{State}
 use Rattle.map_core.specs.Sound.{IsSound}
 use Rattle.evidence_rec.proofs.HeldLemmas.{all-minimal}
 use Rattle.gm_tool.specs.declared.enumeration.Bounds.{Bounds}
-use Rattle.gm_tool.specs.Closed.{IsClosedFor, IsBudgetSpent, AreDistinctMinimal, full_report, held_report, report_for, is_complete, learned_in}
+use Rattle.gm_tool.specs.Closed.{IsClosedFor, IsBudgetSpent, AreDistinctMinimal, full_report, held_report, report_for, is_complete}
 use Rattle.gm_tool.specs.Endings.{status_by}
 use Rattle.gm_tool.specs.Listing.{IsAfterwards, IsPartial, IsEnumerated, IsListed, HasLimit}
 use Rattle.gm_tool.proofs.ReportLemmas.{of-problem}
@@ -76,13 +78,13 @@ partial-text : (p : Problem) (c : Closing) → IsPartial (status_by c.verdict) �
 partial-text p c partial = ap (λ whole. if whole then full_report p else held_report p c.records) (partial-not c.verdict partial)
 
 -- what is held is minimal
-held-minimal : {p : Problem} {b : Bounds} {logs : List (List LogStep)} {c : Closing} → IsClosedFor p b logs c → AreDistinctMinimal p c.records
+held-minimal : {p : Problem} {first : List Record} {b : Bounds} {logs : List (List LogStep)} {c : Closing} → IsClosedFor p first b logs c → AreDistinctMinimal p c.records
 held-minimal {c = c} h =
     subst (λ q. AreDistinctMinimal q c.records) (of-problem h)
     (subst (AreDistinctMinimal h.left.state.opening.problem) (sym h.left.closing_is.records) (AreDistinctMinimal-from h.left.state h.left.closing_is.sound))
 
 -- where the budget is spent
-budget-spent : {p : Problem} {b : Bounds} {logs : List (List LogStep)} {c : Closing} → IsClosedFor p b logs c → c.verdict ≡ verdict.Budget → IsBudgetSpent p b logs c
+budget-spent : {p : Problem} {first : List Record} {b : Bounds} {logs : List (List LogStep)} {c : Closing} → IsClosedFor p first b logs c → c.verdict ≡ verdict.Budget → IsBudgetSpent p b logs c
 budget-spent {p} {b} h v =
     let k = h.left.closing_is in
     let d = k.dry v in
@@ -99,21 +101,30 @@ budget-spent {p} {b} h v =
       workers_undecided = λ w log within. (h.left.workers w log within).undecided;
     }
 
+-- the records that it began with come first
+first-in : {p : Problem} {first : List Record} {b : Bounds} {logs : List (List LogStep)} {c : Closing} → IsClosedFor p first b logs c
+    → (more : List Record) × (c.records ≡ first ++ more)
+first-in h =
+    let begins = h.left.closing_is.sound.begins in
+    (begins.0, h.left.closing_is.records ∙ begins.1 ∙ ap (λ (o : Opening). o.records ++ begins.0) h.left.opening)
+
 -- where the limit is reached
-limit-reached : {p : Problem} {b : Bounds} {logs : List (List LogStep)} {c : Closing} → IsClosedFor p b logs c → c.verdict ≡ verdict.Limit → HasLimit b c
-limit-reached {b = b} {c = c} h v =
+limit-reached : {p : Problem} {first : List Record} {b : Bounds} {logs : List (List LogStep)} {c : Closing} → IsClosedFor p first b logs c → c.verdict ≡ verdict.Limit → HasLimit first b c
+limit-reached {first = first} {b = b} {c = c} h v =
     let k = h.left.closing_is in
     let s = h.left.state in
     let marked = limited-by s.exhausted s.stopped s.limited (sym k.verdict ∙ v) in
     let full = leb-true s.opening.limit (length s.records) (k.sound.limited marked) in
-    let most = k.sound.at_most in
-    let limit = ap (λ o. o.limit) h.left.opening in
-    let none = ap (λ o. length o.records) h.left.opening in
-    let same = ap length k.records in
+    let most : length s.records ≤ max s.opening.limit (length s.opening.records) = k.sound.at_most in
+    let limit : s.opening.limit ≡ b.limit = ap (λ (o : Opening). o.limit) h.left.opening in
+    let count : length s.opening.records ≡ length first = ap (λ (o : Opening). length o.records) h.left.opening in
+    let same : length c.records ≡ length s.records = ap length k.records in
+    let begins = first-in h in
+    let longer : length c.records ≡ length first + length begins.0 = ap length begins.1 ∙ length-append first begins.0 in
     omega arith
 
 -- where nothing is missing
-pub holds-all : {p : Problem} {b : Bounds} {logs : List (List LogStep)} {c : Closing} → IsClosedFor p b logs c → c.verdict ≡ verdict.Complete → HoldsAll p c.records
+pub holds-all : {p : Problem} {first : List Record} {b : Bounds} {logs : List (List LogStep)} {c : Closing} → IsClosedFor p first b logs c → c.verdict ≡ verdict.Complete → HoldsAll p c.records
 holds-all {p} {c = c} h v =
     subst (HoldsAll p) (sym h.left.closing_is.records) (subst (λ q. HoldsAll q h.left.state.records) (of-problem h) (h.left.closing_is.all v))
 
@@ -122,11 +133,12 @@ by-status : (v : Verdict) (status n : ℕ) → (status ≢ 7 → status_by v ≡
 by-status v status n is same other = is (λ seven. other (sym same ∙ seven)) ∙ same
 
 -- what the logs and the closing tell
-pub enumerated : {p : Problem} {b : Bounds} {logs : List (List LogStep)} {c : Closing} → IsClosedFor p b logs c → c.verdict ≢ verdict.Memory
-    → (status : ℕ) → (status ≢ 7 → status_by c.verdict ≡ status) → IsEnumerated p b status logs c
+pub enumerated : {p : Problem} {first : List Record} {b : Bounds} {logs : List (List LogStep)} {c : Closing} → IsClosedFor p first b logs c → c.verdict ≢ verdict.Memory
+    → (status : ℕ) → (status ≢ 7 → status_by c.verdict ≡ status) → IsEnumerated p first b status logs c
 enumerated {c = c} h enough status is =
     record {
       closed = h;
+      begins = first-in h;
       minimal = held-minimal h;
       all = λ zero. holds-all h (complete_by c.verdict (by-status c.verdict status 0 is zero (omega arith)));
       verdict = is;
@@ -136,10 +148,10 @@ enumerated {c = c} h enough status is =
     }
 
 -- the report is written
-pub listed : (p : Problem) (b : Bounds) (logs : List (List LogStep)) (c : Closing) (text : List ℕ) (old new : Option (List ℕ))
-    → IsClosedFor p b logs c → c.verdict ≢ verdict.Memory → text ≡ report_for p c → ToldAppends old new text
-    → IsListed p b (status_by c.verdict) logs old new c
-listed p b logs c text old new h enough report got =
+pub listed : (p : Problem) (first : List Record) (b : Bounds) (logs : List (List LogStep)) (c : Closing) (text : List ℕ) (old new : Option (List ℕ))
+    → IsClosedFor p first b logs c → c.verdict ≢ verdict.Memory → text ≡ report_for p c → ToldAppends old new text
+    → IsListed p first b (status_by c.verdict) logs old new c
+listed p first b logs c text old new h enough report got =
     record {
       enumerated = enumerated h enough (status_by c.verdict) (λ _. refl);
       whole = λ zero. subst (ToldAppends old new) (report ∙ whole-text p c zero) got;
@@ -148,10 +160,10 @@ listed p b logs c text old new h enough report got =
     }
 
 -- a front part of it is written
-pub listed-in_part : (p : Problem) (b : Bounds) (logs : List (List LogStep)) (c : Closing) (text : List ℕ) (old new : Option (List ℕ))
-    → IsClosedFor p b logs c → c.verdict ≢ verdict.Memory → text ≡ report_for p c → ToldGrowsWithin old new text
-    → IsListed p b 7 logs old new c
-listed-in_part p b logs c text old new h enough report got =
+pub listed-in_part : (p : Problem) (first : List Record) (b : Bounds) (logs : List (List LogStep)) (c : Closing) (text : List ℕ) (old new : Option (List ℕ))
+    → IsClosedFor p first b logs c → c.verdict ≢ verdict.Memory → text ≡ report_for p c → ToldGrowsWithin old new text
+    → IsListed p first b 7 logs old new c
+listed-in_part p first b logs c text old new h enough report got =
     record {
       enumerated = enumerated h enough 7 (λ other. absurd (other refl));
       whole = λ zero. absurd (omega arith);

@@ -1,5 +1,5 @@
 -- What a drilling that is over tells, by the status that it ends with.
-use Rattle.std.proofs.Common.{◌≡◌, ◌≢◌, ℕ, List, length, Option, refl, sym, ◌∙◌, ap, ap₂, subst, arith}
+use Rattle.std.proofs.Common.{◌≡◌, ◌≢◌, ℕ, List, [], length, Option, refl, sym, ◌∙◌, ap, ap₂, subst, arith}
 use Rattle.std.proofs.lemmas.Bool.{false≢true}
 use Rattle.std.proofs.lemmas.List.Sorted.{length_permutation}
 use Rattle.gm_base.specs.Problem.{Problem, IsProblem}
@@ -18,7 +18,7 @@ use Rattle.gm_tool.proofs.ReportLemmas.{of-problem, accepted-in, distinct-in}
 use Rattle.gm_tool.proofs.ClosedLemmas.{complete_by, enumerated, holds-all, never-7}
 
 -- where nothing is missing, as many are held as there are
-full_counts-from : {p : Problem} {b : Bounds} {logs : List (List LogStep)} {c : Closing} → IsClosedFor p b logs c → c.verdict ≡ verdict.Complete
+full_counts-from : {p : Problem} {first : List Record} {b : Bounds} {logs : List (List LogStep)} {c : Closing} → IsClosedFor p first b logs c → c.verdict ≡ verdict.Complete
     → held_counts p c.records ≡ full_counts p
 full_counts-from {p} {c = c} h v =
     let all = held-exactly_all p c.records ok (accepted-in h) (distinct-in h) (holds-all h v) in
@@ -38,7 +38,7 @@ counts-from groups p records made line count is written =
 
 -- the line is written
 pub drilled : (p : Problem) (b : Bounds) (logs : List (List LogStep)) (c : Closing) (text : List ℕ) (old new : Option (List ℕ))
-    → IsClosedFor p b logs c → c.verdict ≢ verdict.Memory → text ≡ held_counts p c.records → ToldAppends old new text
+    → IsClosedFor p [] b logs c → c.verdict ≢ verdict.Memory → text ≡ held_counts p c.records → ToldAppends old new text
     → IsDrilled p b (status_by c.verdict) logs old new c
 drilled p b logs c text old new h enough line got =
     record {
@@ -50,7 +50,7 @@ drilled p b logs c text old new h enough line got =
 
 -- a front part of it is written
 pub drilled-in_part : (p : Problem) (b : Bounds) (logs : List (List LogStep)) (c : Closing) (text : List ℕ) (old new : Option (List ℕ))
-    → IsClosedFor p b logs c → c.verdict ≢ verdict.Memory → text ≡ held_counts p c.records → ToldGrowsWithin old new text
+    → IsClosedFor p [] b logs c → c.verdict ≢ verdict.Memory → text ≡ held_counts p c.records → ToldGrowsWithin old new text
     → IsDrilled p b 7 logs old new c
 drilled-in_part p b logs c text old new h enough line got =
     record {

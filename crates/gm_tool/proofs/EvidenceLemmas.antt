@@ -5,6 +5,7 @@ use Rattle.std.specs.List.{AllByRecursion}
 use Rattle.sat_base.specs.Derivation.{Derivation, HasIds}
 use Rattle.gm_base.specs.Problem.{Problem}
 use Rattle.gm_ports.specs.FilesState.{FilesState, ReadingLeaves, WritingLeaves, StaysAsTold}
+use Rattle.gm_ports.proofs.ToldLemmas.{ReadingLeaves-then}
 use Rattle.gcnf_text.specs.Grammar.{Reads}
 use Rattle.lrat_steps.specs.Log.{LogStep}
 use Rattle.evidence_rec.specs.declared.record.Record.{Record}
@@ -49,7 +50,7 @@ end-readable : (p : Problem) (rs : List Record) (o : Option Derivation) → IfSo
 end-readable p rs None shows ids = tt
 end-readable p rs (Some d) shows ids = closing-readable p (founds rs) d shows ids
 
-pub valid-from : {p : Problem} {b : Bounds} {logs : List (List LogStep)} (closing : Closing) → IsClosedFor p b logs closing
+pub valid-from : {p : Problem} {first : List Record} {b : Bounds} {logs : List (List LogStep)} (closing : Closing) → IsClosedFor p first b logs closing
     → AllByRecursion HasRecordIds closing.records → IfSome closing.proof HasIds → IsValid p closing
 valid-from {p} closing h ids small = record {
   closing = closing.proof;
@@ -126,11 +127,11 @@ evidence-front p (Some name) files Gets finish closing is seven valid front line
 -- ---- a file that is read, and then evidence that may be written
 
 -- what is left unread is told still where nothing was written
-pub read-for : (held : Option (Option (List ℕ))) (p : Problem) (asked : Option (List ℕ)) (mid new : FilesState)
-    → OfFile held (λ text. IsReadAs p mid.unread text) → (asked ≡ None → new ≡ mid) → OfFile held (IsReadFor asked p new.unread)
-read-for None p asked mid new h same = tt
-read-for (Some None) p asked mid new h same = h
-read-for (Some (Some text)) p asked mid new h same = (h.0, λ none. ap (λ (f : FilesState). f.unread) (same none) ∙ h.1)
+pub read-for : (held : Option (Option (List ℕ))) (p : Problem) (asked resume : Option (List ℕ)) (mid new : FilesState)
+    → OfFile held (λ text. IsReadAs p mid.unread text) → (asked ≡ None → resume ≡ None → new ≡ mid) → OfFile held (IsReadFor asked resume p new.unread)
+read-for None p asked resume mid new h same = tt
+read-for (Some None) p asked resume mid new h same = h
+read-for (Some (Some text)) p asked resume mid new h same = (h.0, λ none nowhere. ap (λ (f : FilesState). f.unread) (same none nowhere) ∙ h.1)
 
 pub read-alone : (held : Option (Option (List ℕ))) (p : Problem) (unread : Option (List ℕ)) → OfFile held (λ text. IsReadAs p unread text)
     → OfFile held (λ text. Reads text p)
@@ -145,6 +146,6 @@ names-read asked old mid new n reads writes other =
     subst (λ held. StaysAsTold (held n) (new.held n)) reads.names (writes.names n other)
 
 pub begun-read : (held : Option (Option (List ℕ))) (p : Problem) (old mid new : FilesState) → ReadingLeaves old mid → OfFile held (λ text. IsReadAs p mid.unread text)
-    → (new ≡ mid) ⊎ IsBegun p new → LeavesBegun held old new
-begun-read held p old mid new reads ok (inl same) = inl (subst (ReadingLeaves old) (sym same) reads)
+    → ReadingLeaves mid new ⊎ IsBegun p new → LeavesBegun held old new
+begun-read held p old mid new reads ok (inl more) = inl (ReadingLeaves-then old mid new reads more)
 begun-read held p old mid new reads ok (inr begun) = inr (p, read-alone held p mid.unread ok, begun)

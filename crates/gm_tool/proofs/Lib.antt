@@ -6,3 +6,4 @@ pub mod RunLemmas
 pub mod CheckLemmas
 pub mod WritingLemmas
 pub mod EvidenceLemmas
+pub mod ResumeLemmas

@@ -5,6 +5,7 @@ use Rattle.std.specs.List.{AllByRecursion}
 use Rattle.gm_base.specs.Problem.{Problem, IsProblem}
 use Rattle.lrat_steps.specs.Log.{LogStep}
 use Rattle.report_text.specs.Reports.{IsReportOf}
+use Rattle.evidence_rec.specs.declared.record.Record.{Record}
 use Rattle.evidence_rec.specs.Records.{IsAccepted}
 use Rattle.map_core.specs.declared.entry.Opening.{Opening}
 use Rattle.map_core.specs.declared.closing.Verdict.{Verdict}
@@ -17,12 +18,12 @@ use Rattle.gm_tool.specs.Closed.{IsClosedFor, conflicts_in, corrections_in, is_c
 use Rattle.gm_tool.proofs.OrderLemmas.{records_report, held_report-from, full_report-from}
 
 -- the problem is the one that the enumeration was opened with
-pub of-problem : {p : Problem} {b : Bounds} {logs : List (List LogStep)} {closing : Closing} (h : IsClosedFor p b logs closing)
+pub of-problem : {p : Problem} {first : List Record} {b : Bounds} {logs : List (List LogStep)} {closing : Closing} (h : IsClosedFor p first b logs closing)
     → h.left.state.opening.problem ≡ p
 of-problem h = ap (λ (o : Opening). o.problem) h.left.opening
 
 -- the report of the minimal sets that are held is that of an enumeration with this verdict
-report-by : {p : Problem} {b : Bounds} {logs : List (List LogStep)} {closing : Closing} → IsClosedFor p b logs closing
+report-by : {p : Problem} {first : List Record} {b : Bounds} {logs : List (List LogStep)} {closing : Closing} → IsClosedFor p first b logs closing
     → (v : Verdict) → closing.verdict ≡ v
     → records_report p (is_complete v) closing.records ≡ (if is_complete v then full_report p else held_report p closing.records)
 report-by {p} {closing = closing} h verdict.Complete is =
@@ -33,20 +34,20 @@ report-by h verdict.Limit is = refl
 report-by h verdict.Budget is = refl
 
 -- the records are accepted, and no two are of one kind and one set
-pub accepted-in : {p : Problem} {b : Bounds} {logs : List (List LogStep)} {closing : Closing} → IsClosedFor p b logs closing
+pub accepted-in : {p : Problem} {first : List Record} {b : Bounds} {logs : List (List LogStep)} {closing : Closing} → IsClosedFor p first b logs closing
     → AllByRecursion (IsAccepted p) closing.records
 accepted-in {closing = closing} h =
     subst (λ q. AllByRecursion (IsAccepted q) closing.records) (of-problem h)
     (subst (AllByRecursion (IsAccepted h.left.state.opening.problem)) (sym h.left.closing_is.records) h.left.closing_is.sound.accepted)
 
-pub distinct-in : {p : Problem} {b : Bounds} {logs : List (List LogStep)} {closing : Closing} → IsClosedFor p b logs closing → AreNew [] closing.records
+pub distinct-in : {p : Problem} {first : List Record} {b : Bounds} {logs : List (List LogStep)} {closing : Closing} → IsClosedFor p first b logs closing → AreNew [] closing.records
 distinct-in h = subst (AreNew []) (sym h.left.closing_is.records) h.left.closing_is.sound.distinct
 
 -- the report of the records' sets is the closing's report
-pub report_for-from : (p : Problem) (b : Bounds) (logs : List (List LogStep)) (closing : Closing) (groups : ℕ) (text : List ℕ)
-    → IsClosedFor p b logs closing → groups ≡ p.groups
+pub report_for-from : (p : Problem) (first : List Record) (b : Bounds) (logs : List (List LogStep)) (closing : Closing) (groups : ℕ) (text : List ℕ)
+    → IsClosedFor p first b logs closing → groups ≡ p.groups
     → IsReportOf groups (is_complete closing.verdict) (conflicts_in closing.records) (corrections_in closing.records) text → text ≡ report_for p closing
-report_for-from p b logs closing groups text h count report =
+report_for-from p first b logs closing groups text h count report =
     held_report-from p (is_complete closing.verdict) closing.records text ok (accepted-in h) (distinct-in h)
     (subst (λ n. IsReportOf n (is_complete closing.verdict) (conflicts_in closing.records) (corrections_in closing.records) text) count report)
     ∙ report-by h closing.verdict refl

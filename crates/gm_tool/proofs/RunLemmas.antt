@@ -1,7 +1,8 @@
 -- What is said of a named file, said of the file that the words name.
-use Rattle.std.proofs.Common.{◌≡◌, ◌≢◌, ◌⊎◌, ℕ, List, [], ◌∷◌, Bool, true, false, Option, Some, None, is_some, ◌==◌, inl, inr, arith, ap, ap₂, sym, subst, refl, ◌∙◌}
+use Rattle.std.proofs.Common.{◌≡◌, ◌≢◌, ◌⊎◌, ℕ, List, [], ◌∷◌, Bool, true, false, Option, Some, None, is_some, ◌==◌, inl, inr, ap, ap₂, sym, subst, refl, ◌∙◌}
 use Rattle.std.specs.Prelude.{MatchOption}
 use Rattle.std.proofs.lemmas.Bool.{true≢false, false≢true, eqb-true}
+use Rattle.evidence_rec.specs.declared.record.Record.{Record}
 use Rattle.map_core.specs.declared.closing.Verdict.{Verdict}
 use Rattle.map_core.specs.declared.closing.Verdict.TheVariants as verdict
 use Rattle.gcnf_text.specs.Grammar.{Reads}
@@ -24,8 +25,9 @@ use Rattle.gm_tool.specs.Endings.{finish_of, status_by, report_cut_line, evidenc
 use Rattle.gm_tool.specs.Evidence.{TellsEvidence, LeavesBegun, IsReportFault, IsEvidenceFault}
 use Rattle.gm_tool.specs.Input.{OfFile, IsReadFor}
 use Rattle.gm_tool.specs.Listing.{IsAfterwards, IsAmong, TellsListing}
+use Rattle.gm_tool.specs.Resuming.{GoesOnFrom}
 use Rattle.gm_tool.proofs.EvidenceLemmas.{evidence-told}
-use Rattle.gm_tool.specs.Run.{OfNamed, IsToldFile, IsStatus, TellsAccepted, bounds_for, file_asked}
+use Rattle.gm_tool.specs.Run.{OfNamed, IsToldFile, IsStatus, AreAccepted, bounds_for, file_asked}
 
 pub named-from : (asked : Asked) (words : Option Asked) (name : List ℕ) (files : FilesState) (P : List ℕ → Type 0)
     → Some asked ≡ words → file_asked (Some asked) ≡ Some name → OfFile (files.held name) P → OfNamed words files P
@@ -82,6 +84,9 @@ pub checks-not_drills : (words : Option Asked) (c : Checking) (d : Drilling) →
 unfolding command_of
 checks-not_drills words c d is asked = true≢false (ap (λ (w : Option Asked). command_of w == 2) (is ∙ asked))
 
+pub not_named : (name : List ℕ) → Some name ≡ None → ⊥
+not_named name is = cc
+
 -- words that ask for a listing or a checking name a file
 pub names_file : (words : Option Asked) (asked : Asked) (name : List ℕ) → Some asked ≡ words → file_asked (Some asked) ≡ Some name → file_asked words ≡ None → ⊥
 names_file words asked name is named none = let never : Some name ≡ None = sym named ∙ ap file_asked is ∙ none in cc
@@ -100,15 +105,17 @@ told None P Q p q = absurd p
 told (Some None) P Q p q = absurd p
 told (Some (Some text)) P Q p q = (text, p, q)
 
-pub listing-from : (files : FilesState) (k l : Listing) (b : Bounds) (asked : Option (List ℕ)) (mine last : FilesState) (old new got : Option (List ℕ))
+pub listing-from : (files : FilesState) (k l : Listing) (b : Bounds) (asked resume : Option (List ℕ)) (mine last : FilesState) (old new got : Option (List ℕ))
     (Gets Has : List ℕ → Type 0) (finish answer : Finish)
-    → k ≡ l → b ≡ bounds_for k → asked ≡ k.evidence → last ≡ mine → got ≡ new → answer ≡ finish → ((line : List ℕ) → Gets line → Has line)
-    → (IsAfterwards finish.status → (p : Problem) × OfFile (files.held k.file) (IsReadFor asked p mine.unread) × TellsListing p b old new finish × TellsEvidence p asked mine Gets finish)
+    → k ≡ l → b ≡ bounds_for k → asked ≡ k.evidence → resume ≡ k.resume → last ≡ mine → got ≡ new → answer ≡ finish → ((line : List ℕ) → Gets line → Has line)
+    → (IsAfterwards finish.status → (p : Problem) × (first : List Record) × OfFile (files.held k.file) (IsReadFor asked resume p mine.unread)
+    × GoesOnFrom p resume files.held first × TellsListing p first b old new finish × TellsEvidence p asked mine Gets finish)
     → IsAfterwards answer.status
-    → (p : Problem) × OfFile (files.held l.file) (IsReadFor l.evidence p last.unread) × TellsListing p (bounds_for l) old got answer × TellsEvidence p l.evidence last Has answer
-listing-from files k l b asked mine last old new got Gets Has finish answer same bounds asks m n f line h =
+    → (p : Problem) × (first : List Record) × OfFile (files.held l.file) (IsReadFor l.evidence l.resume p last.unread)
+    × GoesOnFrom p l.resume files.held first × TellsListing p first (bounds_for l) old got answer × TellsEvidence p l.evidence last Has answer
+listing-from files k l b asked resume mine last old new got Gets Has finish answer same bounds asks goes m n f line h =
     rw (← same, m, n, f)
-    (rw (← bounds, ← asks) (λ after. let t = h after in (t.0, t.1, t.2, evidence-told t.0 asked mine Gets Has finish line t.3)))
+    (rw (← bounds, ← asks, ← goes) (λ after. let t = h after in (t.0, t.1, t.2, t.3, t.4, evidence-told t.0 asked mine Gets Has finish line t.5)))
 
 pub begun-from : (files : FilesState) (k l : Listing) (mine last : FilesState) (finish answer : Finish) → k ≡ l → last ≡ mine → answer ≡ finish
     → (finish.status ≡ 8 → LeavesBegun (files.held k.file) files mine) → answer.status ≡ 8 → LeavesBegun (files.held l.file) files last
@@ -205,19 +212,14 @@ not_refused held P offence accepted refused =
     let (text, a, r) = told held (λ text. ((p : Problem) × Reads text p) × P text) (λ text. IsRefused text offence) accepted refused in
     r.unread a.0.0 a.0.1
 
-pub not_refused-alone : (held : Option (Option (List ℕ))) (offence : Offence)
-    → IsToldFile held (λ text. (p : Problem) × Reads text p) → OfFile held (λ text. IsRefused text offence) → ⊥
-not_refused-alone held offence accepted refused =
-    let (text, a, r) = told held (λ text. (p : Problem) × Reads text p) (λ text. IsRefused text offence) accepted refused in
-    r.unread a.0 a.1
-
 -- nor is evidence that has nothing to be refused for
-pub not_refused-evidence : (files : FilesState) (c : Checking) (p : Problem) (Gets : List ℕ → Type 0) → TellsAccepted (Some (checking c)) files
-    → OfFile (files.held c.file) (λ text. Reads text p) → IsEvidenceRefusal p (files.held c.evidence) Gets → ⊥
-not_refused-evidence files c p Gets accepted reads refusal =
-    let P : List ℕ → Type 0 = λ text. ((q : Problem) × Reads text q) × ((q : Problem) → Reads text q → IsToldFile (files.held c.evidence) (λ evidence. first_refusal q evidence ≡ None)) in
-    let (text, a, r) = told (files.held c.file) P (λ text. Reads text p) accepted reads in
-    let (evidence, none, some) = told (files.held c.evidence) (λ evidence. first_refusal p evidence ≡ None) (λ evidence. first_refusal p evidence ≡ Some refusal.refusal) (a.1 p r) refusal.first in
+pub not_refused-evidence : (held : List ℕ → Option (Option (List ℕ))) (file : List ℕ) (evidence : Option (List ℕ)) (name : List ℕ) (p : Problem) (Gets : List ℕ → Type 0)
+    → evidence ≡ Some name → AreAccepted held file evidence
+    → OfFile (held file) (λ text. Reads text p) → IsEvidenceRefusal p (held name) Gets → ⊥
+not_refused-evidence held file evidence name p Gets named accepted reads refusal =
+    let P : List ℕ → Type 0 = λ text. ((q : Problem) × Reads text q) × ((q : Problem) → Reads text q → IsToldFile (held name) (λ shown. first_refusal q shown ≡ None)) in
+    let (text, a, r) = told (held file) P (λ text. Reads text p) (subst (AreAccepted held file) named accepted) reads in
+    let (shown, none, some) = told (held name) (λ shown. first_refusal p shown ≡ None) (λ shown. first_refusal p shown ≡ Some refusal.refusal) (a.1 p r) refusal.first in
     false≢true (ap is_some (sym none ∙ some))
 
 -- bounds that have these parts

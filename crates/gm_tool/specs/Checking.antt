@@ -8,8 +8,8 @@ use Rattle.evidence_text.specs.declared.offence.Offence.{Offence}
 use Rattle.gm_audit.specs.Audits.{AuditYes}
 use Rattle.gm_audit.specs.Refusals.{first_refusal}
 use Rattle.gm_audit.specs.declared.answer.Audited.TheVariants as audited
-use Rattle.gm_tool.specs.declared.check_report.Judged.{Judged}
-use Rattle.gm_tool.specs.declared.check_report.Judged.TheVariants as judged
+use Rattle.gm_tool.specs.declared.judging.Judged.{Judged}
+use Rattle.gm_tool.specs.declared.judging.Judged.TheVariants as judged
 use Rattle.gm_tool.specs.declared.ending.Ending.{Ending}
 use Rattle.gm_tool.specs.declared.ending.Ending.TheVariants.{Memory}
 use Rattle.gm_tool.specs.Closed.{full_report, held_report}
@@ -37,7 +37,7 @@ pub record IsChecked (p : Problem) (held : Option (Option (List ℕ))) (status :
 -- what became of the evidence that is held under a name
 abbrev pub Judges : Problem → Option (Option (List ℕ)) → Judged → Type 0
 Judges p held (judged.Audited (audited.Yes complete records)) =
-    (text : List ℕ) × OfFile held (λ t. t ≡ text) × AuditYes p text records complete × (complete ≡ true → AreExactlyAll p records)
+    (text : List ℕ) × OfFile held (λ t. t ≡ text) × (first_refusal p text ≡ None) × AuditYes p text records complete × (complete ≡ true → AreExactlyAll p records)
 Judges p held (judged.Audited (audited.No line why)) = OfFile held (λ text. first_refusal p text ≡ Some (record { line = line; why = why }))
 Judges p held judged.Failed = Unit {0}
 Judges p held judged.Memory = Unit {0}

@@ -8,7 +8,6 @@ use Rattle.report_text.specs.Report.{report_text}
 use Rattle.lrat_steps.specs.Log.{LogStep, db_of}
 use Rattle.lrat_steps.specs.Undecided.{Undecided}
 use Rattle.evidence_rec.specs.declared.record.Record.{Record}
-use Rattle.evidence_rec.specs.declared.record.Record.TheVariants as record_of
 use Rattle.evidence_rec.specs.Records.{IsMinimal}
 pub use Rattle.evidence_rec.specs.Held.{conflicts_in, corrections_in}
 use Rattle.map_core.specs.declared.entry.Call.TheVariants.{Take}
@@ -27,18 +26,18 @@ use Rattle.worker_pool.specs.Course.{EndsUndecided}
 pub use Rattle.worker_pool.specs.Outcomes.{learned_in}
 use Rattle.worker_pool.specs.Outcomes as pool
 
--- as many workers as are wanted, no records yet, and a map that gives tops alone
-abbrev pub opening_for : Problem → Bounds → Opening
-opening_for p b = record { problem = p; records = []; workers = b.jobs; budget = b.conflicts; limit = b.limit; tops = true }
+-- these records first, as many workers as are wanted, and a map that gives tops alone
+abbrev pub opening_for : Problem → List Record → Bounds → Opening
+opening_for p first b = record { problem = p; records = first; workers = b.jobs; budget = b.conflicts; limit = b.limit; tops = true }
 
 -- what is left of a board that its history makes of this opening: an honest log of each worker, in their order, and last the
 -- map's, in which as much was learnt as the history says that was used
-pub record IsClosedFor (p : Problem) (b : Bounds) (logs : List (List LogStep)) (closing : Closing) : Type 0 where
-  pub left : pool.IsLeft (opening_for p b) logs closing
+pub record IsClosedFor (p : Problem) (first : List Record) (b : Bounds) (logs : List (List LogStep)) (closing : Closing) : Type 0 where
+  pub left : pool.IsLeft (opening_for p first b) logs closing
 
 -- the enumeration is closed, and its count is that of its logs
-pub record IsLeft (p : Problem) (b : Bounds) (left : Enumerated) : Type 0 where
-  pub closed : IsClosedFor p b left.logs left.closing
+pub record IsLeft (p : Problem) (first : List Record) (b : Bounds) (left : Enumerated) : Type 0 where
+  pub closed : IsClosedFor p first b left.logs left.closing
   pub spent : left.spent ≡ learned_in left.logs
 
 -- the report of all minimal conflicts and all minimal corrections of a problem

@@ -1,5 +1,5 @@
 -- What a drilling tells of its case, by the status that it ends with.
-use Rattle.std.specs.Prelude.{◌≡◌, ℕ, List, length, ◌++◌, codes, decimal, Option, MatchOption}
+use Rattle.std.specs.Prelude.{◌≡◌, ℕ, List, [], length, ◌++◌, codes, decimal, Option, MatchOption}
 use Rattle.gm_base.specs.Problem.{Problem}
 use Rattle.gm_base.specs.Minimal.{conflicts, corrections}
 use Rattle.gm_ports.specs.Told.{ToldAppends, ToldGrowsWithin}
@@ -35,7 +35,7 @@ held_counts p records = drill_line p.groups (length (conflicts_in records)) (len
 
 -- what the report's sink got: the line of all, or of what is held, and nothing else; or a front part of it
 pub record IsDrilled (p : Problem) (b : Bounds) (status : ℕ) (logs : List (List LogStep)) (old new : Option (List ℕ)) (closing : Closing) : Type 0 where
-  pub enumerated : IsEnumerated p b status logs closing
+  pub enumerated : IsEnumerated p [] b status logs closing
   pub whole : status ≡ 0 → ToldAppends old new (full_counts p)
   pub partial : IsPartial status → ToldAppends old new (held_counts p closing.records)
   pub cut_off : status ≡ 7 → ToldGrowsWithin old new (held_counts p closing.records)

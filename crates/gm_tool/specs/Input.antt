@@ -16,9 +16,9 @@ OfFile (Some (Some text)) P = P text
 abbrev pub IsReadAs : GroupedClauses → Option (List ℕ) → List ℕ → Type 0
 IsReadAs p unread text = Reads text p × (unread ≡ Some [])
 
--- the same; but what is left of it is told only where no output was opened behind it
-abbrev pub IsReadFor : Option (List ℕ) → GroupedClauses → Option (List ℕ) → List ℕ → Type 0
-IsReadFor evidence p unread text = Reads text p × (evidence ≡ None → unread ≡ Some [])
+-- the same; but what is left of it is told only where no other file was opened behind it
+abbrev pub IsReadFor : Option (List ℕ) → Option (List ℕ) → GroupedClauses → Option (List ℕ) → List ℕ → Type 0
+IsReadFor evidence resume p unread text = Reads text p × (evidence ≡ None → resume ≡ None → unread ≡ Some [])
 
 -- what an answer says of the text, and of what is left of it unread
 abbrev pub TellsInput : List ℕ → Option (List ℕ) → Read → Type 0

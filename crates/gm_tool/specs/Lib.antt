@@ -4,6 +4,7 @@ pub mod Lines
 pub mod Closed
 pub mod Endings
 pub mod Input
+pub mod Resuming
 pub mod Evidence
 pub mod Listing
 pub mod Drilling

@@ -1,5 +1,5 @@
 -- What the status of a run tells of the words, of the file that they name, and of what was written.
-use Rattle.std.specs.Prelude.{◌≡◌, ◌⊎◌, ℕ, List, [], ◌∷◌, Option, Some, None, MatchOption, ⊤}
+use Rattle.std.specs.Prelude.{◌≡◌, ◌≢◌, ◌⊎◌, ℕ, List, [], ◌∷◌, Option, Some, None, MatchOption, IfSome, ⊤}
 use Rattle.gm_base.specs.Problem.{Problem}
 use Rattle.gm_ports.specs.Faults.{Rose}
 use Rattle.gm_ports.specs.FilesState.{FilesState}
@@ -7,9 +7,10 @@ use Rattle.gm_ports.specs.Told.{ToldAppends, ToldGrowsWithin}
 use Rattle.gcnf_text.specs.declared.offence.Offence.{Offence}
 use Rattle.gcnf_text.specs.Grammar.{Reads}
 use Rattle.gcnf_text.specs.Read.{IsRefused}
-use Rattle.gm_words.specs.Reading.{Asked, Listing, Checking, listing, checking, drilling}
+use Rattle.gm_words.specs.Reading.{Asked, Listing, listing, checking, drilling}
 use Rattle.gm_audit.specs.Refusals.{first_refusal}
 use Rattle.gm_tool.specs.declared.enumeration.Bounds.{Bounds}
+use Rattle.gm_tool.specs.Checking.{IsEvidenceRefusal}
 use Rattle.gm_tool.specs.Drilling.{drill_bounds}
 use Rattle.gm_tool.specs.Input.{OfFile}
 use Rattle.gm_tool.specs.Listing.{IsAmong}
@@ -43,6 +44,13 @@ evidence_asked (Some (listing l)) = l.evidence
 evidence_asked (Some (checking c)) = None
 evidence_asked (Some (drilling d)) = None
 
+-- the name of the evidence that is read: what a listing goes on from, or what is checked
+abbrev pub evidence_read : Option Asked → Option (List ℕ)
+evidence_read None = None
+evidence_read (Some (listing l)) = l.resume
+evidence_read (Some (checking c)) = Some c.evidence
+evidence_read (Some (drilling d)) = None
+
 -- a fact of the file that the words name: it is vacuous where the file is not told, and false where the words name none
 abbrev pub OfNamed : Option Asked → FilesState → (List ℕ → Type 0) → Type 0
 OfNamed words files P = MatchOption (file_asked words) ⊥ (λ name. OfFile (files.held name) P)
@@ -51,23 +59,34 @@ OfNamed words files P = MatchOption (file_asked words) ⊥ (λ name. OfFile (fil
 abbrev pub IsToldFile : Option (Option (List ℕ)) → (List ℕ → Type 0) → Type 0
 IsToldFile held P = MatchOption held ⊥ (λ file. MatchOption file ⊥ P)
 
--- the file that the words name is told, and is a text of some problem; and evidence, where they name some, has nothing that
--- it is refused for. A drilling names none
+-- the file is told, and is a text of some problem; and the evidence, where some is named, is told, and has nothing that it is
+-- refused for
+abbrev pub AreAccepted : (List ℕ → Option (Option (List ℕ))) → List ℕ → Option (List ℕ) → Type 0
+AreAccepted held file evidence =
+    IsToldFile (held file)
+    (λ text. ((p : Problem) × Reads text p)
+    × ((p : Problem) → Reads text p → IfSome evidence (λ name. IsToldFile (held name) (λ shown. first_refusal p shown ≡ None))))
+
+-- so are the file and the evidence that the words name. A drilling names none
 abbrev pub TellsAccepted : Option Asked → FilesState → Type 0
 TellsAccepted None files = ⊥
-TellsAccepted (Some (listing l)) files = IsToldFile (files.held l.file) (λ text. (p : Problem) × Reads text p)
-TellsAccepted (Some (checking c)) files =
-    IsToldFile (files.held c.file)
-    (λ text. ((p : Problem) × Reads text p)
-    × ((p : Problem) → Reads text p → IsToldFile (files.held c.evidence) (λ evidence. first_refusal p evidence ≡ None)))
+TellsAccepted (Some (listing l)) files = AreAccepted files.held l.file l.resume
+TellsAccepted (Some (checking c)) files = AreAccepted files.held c.file (Some c.evidence)
 TellsAccepted (Some (drilling d)) files = ⊤
 
--- the words ask for a checking, and the file that it names is a text of some problem
-pub record ChecksAccepted (words : Option Asked) (files : FilesState) : Type 0 where
-  pub asked : Checking
-  pub words_are : words ≡ Some (checking asked)
+-- the words name evidence to be read, and their file is a text of some problem
+pub record ReadsEvidence (words : Option Asked) (files : FilesState) : Type 0 where
+  pub named : evidence_read words ≢ None
   pub problem : Problem
-  pub reads : OfFile (files.held asked.file) (λ text. Reads text problem)
+  pub reads : OfNamed words files (λ text. Reads text problem)
+
+-- the words name evidence to be read, which is refused of the problem that their file is a text of
+pub record RefusesEvidence (words : Option Asked) (files : FilesState) (Gets : List ℕ → Type 0) : Type 0 where
+  pub name : List ℕ
+  pub named : evidence_read words ≡ Some name
+  pub problem : Problem
+  pub reads : OfNamed words files (λ text. Reads text problem)
+  pub refusal : IsEvidenceRefusal problem (files.held name) Gets
 
 -- the sink got this line and nothing else, or a front part of it where its count of faults rose
 abbrev pub GetsLine : List ℕ → Option (List ℕ) → Option (List ℕ) → ℕ → ℕ → Type 0

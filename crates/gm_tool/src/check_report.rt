@@ -7,7 +7,7 @@ ghost use Rattle.gcnf_text.specs.Grammar.{Reads};
 ghost use Rattle.gm_ports.specs.Told.{ToldAppends, ToldGrowsWithin};
 ghost use Rattle.gm_audit.specs.Audits.{AuditYes};
 ghost use Rattle.gm_tool.specs.declared.enumeration.Bounds.{Bounds};
-ghost use Rattle.gm_tool.specs.Checking.{IsChecked, IsEvidenceRefusal, IsRefusingEvidence, Judges, shown_report};
+ghost use Rattle.gm_tool.specs.Checking.{IsChecked, IsEvidenceRefusal, shown_report};
 ghost use Rattle.gm_tool.specs.Endings.{bare, error_line, finish_of, line_of, input_fault_line, evidence_fault_line};
 ghost use Rattle.gm_tool.specs.Evidence.{IsReportFault};
 ghost use Rattle.gm_tool.specs.Input.{OfFile};
@@ -17,47 +17,14 @@ ghost use Rattle.gm_tool.specs.Run.{IsRefusal, IsSilent, IsToldByStatus};
 use crate::ending::Ending;
 use crate::file_report::refuse;
 use crate::input::read_file;
+use crate::judging::{Judged, judge, refuse_evidence};
 use crate::records_report::report_of;
-use crate::refusal::line_of_evidence;
 use evidence_rec::Records;
 use gcnf_text::Read;
-use gm_audit::{Audited, audit};
+use gm_audit::Audited;
 use gm_base::Problem;
-use gm_ports::{Failed, Files, Reading, Sink, read_whole, write_all};
-use lrat_check::Why;
-use std::alloc::{AllocError, Global};
-
-/// How many bytes of evidence are read.
-const MAX_EVIDENCE: u64 = 2_147_483_648;
-
-/// What became of a file with evidence.
-#[derive(Drop)]
-enum Judged {
-    Audited(Audited),
-    Failed,
-    Memory,
-}
-
-/// Reads the evidence of this name and judges it. Its bytes are let go here.
-fn judge<F: Files>(alloc: Global, problem: &Problem, name: &str, files: &mut F) -> Judged
-    ensures judges { Judges problem.now ((F.state files.old).held name.now) result }
-    ensures cause { result ≡ Judged.Failed → Rose (F.state files.old).read_faults (F.state files.new).read_faults }
-    ensures quiet { result ≢ Judged.Failed → (F.state files.new).read_faults ≡ (F.state files.old).read_faults }
-    ensures leaves { ReadingLeaves (F.state files.old) (F.state files.new) }
-{
-    match read_whole(alloc, files, name, MAX_EVIDENCE) {
-        Reading::Whole(bytes) => match audit(alloc, problem, bytes.as_slice()) {
-            Ok(audited) => Judged::Audited(audited),
-            Err(AllocError) => Judged::Memory,
-        },
-        Reading::TooLong => Judged::Audited(Audited::No {
-            line: 0,
-            why: Why::TooLong,
-        }),
-        Reading::Failed => Judged::Failed,
-        Reading::Memory => Judged::Memory,
-    }
-}
+use gm_ports::{Failed, Files, Sink, write_all};
+use std::alloc::Global;
 
 // Writes the report of the sets that evidence shows.
 fn write_shown<O: Sink>(
@@ -84,16 +51,6 @@ fn write_shown<O: Sink>(
     match write_all(out, text.as_slice()) {
         Ok(()) => Ending::Checked,
         Err(Failed) => Ending::CheckCutOff,
-    }
-}
-
-// Ends with the line of a refusal.
-fn refuse_evidence(alloc: Global, line: u64, why: &Why) -> Ending
-    ensures { IsRefusingEvidence (record { line = line; why = why.now }) result }
-{
-    match line_of_evidence(alloc, line, why) {
-        Ok(line) => Ending::EvidenceRefused(line),
-        Err(AllocError) => Ending::Memory,
     }
 }
 

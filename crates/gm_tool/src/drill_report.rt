@@ -1,5 +1,5 @@
 //! The drilling: a listing of a case that two numbers make, of which only the counts are written.
-ghost use Rattle.std.specs.Prelude.{◌≡◌, ◌≢◌, ◌⊎◌, ◌<◌, ◌≤◌, IfOk, MatchOption};
+ghost use Rattle.std.specs.Prelude.{◌≡◌, ◌≢◌, ◌⊎◌, ◌<◌, ◌≤◌, [], IfOk, MatchOption};
 ghost use Rattle.gm_words.specs.Requests.{AreGoodJobs};
 ghost use Rattle.gm_words.specs.Reading.{greatest_size};
 ghost use Rattle.gcnf_text.specs.Chain.{made_case};
@@ -13,6 +13,7 @@ use crate::ending::Ending;
 use crate::enumeration::{Bounds, list_sets};
 use crate::file_report::{Prepared, line_by};
 use crate::records_report::counts_of;
+use evidence_rec::Records;
 use gcnf_text::make_case;
 use gm_base::Problem;
 use gm_ports::{Failed, Gate, Sink, write_all};
@@ -41,9 +42,9 @@ fn prepare<G: Gate, R: Threads + Wait + Sync>(
     gate: &G,
 ) -> Result<Prepared, AllocError>
     requires { AreGoodJobs bounds.jobs }
-    ensures { IfOk result (IsPrepared problem.now bounds (λ closing. held_counts problem.now closing.records)) }
+    ensures { IfOk result (IsPrepared problem.now [] bounds (λ closing. held_counts problem.now closing.records)) }
 {
-    let left = list_sets(rt, alloc, problem, bounds, gate)?;
+    let left = list_sets(rt, alloc, problem, Records::new(alloc), bounds, gate)?;
     let line = line_by(alloc, bounds, left.closing.verdict)?;
     let text = counts_of(alloc, problem.groups(), left.closing.records.as_slice())?;
     Ok(Prepared { line, text, left })

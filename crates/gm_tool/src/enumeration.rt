@@ -1,10 +1,13 @@
 //! The enumeration of a problem, from its beginning to what is left of it.
 ghost use Rattle.std.specs.Prelude.{◌≡◌, ◌<◌, ◌≤◌, All, IfOk, length};
+ghost use Rattle.std.specs.List.{AllByRecursion};
+ghost use Rattle.evidence_rec.specs.Records.{IsAccepted};
 ghost use Rattle.gm_words.specs.Requests.{AreGoodJobs};
 ghost use Rattle.worker_pool.specs.Workers.{IsFresh};
 ghost use Rattle.gm_tool.specs.Closed.{IsLeft};
+ghost use Rattle.gm_tool.specs.Resuming.{AreGoodFirst};
 
-use evidence_rec::Records;
+use evidence_rec::{Record, Records};
 use gm_base::Problem;
 use gm_ports::Gate;
 use group_oracle::GroupOracle;
@@ -35,25 +38,28 @@ pub struct Enumerated {
     pub closing: Closing,
 }
 
-/// Enumerates the minimal conflicts and minimal corrections of a problem, by as many workers as are wanted.
+/// Enumerates the minimal conflicts and minimal corrections of a problem, of which these are known at first, by as many
+/// workers as are wanted.
 pub fn list_sets<G: Gate, R: Threads + Wait + Sync>(
     rt: &R,
     alloc: Global,
     problem: &Problem,
+    first: Records,
     bounds: Bounds,
     gate: &G,
 ) -> Result<Enumerated, AllocError>
-    requires { AreGoodJobs bounds.jobs }
-    ensures { IfOk result (IsLeft problem.now bounds) }
+    requires jobs { AreGoodJobs bounds.jobs }
+    requires first { AreGoodFirst problem.now first }
+    ensures { IfOk result (IsLeft problem.now first bounds) }
 {
     let _groups = problem.groups(); // The problem is well-formed.
-    let oracles = fresh_oracles(alloc, problem, bounds.jobs)?;
+    let oracles = fresh_oracles(alloc, problem, first.as_slice(), bounds.jobs)?;
     let map = PowerMap::new(alloc, problem.groups())?;
     let outcome = enumerate(
         rt,
         alloc,
         problem,
-        Records::new(alloc),
+        first,
         oracles,
         map,
         bounds.conflicts,
@@ -76,27 +82,45 @@ pub fn list_sets<G: Gate, R: Threads + Wait + Sync>(
     })
 }
 
-// An oracle for each worker, which remembers what it was answered.
+// An oracle for each worker, which remembers these records and what it is answered.
 fn fresh_oracles(
     alloc: Global,
     problem: &Problem,
+    first: &[Record],
     count: u32,
 ) -> Result<Vec<KnownSets<GroupOracle>>, AllocError>
+    requires { AllByRecursion (IsAccepted problem.now) first.now }
     ensures count { IfOk result (λ oracles. length oracles.items ≡ count) }
     ensures fresh { IfOk result (λ oracles. All (λ o. IsFresh problem.now o) oracles.items) }
 {
     let mut oracles = Vec::with_capacity(alloc, count as usize)?;
     for _ in 0..count {
-        let oracle = fresh_oracle(alloc, problem)?;
+        let oracle = fresh_oracle(alloc, problem, first)?;
         oracles.push(oracle)?;
     }
     Ok(oracles)
 }
 
-fn fresh_oracle(alloc: Global, problem: &Problem) -> Result<KnownSets<GroupOracle>, AllocError>
+fn fresh_oracle(
+    alloc: Global,
+    problem: &Problem,
+    first: &[Record],
+) -> Result<KnownSets<GroupOracle>, AllocError>
+    requires { AllByRecursion (IsAccepted problem.now) first.now }
     ensures { IfOk result (IsFresh problem.now) }
 {
     let solver = GroupOracle::new(alloc, problem)?;
-    let oracle = KnownSets::new(alloc, problem, solver)?;
+    let mut oracle = KnownSets::new(alloc, problem, solver)?;
+    know_all(alloc, &mut oracle, first);
     Ok(oracle)
+}
+
+// Tells an oracle what is known at first.
+fn know_all(alloc: Global, oracle: &mut KnownSets<GroupOracle>, first: &[Record])
+    requires { AllByRecursion (IsAccepted oracle.old.problem) first.now }
+    ensures { oracle.new ≡ oracle.old }
+{
+    for found in first {
+        oracle.know(alloc, found);
+    }
 }

@@ -1,5 +1,5 @@
 //! The listing of a named file.
-ghost use Rattle.std.specs.Prelude.{◌≡◌, ◌≢◌, ◌⊎◌, ℕ, List, Some, None, IfOk, IfErr, IfSome, OnOk, OnErr};
+ghost use Rattle.std.specs.Prelude.{◌≡◌, ◌≢◌, ◌⊎◌, ℕ, List, [], ◌∷◌, Some, None, IfOk, IfErr, IfSome, OnOk, OnErr};
 ghost use Rattle.std.specs.List.{AllByRecursion};
 ghost use Rattle.sat_base.specs.Derivation.{HasIds};
 ghost use Rattle.gm_ports.specs.Faults.{Rose};
@@ -7,12 +7,16 @@ ghost use Rattle.gm_ports.specs.FilesState.{ReadingLeaves, WritingLeaves, StaysA
 ghost use Rattle.evidence_text.specs.Readable.{HasRecordIds};
 ghost use Rattle.gm_words.specs.Requests.{AreGoodJobs, text_of};
 ghost use Rattle.gm_base.specs.Problem.{Problem as GroupedClauses};
+ghost use Rattle.gcnf_text.specs.Grammar.{Reads};
+ghost use Rattle.evidence_rec.specs.declared.record.Record.{Record as KnownSet};
 ghost use Rattle.gm_tool.specs.Closed.{is_complete, learned_in, report_for};
-ghost use Rattle.gm_tool.specs.Endings.{error_line, finish_of, line_of, status_by};
+ghost use Rattle.gm_tool.specs.Checking.{IsEvidenceRefusal};
+ghost use Rattle.gm_tool.specs.Endings.{bare, error_line, evidence_fault_line, finish_of, input_fault_line, line_of, status_by};
 ghost use Rattle.gm_tool.specs.Evidence.{evidence_of, TellsEvidence, IsBegun, LeavesBegun, IsReportFault, IsEvidenceFault};
 ghost use Rattle.gm_tool.specs.Input.{OfFile, IsReadFor};
-ghost use Rattle.gm_tool.specs.Listing.{IsAfterwards, IsPrepared, IsRefusing, TellsListing};
-ghost use Rattle.gm_tool.specs.Run.{IsBefore, IsRefusal, IsSilent};
+ghost use Rattle.gm_tool.specs.Listing.{IsAfterwards, IsAmong, IsPrepared, IsRefusing, TellsListing};
+ghost use Rattle.gm_tool.specs.Resuming.{AreGoodFirst, GoesOnFrom};
+ghost use Rattle.gm_tool.specs.Run.{IsBefore, IsRefusal, IsSilent, IsToldByStatus};
 ghost use Rattle.gm_tool.specs.Writing.{CutHasCause, IsWritten, IsFront};
 
 use crate::bounds_line::{line_of_budget, line_of_limit};
@@ -20,10 +24,13 @@ use crate::ending::Ending;
 use crate::enumeration::{Bounds, Enumerated, list_sets};
 use crate::evidence_file::{CutOff, write_evidence};
 use crate::input::read_file;
+use crate::judging::{Judged, judge, refuse_evidence};
 use crate::record_ids::ids_fit;
 use crate::records_report::report_of;
 use crate::refusal::line_of_refusal;
+use evidence_rec::Records;
 use gcnf_text::{Offence, Read};
+use gm_audit::Audited;
 use gm_base::Problem;
 use gm_ports::{Failed, Files, Gate, Sink, write_all};
 use map_core::{Closing, Verdict};
@@ -64,13 +71,15 @@ fn prepare<G: Gate, R: Threads + Wait + Sync>(
     rt: &R,
     alloc: Global,
     problem: &Problem,
+    first: Records,
     bounds: Bounds,
     gate: &G,
 ) -> Result<Prepared, AllocError>
-    requires { AreGoodJobs bounds.jobs }
-    ensures { IfOk result (IsPrepared problem.now bounds (report_for problem.now)) }
+    requires jobs { AreGoodJobs bounds.jobs }
+    requires first { AreGoodFirst problem.now first }
+    ensures { IfOk result (IsPrepared problem.now first bounds (report_for problem.now)) }
 {
-    let left = list_sets(rt, alloc, problem, bounds, gate)?;
+    let left = list_sets(rt, alloc, problem, first, bounds, gate)?;
     let line = line_by(alloc, bounds, left.closing.verdict)?;
     let text = report_of(
         alloc,
@@ -107,20 +116,23 @@ fn write_asked<F: Files>(
     write_evidence(alloc, problem, records, closing.proof.as_ref(), name, files)
 }
 
-/// Writes the report of a problem, and before it the evidence, where it is asked for.
+/// Writes the report of a problem of which these records are known at first, and before it the evidence, where it is asked
+/// for.
 fn list_problem<F: Files, O: Sink, G: Gate, R: Threads + Wait + Sync>(
     rt: &R,
     alloc: Global,
     problem: &Problem,
+    first: Records,
     bounds: Bounds,
     evidence: Option<&str>,
     files: &mut F,
     out: &mut O,
     gate: &G,
 ) -> Ending
-    requires { AreGoodJobs bounds.jobs }
+    requires jobs { AreGoodJobs bounds.jobs }
+    requires first { AreGoodFirst problem.now first }
     ensures statuses { ((finish_of result).status ≡ 8) ⊎ IsAfterwards (finish_of result).status }
-    ensures listing { IsAfterwards (finish_of result).status → TellsListing problem.now bounds (O.got out.old) (O.got out.new) (finish_of result) }
+    ensures listing { IsAfterwards (finish_of result).status → TellsListing problem.now first bounds (O.got out.old) (O.got out.new) (finish_of result) }
     ensures evidence { IsAfterwards (finish_of result).status → TellsEvidence problem.now (text_of evidence.entry) (F.state files.new) (λ line. line_of result ≡ line) (finish_of result) }
     ensures begun { (finish_of result).status ≡ 8 → (F.state files.new ≡ F.state files.old) ⊎ IsBegun problem.now (F.state files.new) }
     ensures cause { (finish_of result).status ≡ 7 → IsReportFault (λ line. line_of result ≡ line) (O.faults out.old) (O.faults out.new)
@@ -133,7 +145,7 @@ fn list_problem<F: Files, O: Sink, G: Gate, R: Threads + Wait + Sync>(
     ensures unasked { text_of evidence.entry ≡ None → F.state files.new ≡ F.state files.old }
     ensures leaves { WritingLeaves (λ n. text_of evidence.entry ≡ Some n) (F.state files.old) (F.state files.new) }
 {
-    let Ok(prepared) = prepare(rt, alloc, problem, bounds, gate) else {
+    let Ok(prepared) = prepare(rt, alloc, problem, first, bounds, gate) else {
         return Ending::Memory;
     };
     let Prepared { line, text, left } = prepared;
@@ -148,6 +160,64 @@ fn list_problem<F: Files, O: Sink, G: Gate, R: Threads + Wait + Sync>(
     }
 }
 
+/// Reads and judges the evidence that is to be gone on from, where some is named, and then writes the report of the problem,
+/// and before it the evidence, where it is asked for.
+fn list_from<F: Files, O: Sink, G: Gate, R: Threads + Wait + Sync>(
+    rt: &R,
+    alloc: Global,
+    problem: &Problem,
+    resume: Option<&str>,
+    bounds: Bounds,
+    evidence: Option<&str>,
+    files: &mut F,
+    out: &mut O,
+    gate: &G,
+) -> Ending
+    requires { AreGoodJobs bounds.jobs }
+    ensures statuses { IsAmong (0 ∷ 3 ∷ 4 ∷ 6 ∷ 7 ∷ 8 ∷ 9 ∷ []) (finish_of result).status }
+    ensures listing { IsAfterwards (finish_of result).status → (first : List KnownSet) × GoesOnFrom problem.now (text_of resume.entry) (F.state files.old).held first
+        × TellsListing problem.now first bounds (O.got out.old) (O.got out.new) (finish_of result) }
+    ensures evidence { IsAfterwards (finish_of result).status → TellsEvidence problem.now (text_of evidence.entry) (F.state files.new) (λ line. line_of result ≡ line) (finish_of result) }
+    ensures refused { (finish_of result).status ≡ 9 → (name : List ℕ) × (text_of resume.entry ≡ Some name)
+        × IsEvidenceRefusal problem.now ((F.state files.old).held name) (λ line. line_of result ≡ line) }
+    ensures read_fault { (finish_of result).status ≡ 6 → Rose (F.state files.old).read_faults (F.state files.new).read_faults }
+    ensures fault_line { (finish_of result).status ≡ 6 → (line_of result ≡ evidence_fault_line) × (text_of resume.entry ≢ None) }
+    ensures begun { (finish_of result).status ≡ 8 → ReadingLeaves (F.state files.old) (F.state files.new) ⊎ IsBegun problem.now (F.state files.new) }
+    ensures cause { (finish_of result).status ≡ 7 → IsReportFault (λ line. line_of result ≡ line) (O.faults out.old) (O.faults out.new)
+        ⊎ IsEvidenceFault (text_of evidence.entry) (λ line. line_of result ≡ line) (F.state files.old).write_faults (F.state files.new).write_faults (O.got out.old) (O.got out.new) }
+    ensures quiet_reads { (finish_of result).status ≢ 6 → (F.state files.new).read_faults ≡ (F.state files.old).read_faults }
+    ensures quiet_writes { (finish_of result).status ≢ 7 → O.faults out.new ≡ O.faults out.old }
+    ensures quiet_files { (finish_of result).status ≢ 7 → (F.state files.new).write_faults ≡ (F.state files.old).write_faults }
+    ensures silent { IsSilent (finish_of result).status → O.got out.new ≡ O.got out.old }
+    ensures learned { (finish_of result).spent ≡ learned_in (finish_of result).logs }
+    ensures bare { IsBefore (finish_of result).status → finish_of result ≡ bare (finish_of result).status }
+    ensures line { IsToldByStatus (finish_of result).status → line_of result ≡ error_line bounds (finish_of result).status }
+    ensures unread { text_of evidence.entry ≡ None → text_of resume.entry ≡ None → F.state files.new ≡ F.state files.old }
+    ensures unasked { text_of evidence.entry ≡ None → ReadingLeaves (F.state files.old) (F.state files.new) }
+    ensures before { IsBefore (finish_of result).status → ReadingLeaves (F.state files.old) (F.state files.new) }
+    ensures names { (n : List ℕ) → text_of evidence.entry ≢ Some n → StaysAsTold ((F.state files.old).held n) ((F.state files.new).held n) }
+{
+    let Some(name) = resume else {
+        let none = Records::new(alloc);
+        return list_problem(rt, alloc, problem, none, bounds, evidence, files, out, gate);
+    };
+    match judge(alloc, problem, name, files) {
+        Judged::Audited(
+            Audited::Yes {
+                complete: _,
+                records,
+            },
+        ) => {
+            list_problem(
+                rt, alloc, problem, records, bounds, evidence, files, out, gate,
+            )
+        }
+        Judged::Audited(Audited::No { line, why }) => refuse_evidence(alloc, line, &why),
+        Judged::Failed => Ending::EvidenceFault,
+        Judged::Memory => Ending::Memory,
+    }
+}
+
 /// Ends with the line of an offence.
 pub fn refuse(alloc: Global, offence: Offence) -> Ending
     ensures { IsRefusing offence result }
@@ -158,11 +228,13 @@ pub fn refuse(alloc: Global, offence: Offence) -> Ending
     }
 }
 
-/// Reads the file of this name and writes its report, and before it the evidence, where it is asked for.
+/// Reads the file of this name, and the evidence that is to be gone on from, where some is named, and writes the report of
+/// the file, and before it the evidence, where it is asked for.
 pub fn list_file<F: Files, O: Sink, G: Gate, R: Threads + Wait + Sync>(
     rt: &R,
     alloc: Global,
     name: &str,
+    resume: Option<&str>,
     bounds: Bounds,
     evidence: Option<&str>,
     files: &mut F,
@@ -171,13 +243,18 @@ pub fn list_file<F: Files, O: Sink, G: Gate, R: Threads + Wait + Sync>(
 ) -> Ending
     requires { AreGoodJobs bounds.jobs }
     ensures not_words { (finish_of result).status ≢ 2 }
-    ensures not_evidence { (finish_of result).status ≢ 9 }
-    ensures listing { IsAfterwards (finish_of result).status → (p : GroupedClauses)
-        × OfFile ((F.state files.old).held name.now) (IsReadFor (text_of evidence.entry) p (F.state files.new).unread)
-        × TellsListing p bounds (O.got out.old) (O.got out.new) (finish_of result)
+    ensures listing { IsAfterwards (finish_of result).status → (p : GroupedClauses) × (first : List KnownSet)
+        × OfFile ((F.state files.old).held name.now) (IsReadFor (text_of evidence.entry) (text_of resume.entry) p (F.state files.new).unread)
+        × GoesOnFrom p (text_of resume.entry) (F.state files.old).held first
+        × TellsListing p first bounds (O.got out.old) (O.got out.new) (finish_of result)
         × TellsEvidence p (text_of evidence.entry) (F.state files.new) (λ line. line_of result ≡ line) (finish_of result) }
     ensures refused { (finish_of result).status ≡ 5 → IsRefusal (OfFile ((F.state files.old).held name.now)) (λ line. line_of result ≡ line) }
+    ensures evidence_refused { (finish_of result).status ≡ 9 → (n : List ℕ) × (text_of resume.entry ≡ Some n)
+        × (p : GroupedClauses) × OfFile ((F.state files.old).held name.now) (λ text. Reads text p)
+        × IsEvidenceRefusal p ((F.state files.old).held n) (λ line. line_of result ≡ line) }
     ensures read_fault { (finish_of result).status ≡ 6 → Rose (F.state files.old).read_faults (F.state files.new).read_faults }
+    ensures fault_line { (finish_of result).status ≡ 6 → (line_of result ≡ input_fault_line)
+        ⊎ ((line_of result ≡ evidence_fault_line) × (text_of resume.entry ≢ None) × ((p : GroupedClauses) × OfFile ((F.state files.old).held name.now) (λ text. Reads text p))) }
     ensures write_fault { (finish_of result).status ≡ 7 → IsReportFault (λ line. line_of result ≡ line) (O.faults out.old) (O.faults out.new)
         ⊎ IsEvidenceFault (text_of evidence.entry) (λ line. line_of result ≡ line) (F.state files.old).write_faults (F.state files.new).write_faults (O.got out.old) (O.got out.new) }
     ensures memory { (finish_of result).status ≡ 8 → LeavesBegun ((F.state files.old).held name.now) (F.state files.old) (F.state files.new) }
@@ -186,14 +263,17 @@ pub fn list_file<F: Files, O: Sink, G: Gate, R: Threads + Wait + Sync>(
     ensures quiet_files { (finish_of result).status ≢ 7 → (F.state files.new).write_faults ≡ (F.state files.old).write_faults }
     ensures silent { IsSilent (finish_of result).status → O.got out.new ≡ O.got out.old }
     ensures learned { (finish_of result).spent ≡ learned_in (finish_of result).logs }
-    ensures line { (finish_of result).status ≢ 5 → (finish_of result).status ≢ 7 → line_of result ≡ error_line bounds (finish_of result).status }
+    ensures bare { IsBefore (finish_of result).status → finish_of result ≡ bare (finish_of result).status }
+    ensures line { IsToldByStatus (finish_of result).status → line_of result ≡ error_line bounds (finish_of result).status }
     ensures unasked { text_of evidence.entry ≡ None → ReadingLeaves (F.state files.old) (F.state files.new) }
     ensures before { IsBefore (finish_of result).status → ReadingLeaves (F.state files.old) (F.state files.new) }
     ensures names { (n : List ℕ) → text_of evidence.entry ≢ Some n → StaysAsTold ((F.state files.old).held n) ((F.state files.new).held n) }
 {
     match read_file(alloc, name, files) {
         Ok(Read::Problem(problem)) => {
-            list_problem(rt, alloc, &problem, bounds, evidence, files, out, gate)
+            list_from(
+                rt, alloc, &problem, resume, bounds, evidence, files, out, gate,
+            )
         },
         Ok(Read::Refused(offence)) => refuse(alloc, offence),
         Ok(Read::Memory) => Ending::Memory,

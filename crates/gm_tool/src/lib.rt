@@ -27,6 +27,7 @@ mod error_line;
 mod evidence_file;
 mod file_report;
 mod input;
+mod judging;
 #[cfg(test)]
 mod plain;
 mod program;

@@ -5,15 +5,17 @@ ghost use Rattle.gm_base.specs.Problem.{Problem};
 ghost use Rattle.gm_ports.specs.Faults.{Rose};
 ghost use Rattle.gm_ports.specs.FilesState.{ReadingLeaves, StaysAsTold};
 ghost use Rattle.gcnf_text.specs.Grammar.{Reads};
+ghost use Rattle.evidence_rec.specs.declared.record.Record.{Record};
 ghost use Rattle.gm_words.specs.Reading.{Listing as Listed, Checking as Checked, Drilling as Drilled, words_read, listing, checking, drilling};
 ghost use Rattle.gm_tool.specs.Closed.{learned_in};
-ghost use Rattle.gm_tool.specs.Checking.{IsChecked, IsEvidenceRefusal};
+ghost use Rattle.gm_tool.specs.Checking.{IsChecked};
 ghost use Rattle.gm_tool.specs.Drilling.{TellsDrilling};
 ghost use Rattle.gm_tool.specs.Endings.{bare, error_line, input_fault_line, evidence_fault_line};
 ghost use Rattle.gm_tool.specs.Evidence.{TellsEvidence, LeavesBegun, IsReportFault, IsEvidenceFault};
 ghost use Rattle.gm_tool.specs.Input.{OfFile, IsReadFor};
 ghost use Rattle.gm_tool.specs.Listing.{IsAfterwards, IsAmong, TellsListing};
-ghost use Rattle.gm_tool.specs.Run.{OfNamed, TellsAccepted, ChecksAccepted, GetsLine, IsRefusal, IsStatus, IsSilent, IsFaultless, IsBefore, IsToldByStatus, bounds_for, bounds_of, evidence_asked, file_asked};
+ghost use Rattle.gm_tool.specs.Resuming.{GoesOnFrom};
+ghost use Rattle.gm_tool.specs.Run.{OfNamed, TellsAccepted, ReadsEvidence, RefusesEvidence, GetsLine, IsRefusal, IsStatus, IsSilent, IsFaultless, IsBefore, IsToldByStatus, bounds_for, bounds_of, evidence_asked, file_asked};
 
 use crate::check_report::check_file;
 use crate::drill_report::drill_case;
@@ -49,7 +51,8 @@ fn bounds_for(listing: Listing<'_>) -> Bounds
 /// sets were recorded as `--limit` allows; `out` got a report of these sets, each of which is minimal. With these three the
 /// file of `--evidence`, where it is asked for, got the evidence of the sets first. Status 0 of `check` says that file and
 /// evidence are accepted, and that `out` got the report of the sets that the evidence shows to be minimal, of all where it
-/// is complete. Status 0 of `drill` says that `out` got one line, with the numbers of groups, of all minimal conflicts and of
+/// is complete. A listing may go on from such evidence: then its sets come first, `--limit` counts them, and the report with
+/// status 0 is the same. Status 0 of `drill` says that `out` got one line, with the numbers of groups, of all minimal conflicts and of
 /// all minimal corrections of the case.
 pub fn run<R: Threads + Wait + Sync, F: Files, O: Sink, E: Sink, G: Gate>(
     rt: &R,
@@ -65,7 +68,8 @@ pub fn run<R: Threads + Wait + Sync, F: Files, O: Sink, E: Sink, G: Gate>(
 
     // What each status tells.
     ensures listing { (l : Listed) → words_read (map string_bytes words.now) ≡ Some (listing l) → IsAfterwards result.status →
-        (p : Problem) × OfFile ((F.state files.old).held l.file) (IsReadFor l.evidence p (F.state files.new).unread) × TellsListing p (bounds_for l) (O.got out.old) (O.got out.new) result
+        (p : Problem) × (first : List Record) × OfFile ((F.state files.old).held l.file) (IsReadFor l.evidence l.resume p (F.state files.new).unread)
+        × GoesOnFrom p l.resume (F.state files.old).held first × TellsListing p first (bounds_for l) (O.got out.old) (O.got out.new) result
         × TellsEvidence p l.evidence (F.state files.new) (λ line. GetsLine line (E.got err.old) (E.got err.new) (E.faults err.old) (E.faults err.new)) result }
     ensures begun { (l : Listed) → words_read (map string_bytes words.now) ≡ Some (listing l) → result.status ≡ 8 →
         LeavesBegun ((F.state files.old).held l.file) (F.state files.old) (F.state files.new) }
@@ -78,9 +82,8 @@ pub fn run<R: Threads + Wait + Sync, F: Files, O: Sink, E: Sink, G: Gate>(
     ensures bad_words { result.status ≡ 2 → words_read (map string_bytes words.now) ≡ None }
     ensures refused { result.status ≡ 5 → IsRefusal (OfNamed (words_read (map string_bytes words.now)) (F.state files.old))
         (λ line. GetsLine line (E.got err.old) (E.got err.new) (E.faults err.old) (E.faults err.new)) }
-    ensures evidence_refused { result.status ≡ 9 → (c : Checked) × (words_read (map string_bytes words.now) ≡ Some (checking c)) × (p : Problem)
-        × OfFile ((F.state files.old).held c.file) (λ text. Reads text p)
-        × IsEvidenceRefusal p ((F.state files.old).held c.evidence) (λ line. GetsLine line (E.got err.old) (E.got err.new) (E.faults err.old) (E.faults err.new)) }
+    ensures evidence_refused { result.status ≡ 9 → RefusesEvidence (words_read (map string_bytes words.now)) (F.state files.old)
+        (λ line. GetsLine line (E.got err.old) (E.got err.new) (E.faults err.old) (E.faults err.new)) }
     ensures read_fault { result.status ≡ 6 → Rose (F.state files.old).read_faults (F.state files.new).read_faults }
     ensures write_fault { result.status ≡ 7 → IsReportFault (λ line. GetsLine line (E.got err.old) (E.got err.new) (E.faults err.old) (E.faults err.new)) (O.faults out.old) (O.faults out.new)
         ⊎ IsEvidenceFault (evidence_asked (words_read (map string_bytes words.now))) (λ line. GetsLine line (E.got err.old) (E.got err.new) (E.faults err.old) (E.faults err.new))
@@ -105,7 +108,7 @@ pub fn run<R: Threads + Wait + Sync, F: Files, O: Sink, E: Sink, G: Gate>(
     ensures no_evidence_fault_dropped { IsFaultless result.status → (F.state files.new).write_faults ≡ (F.state files.old).write_faults }
     ensures error_line { IsToldByStatus result.status → GetsLine (error_line (bounds_of (words_read (map string_bytes words.now))) result.status) (E.got err.old) (E.got err.new) (E.faults err.old) (E.faults err.new) }
     ensures fault_line { result.status ≡ 6 → GetsLine input_fault_line (E.got err.old) (E.got err.new) (E.faults err.old) (E.faults err.new)
-        ⊎ (GetsLine evidence_fault_line (E.got err.old) (E.got err.new) (E.faults err.old) (E.faults err.new) × ChecksAccepted (words_read (map string_bytes words.now)) (F.state files.old)) }
+        ⊎ (GetsLine evidence_fault_line (E.got err.old) (E.got err.new) (E.faults err.old) (E.faults err.new) × ReadsEvidence (words_read (map string_bytes words.now)) (F.state files.old)) }
 {
     let ending = match read_words(alloc, words) {
         Ok(Some(Request::List(listing))) => {
@@ -114,6 +117,7 @@ pub fn run<R: Threads + Wait + Sync, F: Files, O: Sink, E: Sink, G: Gate>(
                 rt,
                 alloc,
                 listing.file,
+                listing.resume,
                 bounds,
                 listing.evidence,
                 files,

@@ -1,6 +1,7 @@
 mod checking;
 mod drilling;
 mod evidence;
+mod resuming;
 
 use super::*;
 use crate::plain::draw_problem;

@@ -63,6 +63,10 @@ limit_rule = number_rule (codes "limit") 1 greatest_limit
 abbrev pub evidence_rule : Rule
 evidence_rule = text_rule (codes "evidence")
 
+-- `--resume FILE`
+abbrev pub resume_rule : Rule
+resume_rule = text_rule (codes "resume")
+
 -- `SEED`
 abbrev pub seed_rule : Rule
 seed_rule = placed_rule (codes "seed") 0 greatest_seed
@@ -76,9 +80,9 @@ abbrev pub numbered_list_app : App
 numbered_list_app = with_rule (with_rule (with_rule (with_rule (new_app (codes "list"))
     (place_rule (codes "file"))) jobs_rule) conflicts_rule) limit_rule
 
--- `list FILE [--jobs J] [--conflicts B] [--limit L] [--evidence FILE]`
+-- `list FILE [--jobs J] [--conflicts B] [--limit L] [--evidence FILE] [--resume FILE]`
 abbrev pub list_app : App
-list_app = with_rule numbered_list_app evidence_rule
+list_app = with_rule (with_rule numbered_list_app evidence_rule) resume_rule
 
 -- `check FILE EVIDENCE`
 abbrev pub check_app : App
@@ -108,6 +112,7 @@ pub record Listing : Type 0 where
   pub conflicts : ℕ
   pub limit : ℕ
   pub evidence : Option Text
+  pub resume : Option Text
 
 -- what `check` is asked for
 pub record Checking : Type 0 where
@@ -139,16 +144,16 @@ abbrev pub number_at : Rule → List Row → Option ℕ
 number_at rule rows = option_and_then (number_by rule) (first_of rule.id rows)
 
 -- a listing, where each of its parts can be had; evidence need not be named
-abbrev pub listing_with : Option Text → Option ℕ → Option ℕ → Option ℕ → Option Text → Option Asked
-listing_with (Some file) (Some jobs) (Some conflicts) (Some limit) evidence =
-    Some (listing (record { file = file; jobs = jobs; conflicts = conflicts; limit = limit; evidence = evidence }))
-listing_with _ _ _ _ _ = None
+abbrev pub listing_with : Option Text → Option ℕ → Option ℕ → Option ℕ → Option Text → Option Text → Option Asked
+listing_with (Some file) (Some jobs) (Some conflicts) (Some limit) evidence resume =
+    Some (listing (record { file = file; jobs = jobs; conflicts = conflicts; limit = limit; evidence = evidence; resume = resume }))
+listing_with _ _ _ _ _ _ = None
 
 -- what the values of `list` ask for
 abbrev pub listing_of : List Row → Option Asked
 listing_of rows = listing_with (first_of (codes "file") rows) (number_or 1 jobs_rule rows)
     (number_or greatest_conflicts conflicts_rule rows) (number_or greatest_limit limit_rule rows)
-    (first_of (codes "evidence") rows)
+    (first_of (codes "evidence") rows) (first_of (codes "resume") rows)
 
 -- a checking, where both names can be had
 abbrev pub checking_with : Option Text → Option Text → Option Asked

@@ -8,7 +8,7 @@ use Rattle.gm_words.specs.Reading.{Asked, Listing, greatest_conflicts, greatest_
 -- `list` of a file, with no option
 abbrev pub plain_listing : Text → Listing
 plain_listing file =
-    record { file = file; jobs = 1; conflicts = greatest_conflicts; limit = greatest_limit; evidence = None }
+    record { file = file; jobs = 1; conflicts = greatest_conflicts; limit = greatest_limit; evidence = None; resume = None }
 
 abbrev pub list_of : Text → Option Asked
 list_of file = Some (listing (plain_listing file))
@@ -70,6 +70,25 @@ pub refused_evidence :
     × (words_read (codes "list" ∷ codes "f" ∷ codes "--evidence=e" ∷ codes "--evidence=e" ∷ []) ≡ None)
 unfolding clap_on_literals
 refused_evidence = (refl, refl, refl)
+
+-- with evidence to go on from
+abbrev pub list_from_evidence : Text → Text → Option Asked
+list_from_evidence file evidence =
+    Some (listing (record (plain_listing file) { resume = Some evidence }))
+
+-- the name of what is resumed, which may be that of the evidence too; none, one that looks like an option, two
+pub read_resume :
+    (words_read (codes "list" ∷ codes "f" ∷ codes "--resume" ∷ codes "a" ∷ []) ≡ list_from_evidence (codes "f") (codes "a"))
+    × (words_read (codes "list" ∷ codes "--resume=a" ∷ codes "f" ∷ []) ≡ list_from_evidence (codes "f") (codes "a"))
+    × (words_read (codes "list" ∷ codes "f" ∷ codes "--resume=" ∷ []) ≡ list_from_evidence (codes "f") [])
+    × (words_read (codes "list" ∷ codes "f" ∷ codes "--resume" ∷ codes "a" ∷ codes "--evidence" ∷ codes "a" ∷ [])
+    ≡ Some (listing (record (plain_listing (codes "f")) { evidence = Some (codes "a"); resume = Some (codes "a") })))
+    × (words_read (codes "list" ∷ codes "f" ∷ codes "--resume" ∷ []) ≡ None)
+    × (words_read (codes "list" ∷ codes "f" ∷ codes "--resume" ∷ codes "-x" ∷ []) ≡ None)
+    × (words_read (codes "list" ∷ codes "f" ∷ codes "--resume=a" ∷ codes "--resume=a" ∷ []) ≡ None)
+    × (words_read (codes "check" ∷ codes "f" ∷ codes "e" ∷ codes "--resume" ∷ codes "a" ∷ []) ≡ None)
+unfolding clap_on_literals
+read_resume = (refl, refl, refl, refl, refl, refl, refl, refl)
 
 -- `check` of two files, each under any name
 abbrev pub check_of : Text → Text → Option Asked

@@ -27,12 +27,14 @@ fn gmus_top_command<'a>(alloc: Global) -> Command<'a>
         .subcommand_required(true)
 }
 
-/// `list FILE [--jobs J] [--conflicts B] [--limit L] [--evidence FILE]`
+/// `list FILE [--jobs J] [--conflicts B] [--limit L] [--evidence FILE] [--resume FILE]`
 fn list_command<'a>(alloc: Global) -> Result<Command<'a>, AllocError>
     ensures app { IfOk result (λ c. app_of c ≡ list_app) }
     ensures local { IfOk result (λ c. (out-Command c).has_globals ≡ false) }
 {
-    numbered_list_command(alloc)?.arg(named_text(alloc, "evidence"))
+    numbered_list_command(alloc)?
+        .arg(named_text(alloc, "evidence"))?
+        .arg(named_text(alloc, "resume"))
 }
 
 /// `list FILE [--jobs J] [--conflicts B] [--limit L]`

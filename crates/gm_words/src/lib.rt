@@ -4,7 +4,7 @@
 //!
 //! ```text
 //! match read_words(alloc, words)? {
-//!     Some(Request::List(listing)) => list(listing.file, listing.jobs, listing.conflicts, listing.limit, listing.evidence),
+//!     Some(Request::List(listing)) => list(listing.file, listing.jobs, listing.conflicts, listing.limit, ..),
 //!     Some(Request::Check(checking)) => check(checking.file, checking.evidence),
 //!     Some(Request::Drill(drilling)) => drill(drilling.seed, drilling.size, drilling.jobs),
 //!     None => usage(),

@@ -58,12 +58,14 @@ fn listing<'a>(matches: &ArgMatches<'a>) -> Option<Request<'a>>
     let conflicts = number_or(matches, CONFLICTS, CONFLICTS.high)?;
     let limit = number_or(matches, LIMIT, LIMIT.high)?;
     let evidence = text_given(matches, "evidence");
+    let resume = text_given(matches, "resume");
     Some(Request::List(Listing {
         file,
         jobs: jobs as u32,
         conflicts,
         limit,
         evidence,
+        resume,
     }))
 }
 

@@ -13,6 +13,8 @@ pub struct Listing<'a> {
     pub limit: u64,
     /// The name of the file that gets the evidence, where it is asked for.
     pub evidence: Option<&'a str>,
+    /// The name of the evidence whose records come first, where it is given.
+    pub resume: Option<&'a str>,
 }
 
 /// What `check` is asked for.
@@ -38,7 +40,7 @@ pub struct Drilling {
 /// What the words ask for.
 #[derive(Clone, Copy, Debug, PartialEq, Eq)]
 pub enum Request<'a> {
-    /// `list FILE [--jobs J] [--conflicts B] [--limit L] [--evidence FILE]`
+    /// `list FILE [--jobs J] [--conflicts B] [--limit L] [--evidence FILE] [--resume FILE]`
     List(Listing<'a>),
     /// `check FILE EVIDENCE`
     Check(Checking<'a>),

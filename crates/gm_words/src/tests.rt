@@ -20,6 +20,7 @@ fn plain(file: &str) -> Listing<'_> {
         conflicts: u64::MAX,
         limit: 1_000_000_000,
         evidence: None,
+        resume: None,
     }
 }
 
@@ -115,6 +116,32 @@ fn evidence_is_asked_for_by_a_name(rt: HostRuntime) -> Result<(), Fail> {
         };
         let wanted = Listing {
             evidence: Some(evidence),
+            ..plain("f")
+        };
+        assert!(rt; listing == wanted, "{line}");
+    }
+    Ok(())
+}
+
+#[test]
+fn a_listing_goes_on_from_a_name(rt: HostRuntime) -> Result<(), Fail> {
+    let rows = [
+        ("list|f|--resume|a|", "a", None),
+        ("list|--resume=a|f|", "a", None),
+        ("list|f|--resume||", "", None),
+        ("list|f|--resume=-x|", "-x", None),
+        ("list|f|--resume|-|", "-", None),
+        ("list|f|--resume|a|--evidence|a|", "a", Some("a")),
+        ("list|--evidence=b|--resume|a|f|", "a", Some("b")),
+    ];
+    for (line, resume, evidence) in rows {
+        let words = split(rt.alloc(), line)?;
+        let Ok(Some(Request::List(listing))) = read_words(rt.alloc(), words.as_slice()) else {
+            return Err(Fail::from("no listing"));
+        };
+        let wanted = Listing {
+            evidence,
+            resume: Some(resume),
             ..plain("f")
         };
         assert!(rt; listing == wanted, "{line}");
@@ -249,7 +276,7 @@ fn other_lines_are_wrong(rt: HostRuntime) -> Result<(), Fail> {
     Ok(())
 }
 
-const UNKNOWN: [&str; 17] = [
+const UNKNOWN: [&str; 19] = [
     "list|f|--conflict|1|",
     "list|f|--conflict=1|",
     "list|f|--limits|1|",
@@ -261,11 +288,13 @@ const UNKNOWN: [&str; 17] = [
     "list|f|--job|2|",
     "list|f|--job=2|",
     "list|f|-j|2|",
-    "list|f|--resume|a|",
+    "list|f|--resum|a|",
     "list|f|--evidenc|e|",
     "list|f|-e|e|",
     "drill|7|12|--limit|5|",
     "drill|7|12|--evidence|e|",
+    "drill|7|12|--resume|a|",
+    "check|f|e|--resume|a|",
     "drill|7|12|--seed|7|",
 ];
 
@@ -322,7 +351,7 @@ fn values_that_are_no_number_in_the_range_are_wrong(rt: HostRuntime) -> Result<(
     Ok(())
 }
 
-const REPEATED: [&str; 20] = [
+const REPEATED: [&str; 23] = [
     "list|f|--jobs|",
     "list|f|--jobs|--|4|",
     "list|f|--jobs|2|--jobs|2|",
@@ -341,6 +370,9 @@ const REPEATED: [&str; 20] = [
     "list|f|--evidence|--limit|5|",
     "list|f|--evidence|e|g|",
     "list|f|--evidence=e|--evidence=e|",
+    "list|f|--resume|",
+    "list|f|--resume|-x|",
+    "list|f|--resume=a|--resume=a|",
     "drill|7|12|--jobs|",
     "drill|7|12|--jobs|2|--jobs|2|",
 ];

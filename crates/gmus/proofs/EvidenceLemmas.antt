@@ -1,9 +1,10 @@
 -- What a listing tells of its sets and of its evidence, whatever the files and the streams tell.
-use Rattle.std.proofs.Common.{ℕ, List, Option, Some, None}
+use Rattle.std.proofs.Common.{ℕ, List, [], Option, Some, None}
 use Rattle.std.specs.Prelude.{IfSome, MatchOption}
 use Rattle.gm_base.specs.Problem.{Problem}
 use Rattle.gm_ports.specs.FilesState.{FilesState}
 use Rattle.lrat_steps.specs.Log.{LogStep}
+use Rattle.evidence_rec.specs.declared.record.Record.{Record}
 use Rattle.map_core.specs.declared.closing.Closing.{Closing}
 use Rattle.gm_tool.specs.declared.ending.Finish.{Finish}
 use Rattle.gm_tool.specs.declared.enumeration.Bounds.{Bounds}
@@ -12,14 +13,14 @@ use Rattle.gm_tool.specs.Evidence.{IsValid, IsEvidenced, TellsEvidence}
 use Rattle.gm_tool.specs.Listing.{IsEnumerated, IsListed}
 
 -- the sets are those of an enumeration
-pub enumerated-closing : (p : Problem) (b : Bounds) (status : ℕ) (logs : List (List LogStep)) (old new : Option (List ℕ)) (closing : Option Closing)
-    → MatchOption closing ⊥ (IsListed p b status logs old new) → MatchOption closing ⊥ (IsEnumerated p b status logs)
-enumerated-closing p b status logs old new None h = h
-enumerated-closing p b status logs old new (Some closing) h = h.enumerated
+pub enumerated-closing : (p : Problem) (first : List Record) (b : Bounds) (status : ℕ) (logs : List (List LogStep)) (old new : Option (List ℕ)) (closing : Option Closing)
+    → MatchOption closing ⊥ (IsListed p first b status logs old new) → MatchOption closing ⊥ (IsEnumerated p first b status logs)
+enumerated-closing p first b status logs old new None h = h
+enumerated-closing p first b status logs old new (Some closing) h = h.enumerated
 
 -- so are those of a drilling
 pub drilled-closing : (p : Problem) (b : Bounds) (status : ℕ) (logs : List (List LogStep)) (old new : Option (List ℕ)) (closing : Option Closing)
-    → MatchOption closing ⊥ (IsDrilled p b status logs old new) → MatchOption closing ⊥ (IsEnumerated p b status logs)
+    → MatchOption closing ⊥ (IsDrilled p b status logs old new) → MatchOption closing ⊥ (IsEnumerated p [] b status logs)
 drilled-closing p b status logs old new None h = h
 drilled-closing p b status logs old new (Some closing) h = h.enumerated
 

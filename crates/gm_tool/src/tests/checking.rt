@@ -9,21 +9,23 @@ use std::test::Fail;
 use std::thread::Threads;
 
 // The lines of evidence about the first problem: its head, its five records, and what closes it.
-const HEAD: &str = "p gmev 1 2 4 4\n";
+pub(super) const HEAD: &str = "p gmev 1 2 4 4\n";
 
-const U12: &str = "u 1 2 0\nd 5 -3 -4 0 1 2 0\nr 0 5\nw 1 0\nw 2 1 0\n";
+pub(super) const U12: &str = "u 1 2 0\nd 5 -3 -4 0 1 2 0\nr 0 5\nw 1 0\nw 2 1 0\n";
 
 const U134: &str = "u 1 3 4 0\nd 5 -3 -5 -6 0 1 3 4 0\nr 0 5\nw 1 0\nw 3 1 0\nw 4 1 2 0\n";
 
-const M1: &str = "m 1 0\nw 0 0\nd 5 -3 -4 0 1 2 0\nr 1 5\n";
+pub(super) const M1: &str = "m 1 0\nw 0 0\nd 5 -3 -4 0 1 2 0\nr 1 5\n";
 
-const M23: &str = "m 2 3 0\nw 0 1 0\nd 5 -3 -4 0 1 2 0\nr 2 5\nd 5 -3 -5 -6 0 1 3 4 0\nr 3 5\n";
+pub(super) const M23: &str =
+    "m 2 3 0\nw 0 1 0\nd 5 -3 -4 0 1 2 0\nr 2 5\nd 5 -3 -5 -6 0 1 3 4 0\nr 3 5\n";
 
-const M24: &str = "m 2 4 0\nw 0 1 2 0\nd 5 -3 -4 0 1 2 0\nr 2 5\nd 5 -3 -5 -6 0 1 3 4 0\nr 4 5\n";
+pub(super) const M24: &str =
+    "m 2 4 0\nw 0 1 2 0\nd 5 -3 -4 0 1 2 0\nr 2 5\nd 5 -3 -5 -6 0 1 3 4 0\nr 4 5\n";
 
-const CLOSED: &str = "d 6 0 3 1 4 5 2 0\nx 6\ne complete\n";
+pub(super) const CLOSED: &str = "d 6 0 3 1 4 5 2 0\nx 6\ne complete\n";
 
-const ALL: [&str; 7] = [HEAD, U12, U134, M1, M23, M24, CLOSED];
+pub(super) const ALL: [&str; 7] = [HEAD, U12, U134, M1, M23, M24, CLOSED];
 
 // A problem, the evidence, the status, and what the two sinks get.
 #[derive(Clone, Copy)]
@@ -154,7 +156,7 @@ const ROWS: [Row<'static>; 13] = [
     },
 ];
 
-fn joined(alloc: Global, parts: &[&str]) -> Result<String, Fail> {
+pub(super) fn joined(alloc: Global, parts: &[&str]) -> Result<String, Fail> {
     let mut text = String::new(alloc);
     for part in parts {
         text.push_str(part)?;

@@ -1,6 +1,5 @@
-use Rattle.std.proofs.Common.{◌≡◌, ℕ, List, ◌∙◌, refl, subst}
+use Rattle.std.proofs.Common.{◌∙◌, refl, subst}
 use Rattle.gm_ports.specs.Told.{ToldAppends, ToldGrowsWithin}
-use Rattle.gm_tool.specs.Checking.{shown_report}
 use Rattle.gm_tool.proofs.CheckLemmas.{report_with, shown_report-from}
 use Rattle.gm_tool.proofs.check_report.write_shown.Goals as goal
 

@@ -1,4 +1,4 @@
-use Rattle.std.proofs.Common.{◌≡◌, ◌∙◌, ℕ, true, List, [], Option, length, ap, subst}
+use Rattle.std.proofs.Common.{◌≡◌, ℕ, true, List, Option, length, ap, subst}
 use Rattle.std.specs.Prelude.{MatchOption}
 use Rattle.evidence_rec.specs.declared.record.Record.{Record}
 use Rattle.map_core.specs.declared.closing.Closing.{Closing}
@@ -15,12 +15,12 @@ returns g c =
     let outcome = c.enumerate-outcome.result in
     let opened = λ (rs : List Record) (n : ℕ). opening_of p rs n b.conflicts b.limit true in
     let count = c.in_ok-oracles.ensures.count in
-    let records = c.new-2.result in
+    let records = c.args.first in
     let workers = length c.in_ok-oracles.oracles.items in
     let told =
     subst (λ (m : Option Closing). MatchOption m (outcome.verdict ≡ Memory) (λ k. IsLeft (opened records workers) outcome.logs k × (outcome.verdict ≡ k.verdict))) c.in-Some.is
     c.enumerate-outcome.ensures.closing in
-    let opening = ap (λ rs. opened rs workers) c.new-2.ensures ∙ ap (λ n. opened [] n) count in
+    let opening = ap (opened records) count in
     record {
       closed = record { left = subst (λ o. IsLeft o outcome.logs c.in-Some.closing) opening told.0 };
       spent = c.enumerate-outcome.ensures.spent;

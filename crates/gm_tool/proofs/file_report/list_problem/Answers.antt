@@ -13,7 +13,7 @@ pub returns-in-Ok-write_all-clause-listing : goal.returns-in-Ok-write_all-clause
 returns-in-Ok-write_all-clause-listing g c = λ afterwards.
     let left = c.in-Ok.prepared.left in
     let made = c.in-Ok.ensures in
-    listed c.args.problem.now c.args.bounds left.logs left.closing c.as_slice.result.now (g.O.Sink.got c.args.out.now) (g.O.Sink.got c.write_all.new.sink)
+    listed c.args.problem.now c.args.first c.args.bounds left.logs left.closing c.as_slice.result.now (g.O.Sink.got c.args.out.now) (g.O.Sink.got c.write_all.new.sink)
     made.left.closed made.enough_memory (c.as_slice.ensures.value ∙ made.text) c.in-Ok-write_all.ensures.whole
 
 -- a front part of it is written
@@ -21,7 +21,7 @@ pub returns-in-Err-clause-listing : goal.returns-in-Err-clause-listing
 returns-in-Err-clause-listing g c = λ afterwards.
     let left = c.in-Ok.prepared.left in
     let made = c.in-Ok.ensures in
-    listed-in_part c.args.problem.now c.args.bounds left.logs left.closing c.as_slice.result.now (g.O.Sink.got c.args.out.now) (g.O.Sink.got c.write_all.new.sink)
+    listed-in_part c.args.problem.now c.args.first c.args.bounds left.logs left.closing c.as_slice.result.now (g.O.Sink.got c.args.out.now) (g.O.Sink.got c.write_all.new.sink)
     made.left.closed made.enough_memory (c.as_slice.ensures.value ∙ made.text) c.in-Err.ensures.failed
 
 -- the evidence is cut off, and the report got nothing
@@ -30,7 +30,7 @@ returns-in-Err-Failed-clause-listing g c = λ afterwards.
     let left = c.in-Ok.prepared.left in
     let made = c.in-Ok.ensures in
     let text = report_for c.args.problem.now left.closing in
-    listed-in_part c.args.problem.now c.args.bounds left.logs left.closing text (g.O.Sink.got c.args.out.now) (g.O.Sink.got c.args.out.now)
+    listed-in_part c.args.problem.now c.args.first c.args.bounds left.logs left.closing text (g.O.Sink.got c.args.out.now) (g.O.Sink.got c.args.out.now)
     made.left.closed made.enough_memory refl (record { taken = []; left = text; parts = refl; grew = ToldAppends-nothing (g.O.Sink.got c.args.out.now) })
 
 pub returns-in-Err-Failed-clause-evidence : goal.returns-in-Err-Failed-clause-evidence

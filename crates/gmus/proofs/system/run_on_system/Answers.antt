@@ -7,8 +7,13 @@ use Rattle.gmus.proofs.system.run_on_system.Goals as goal
 -- the files tell nothing of what was written, but that it is valid is told of the sets
 pub returns-clause-enumerated : goal.returns-clause-enumerated
 returns-clause-enumerated g c = λ l asked after.
-    let (p, of_file, listed, evidence) = c.run.ensures.listing l asked after in
-    (p, enumerated-closing p (bounds_for l) c.run.result.status c.run.result.logs _ _ c.run.result.closing listed, valid-evidence p l.evidence _ _ c.run.result evidence)
+    let (p, first, of_file, goes_on, listed, evidence) = c.run.ensures.listing l asked after in (
+      p,
+      first,
+      goes_on,
+      enumerated-closing p first (bounds_for l) c.run.result.status c.run.result.logs _ _ c.run.result.closing listed,
+      valid-evidence p l.evidence _ _ c.run.result evidence,
+    )
 
 -- nor what the report's sink got, but the sets of the case are told
 pub returns-clause-drilling : goal.returns-clause-drilling
