@@ -6,8 +6,10 @@
 //! literal is looked at before it is decided.
 //!
 //! Where choices are positive only, no assignment is planned again: the plan has a few variables that were false in
-//! assignments that were left (`leaving.rt`), the latest first.
-ghost use Rattle.std.specs.Prelude.{◌≡◌, true, IfSome};
+//! assignments that were left (`leaving.rt`), the latest first. Behind them come those of no activity: the next assignment
+//! mostly differs from the last one in variables that conflicts have touched, so the others stand at the bottom of the
+//! trail, where going back leaves them.
+ghost use Rattle.std.specs.Prelude.{◌≡◌, ◌<◌, ◌≤◌, true, IfSome};
 ghost use Rattle.sat_base.specs.Literals.{IsLiteral};
 ghost use Rattle.sat_base.specs.Units.{IsUnset};
 ghost use Rattle.trail_book.specs.Trail.{trues};
@@ -31,6 +33,8 @@ pub struct Plan {
     lits: Vec<Lit>,
     len: usize,
     next: usize,
+    // The variables with a lower index had a value when they were looked at, or an activity.
+    idle: u32,
     // How many counts since the last beginning, and at how many the next one is due.
     count: u32,
     interval: u32,
@@ -43,6 +47,7 @@ impl Plan {
             lits: vec![in alloc; Lit::new(1); vars as usize]?,
             len: 0,
             next: 0,
+            idle: 0,
             count: 0,
             interval: FIRST_INTERVAL,
         })
@@ -50,6 +55,7 @@ impl Plan {
 
     /// Begins with the first literal again. Where choices are positive only, nothing but what is put in front begins it.
     pub fn begin(&mut self, true_first: bool) {
+        self.idle = 0;
         if !true_first {
             self.next = 0;
         }
@@ -114,6 +120,18 @@ impl Plan {
         ensures unset { IfSome result (λ lit. IsUnset (trues trail.now.entries) lit × IsLiteral trail.now.vars lit) }
         ensures positive { IfSome result (λ lit. true_first ≡ true → IsPositive lit) }
     {
+        match self.next_planned(trail, true_first) {
+            Some(lit) => Some(lit),
+            None if true_first => self.next_idle(trail),
+            None => None,
+        }
+    }
+
+    // The next one of the plan's list.
+    fn next_planned(&mut self, trail: &Trail, true_first: bool) -> Option<Lit>
+        ensures unset { IfSome result (λ lit. IsUnset (trues trail.now.entries) lit × IsLiteral trail.now.vars lit) }
+        ensures positive { IfSome result (λ lit. true_first ≡ true → IsPositive lit) }
+    {
         for at in self.next..self.len.min(self.lits.len()) {
             let lit = self.lits[at];
             if is_free(trail, lit) && (!true_first || lit.is_positive()) {
@@ -122,6 +140,50 @@ impl Plan {
             }
         }
         self.next = self.len;
+        None
+    }
+
+    // The positive literal of the next variable that has neither a value nor an activity.
+    fn next_idle(&mut self, trail: &Trail) -> Option<Lit>
+        ensures unset { IfSome result (λ lit. IsUnset (trues trail.now.entries) lit × IsLiteral trail.now.vars lit) }
+        ensures positive { IfSome result IsPositive }
+    {
+        let vars = trail.vars();
+        for index in lowest_free(trail, self.idle.min(vars))..vars {
+            if let Some(lit) = idle_lit(trail, index) {
+                self.idle = index + 1;
+                return Some(lit);
+            }
+        }
+        self.idle = vars;
+        None
+    }
+}
+
+// How far down from this index the variables have lost their values.
+fn lowest_free(trail: &Trail, from: u32) -> u32
+    requires { from ≤ trail.now.vars }
+    ensures { result ≤ from }
+{
+    let _vars = trail.vars(); // So each variable's number is that of a literal.
+    let mut index = from;
+    while index > 0 && is_free(trail, Lit::new(index as i32)) {
+        index -= 1;
+    }
+    index
+}
+
+// The positive literal of the variable of this index, where it has neither a value nor an activity.
+fn idle_lit(trail: &Trail, index: u32) -> Option<Lit>
+    requires { index < trail.now.vars }
+    ensures unset { IfSome result (λ lit. IsUnset (trues trail.now.entries) lit × IsLiteral trail.now.vars lit) }
+    ensures positive { IfSome result IsPositive }
+{
+    let _vars = trail.vars(); // So each variable's number is that of a literal.
+    let lit = Lit::new((index + 1) as i32);
+    if trail.activity(index + 1) == 0 && is_free(trail, lit) {
+        Some(lit)
+    } else {
         None
     }
 }

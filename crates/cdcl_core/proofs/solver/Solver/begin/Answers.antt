@@ -19,7 +19,7 @@ invariant_of-result c =
       honest = subst IsHonest (sym c.new.ensures) tt;
       ready = λ b. record {
         assumed = [];
-        search = search_root_free (record { log = c.new.result; store = store; trail = trail; rooted = 0; assumed_levels = 0; assumed_true = 0; conflicts = 0; true_first = c.args.true_first; plan = c.in_ok-new-3.field-0 })
+        search = search_root_free (record { log = c.new.result; store = store; trail = trail; rooted = 0; assumed_levels = 0; assumed_true = 0; conflicts = 0; walked = 0; true_first = c.args.true_first; plan = c.in_ok-new-3.field-0 })
             (record {
               vars = s.vars ∙ sym vars;
               kept = kept_first store trail (s.vars ∙ sym vars) s.clauses s.watched s.heads s.tails s.parks s.false_id entries done;
