@@ -2,6 +2,7 @@ mod checking;
 mod drilling;
 mod evidence;
 mod resuming;
+mod workers;
 
 use super::*;
 use crate::plain::draw_problem;
