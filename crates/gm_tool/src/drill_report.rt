@@ -5,7 +5,7 @@ ghost use Rattle.gm_words.specs.Reading.{greatest_size};
 ghost use Rattle.gcnf_text.specs.Chain.{made_case};
 ghost use Rattle.gm_tool.specs.Closed.{learned_in};
 ghost use Rattle.gm_tool.specs.Drilling.{IsDrilled, drill_bounds, held_counts};
-ghost use Rattle.gm_tool.specs.Endings.{error_line, finish_of, line_of};
+ghost use Rattle.gm_tool.specs.Endings.{bare, error_line, finish_of, line_of};
 ghost use Rattle.gm_tool.specs.Evidence.{IsReportFault};
 ghost use Rattle.gm_tool.specs.Listing.{IsAfterwards, IsPrepared};
 
@@ -66,6 +66,7 @@ fn drill_problem<O: Sink, G: Gate, R: Threads + Wait + Sync>(
     ensures quiet { (finish_of result).status ≢ 7 → O.faults out.new ≡ O.faults out.old }
     ensures silent { (finish_of result).status ≡ 8 → O.got out.new ≡ O.got out.old }
     ensures learned { (finish_of result).spent ≡ learned_in (finish_of result).logs }
+    ensures nothing_told { (finish_of result).status ≡ 8 → finish_of result ≡ bare 8 }
     ensures line { (finish_of result).status ≢ 7 → line_of result ≡ error_line bounds (finish_of result).status }
 {
     let Ok(prepared) = prepare(rt, alloc, problem, bounds, gate) else {
@@ -96,6 +97,7 @@ pub fn drill_case<O: Sink, G: Gate, R: Threads + Wait + Sync>(
     ensures quiet { (finish_of result).status ≢ 7 → O.faults out.new ≡ O.faults out.old }
     ensures silent { (finish_of result).status ≡ 8 → O.got out.new ≡ O.got out.old }
     ensures learned { (finish_of result).spent ≡ learned_in (finish_of result).logs }
+    ensures nothing_told { (finish_of result).status ≡ 8 → finish_of result ≡ bare 8 }
     ensures line { (finish_of result).status ≢ 7 → line_of result ≡ error_line (drill_bounds drilling.jobs) (finish_of result).status }
 {
     let Ok(problem) = make_case(alloc, drilling.seed, drilling.size) else {

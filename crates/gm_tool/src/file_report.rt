@@ -141,6 +141,7 @@ fn list_problem<F: Files, O: Sink, G: Gate, R: Threads + Wait + Sync>(
     ensures quiet_files { (finish_of result).status ≢ 7 → (F.state files.new).write_faults ≡ (F.state files.old).write_faults }
     ensures silent { (finish_of result).status ≡ 8 → O.got out.new ≡ O.got out.old }
     ensures learned { (finish_of result).spent ≡ learned_in (finish_of result).logs }
+    ensures nothing_told { (finish_of result).status ≡ 8 → finish_of result ≡ bare 8 }
     ensures line { (finish_of result).status ≢ 7 → line_of result ≡ error_line bounds (finish_of result).status }
     ensures unasked { text_of evidence.entry ≡ None → F.state files.new ≡ F.state files.old }
     ensures leaves { WritingLeaves (λ n. text_of evidence.entry ≡ Some n) (F.state files.old) (F.state files.new) }
@@ -190,6 +191,7 @@ fn list_from<F: Files, O: Sink, G: Gate, R: Threads + Wait + Sync>(
     ensures quiet_files { (finish_of result).status ≢ 7 → (F.state files.new).write_faults ≡ (F.state files.old).write_faults }
     ensures silent { IsSilent (finish_of result).status → O.got out.new ≡ O.got out.old }
     ensures learned { (finish_of result).spent ≡ learned_in (finish_of result).logs }
+    ensures nothing_told { (finish_of result).status ≡ 8 → finish_of result ≡ bare 8 }
     ensures bare { IsBefore (finish_of result).status → finish_of result ≡ bare (finish_of result).status }
     ensures line { IsToldByStatus (finish_of result).status → line_of result ≡ error_line bounds (finish_of result).status }
     ensures unread { text_of evidence.entry ≡ None → text_of resume.entry ≡ None → F.state files.new ≡ F.state files.old }
@@ -263,6 +265,7 @@ pub fn list_file<F: Files, O: Sink, G: Gate, R: Threads + Wait + Sync>(
     ensures quiet_files { (finish_of result).status ≢ 7 → (F.state files.new).write_faults ≡ (F.state files.old).write_faults }
     ensures silent { IsSilent (finish_of result).status → O.got out.new ≡ O.got out.old }
     ensures learned { (finish_of result).spent ≡ learned_in (finish_of result).logs }
+    ensures nothing_told { (finish_of result).status ≡ 8 → finish_of result ≡ bare 8 }
     ensures bare { IsBefore (finish_of result).status → finish_of result ≡ bare (finish_of result).status }
     ensures line { IsToldByStatus (finish_of result).status → line_of result ≡ error_line bounds (finish_of result).status }
     ensures unasked { text_of evidence.entry ≡ None → ReadingLeaves (F.state files.old) (F.state files.new) }

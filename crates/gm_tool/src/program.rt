@@ -78,6 +78,7 @@ pub fn run<R: Threads + Wait + Sync, F: Files, O: Sink, E: Sink, G: Gate>(
     ensures drilling { (d : Drilled) → words_read (map string_bytes words.now) ≡ Some (drilling d) → IsAfterwards result.status →
         TellsDrilling d (O.got out.old) (O.got out.new) result }
     ensures nothing_listed { IsBefore result.status → result ≡ bare result.status }
+    ensures nothing_told { result.status ≡ 8 → result ≡ bare 8 }
     ensures nothing_listed_in_check { (c : Checked) → words_read (map string_bytes words.now) ≡ Some (checking c) → result ≡ bare result.status }
     ensures bad_words { result.status ≡ 2 → words_read (map string_bytes words.now) ≡ None }
     ensures refused { result.status ≡ 5 → IsRefusal (OfNamed (words_read (map string_bytes words.now)) (F.state files.old))

@@ -48,6 +48,7 @@ pub fn run_on_system<R: rt::Files + Threads + Wait + Sync, O: Print, E: Print>(
     ensures drilling { (d : Drilled) → words_read (map string_bytes words.now) ≡ Some (drilling d) → IsAfterwards result.status →
         MatchOption result.closing ⊥ (IsEnumerated (case_for d) [] (drill_bounds d.jobs) result.status result.logs) }
     ensures nothing_listed { IsBefore result.status → result ≡ bare result.status }
+    ensures nothing_told { result.status ≡ 8 → result ≡ bare 8 }
     ensures nothing_listed_in_check { (c : Checked) → words_read (map string_bytes words.now) ≡ Some (checking c) → result ≡ bare result.status }
     ensures bad_words { result.status ≡ 2 → words_read (map string_bytes words.now) ≡ None }
     ensures read_fault { result.status ≡ 6 → Rose files.old.read_faults files.new.read_faults }
