@@ -2,18 +2,17 @@
 use Rattle.std.proofs.Common.{◌≡◌, ◌∙◌, ℕ, ◌+◌, ◌<◌, ◌^◌, Bool, true, false, List, [], ◌∷◌, ◌++◌, map, refl, ap, subst, sym, inl, inr, arith}
 use Rattle.std.specs.Prelude.{ℤ}
 use Rattle.std.specs.List.{list_all}
-use Rattle.std.proofs.lemmas.Bool.{false≢true, false_from_ne_true, and_parts}
 use Rattle.std.proofs.lemmas.List.{map_push}
 use Rattle.sat_base.specs.Members.{In}
 use Rattle.sat_base.specs.Literals.{clause_true}
-use Rattle.sat_base.specs.Derivation.{Derivation, numbered, derives_within}
+use Rattle.sat_base.specs.Derivation.{Derivation, derives_within}
 use Rattle.sat_base.proofs.Members.{In-append_cases, In-map, any_at}
 use Rattle.gm_base.specs.declared.kind.Side.{Side}
 use Rattle.gm_base.specs.declared.kind.Side.TheVariants.{Up, Down}
 use Rattle.gm_base.specs.Problem.{Problem}
 use Rattle.gm_base.specs.Sets.{has, IsSubset, all_groups}
 use Rattle.gm_base.specs.Evidence.{with_selector, selector_form, refutes}
-use Rattle.gm_base.specs.Explored.{Found, explores, is_explored, block_of, block_clause, is_model, AllExplored}
+use Rattle.gm_base.specs.Explored.{Found, explores, is_explored, block_of, block_clause}
 use Rattle.gm_base.proofs.SetLemmas.{all_groups-has}
 use Rattle.gm_base.proofs.ExploredLemmas.{AreWithin, models-unexplored}
 use Rattle.lrat_steps.specs.Log.{LogStep, Input}

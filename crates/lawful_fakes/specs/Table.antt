@@ -1,5 +1,5 @@
 -- What an oracle with a table knows.
-use Rattle.std.specs.Prelude.{◌≡◌, ℕ, true, List, Option, IfSome}
+use Rattle.std.specs.Prelude.{◌≡◌, ℕ, true, List, Option, None, IfSome}
 use Rattle.std.specs.List.{AllByRecursion}
 use Rattle.sat_base.specs.Derivation.{Derivation}
 use Rattle.gm_base.specs.Sets.{IsGroupSet, IsSubset}
@@ -8,7 +8,7 @@ use Rattle.gm_base.specs.Evidence.{refutes}
 use Rattle.lrat_steps.specs.Log.{LogStep}
 use Rattle.evidence_rec.specs.declared.record.Record.{Record}
 use Rattle.evidence_rec.specs.Records.{IsAccepted}
-use Rattle.evidence_rec.specs.Asking.{IsHonestOver}
+use Rattle.evidence_rec.specs.Asking.{OracleState, IsHonestOver, asked_once}
 use Rattle.lawful_fakes.specs.declared.table_oracle.Refuted.{Refuted}
 
 -- the part of the set is refuted
@@ -22,3 +22,7 @@ pub record KnowsTable (p : Problem) (conflicts : List Record) (log : List LogSte
   pub accepted : AllByRecursion (IsAccepted p) conflicts
   pub honest : IsHonestOver p log
   pub refuted : IfSome last (λ (r : Refuted). refutes p r.set r.proof ≡ true)
+
+-- one question more, which has no answer
+abbrev pub unanswered : OracleState → OracleState
+unanswered o = record o { refuted = None; asks = asked_once o.asks }

@@ -8,17 +8,21 @@
 //! The module `example` has a problem of four clauses with its records. The tests of `shrink`, `grow`, `KnownSets` and
 //! `MapCore` over the two stand here, so that no crate of the program stands on this one.
 //!
-//! Neither answers Dry: for that a search has to stand before a conflict, and they search for nothing.
+//! A [`ShyOracle`] and a [`ShyMap`] are these two with memory wanting from one call on.
+//!
+//! None answers Dry: for that a search has to stand before a conflict, and they search for nothing.
 #![tactic(auto)]
 
 mod block;
 mod evidence;
 pub mod example;
 mod scripted_map;
+mod shy;
 mod table_oracle;
 #[cfg(test)]
 mod tests;
 
 pub use evidence::{Lacking, checked};
 pub use scripted_map::ScriptedMap;
+pub use shy::{ShyMap, ShyOracle};
 pub use table_oracle::TableOracle;

@@ -1,8 +1,8 @@
 //! A map engine that follows a script.
-ghost use Rattle.std.specs.Prelude.{◌≡◌, ◌<◌, ◌^◌, true, false, IfOk, map};
+ghost use Rattle.std.specs.Prelude.{◌≡◌, ◌<◌, ◌^◌, true, false, IfOk, IfSome, length, map};
 ghost use Rattle.gm_base.specs.Sets.{IsSubset, all_groups};
 ghost use Rattle.gm_base.specs.Explored.{Found, IsUnexplored};
-ghost use Rattle.evidence_rec.specs.Seeding.{new_engine, shows_all_explored};
+ghost use Rattle.evidence_rec.specs.Seeding.{new_engine, shows_all_explored, IsHonestMap, HasModels};
 ghost use Rattle.sat_base.specs.Members.{In};
 ghost use Rattle.lawful_fakes.specs.Script.{found_in};
 
@@ -14,8 +14,8 @@ use sat_base::Row;
 use std::alloc::{AllocError, Global};
 use std::marker::Model;
 
-/// Hands out the seeds of a script, where no block takes them out. Behind the last one it answers that each set is
-/// explored, where the derivation of the script shows it.
+/// Hands out the seeds of a script, each once, where no block takes them out; or, if it repeats, each time the first one
+/// that no block takes out. Where none is left it answers that each set is explored, if the derivation of the script shows it.
 #[derive(Drop)]
 pub struct ScriptedMap {
     groups: u32,
@@ -25,6 +25,7 @@ pub struct ScriptedMap {
     log: Log,
     blocks: Vec<Block>,
     exhausted: bool,
+    repeats: bool,
 }
 
 impl Model for ScriptedMap {
@@ -53,7 +54,27 @@ impl ScriptedMap {
             log: Log::new(alloc),
             blocks: Vec::new(alloc),
             exhausted: false,
+            repeats: false,
         }
+    }
+
+    /// The same map, which hands out the first of its seeds that is open, however often.
+    pub fn repeating(self) -> ScriptedMap
+        ensures { result ≡ self }
+    {
+        ScriptedMap {
+            repeats: true,
+            ..self
+        }
+    }
+
+    /// How many blocks it was given; it is as lawful as ever where it is given no more.
+    pub(crate) fn block_count(&self) -> usize
+        ensures count { result ≡ length self.now.blocks }
+        ensures honest { IsHonestMap self.now.blocks self.now.log }
+        ensures models { HasModels self.now }
+    {
+        self.blocks.len()
     }
 }
 
@@ -74,12 +95,16 @@ impl MapEngine for ScriptedMap {
     }
 
     fn seed(&mut self, alloc: Global, _turn: u64, _purse: &mut Purse) -> Result<Seed, AllocError> {
-        if self.next < self.seeds.len() {
-            let seed = self.seeds.at(self.next).copy(alloc)?;
-            if !is_open(alloc, self.groups, self.blocks.as_slice(), &seed)? {
-                return Err(AllocError);
-            }
-            self.next += 1;
+        let blocks = self.blocks.as_slice();
+        let found = seed_of(
+            alloc,
+            self.groups,
+            blocks,
+            &self.seeds,
+            self.repeats,
+            &mut self.next,
+        )?;
+        if let Some(seed) = found {
             return Ok(Seed::Set(seed));
         }
         if !is_ended(alloc, self.groups, self.blocks.as_slice(), &self.ending)? {
@@ -100,6 +125,63 @@ impl MapEngine for ScriptedMap {
     fn into_log(self) -> Log {
         self.log
     }
+}
+
+// What a script of these seeds hands out next, if anything.
+fn seed_of(
+    alloc: Global,
+    groups: u32,
+    blocks: &[Block],
+    seeds: &Row<GroupSet>,
+    repeats: bool,
+    next: &mut usize,
+) -> Result<Option<GroupSet>, AllocError>
+    ensures { IfOk result (λ found. IfSome found (IsUnexplored groups (map found_in blocks.now))) }
+{
+    if repeats {
+        first_open(alloc, groups, blocks, seeds)
+    } else {
+        next_open(alloc, groups, blocks, seeds, next)
+    }
+}
+
+// The set behind the last one that was handed out. That a block takes it out is answered as want of memory.
+fn next_open(
+    alloc: Global,
+    groups: u32,
+    blocks: &[Block],
+    seeds: &Row<GroupSet>,
+    next: &mut usize,
+) -> Result<Option<GroupSet>, AllocError>
+    ensures { IfOk result (λ found. IfSome found (IsUnexplored groups (map found_in blocks.now))) }
+{
+    if *next >= seeds.len() {
+        return Ok(None);
+    }
+    let seed = seeds.at(*next).copy(alloc)?;
+    if !is_open(alloc, groups, blocks, &seed)? {
+        return Err(AllocError);
+    }
+    *next += 1;
+    Ok(Some(seed))
+}
+
+// The first of these sets that no block takes out.
+fn first_open(
+    alloc: Global,
+    groups: u32,
+    blocks: &[Block],
+    seeds: &Row<GroupSet>,
+) -> Result<Option<GroupSet>, AllocError>
+    ensures { IfOk result (λ found. IfSome found (IsUnexplored groups (map found_in blocks.now))) }
+{
+    for at in 0..seeds.len() {
+        let seed = seeds.at(at);
+        if is_open(alloc, groups, blocks, seed)? {
+            return Ok(Some(seed.copy(alloc)?));
+        }
+    }
+    Ok(None)
 }
 
 // Whether the set is one of these groups that no block takes out.

@@ -4,10 +4,10 @@ ghost use Rattle.std.specs.List.{AllByRecursion};
 ghost use Rattle.gm_base.specs.Sets.{IsSubset, all_groups};
 ghost use Rattle.gm_base.specs.Problem.{IsClause};
 ghost use Rattle.gm_base.specs.Evidence.{refutes, is_witness, with_selector};
-ghost use Rattle.lrat_steps.specs.Log.{Input};
+ghost use Rattle.lrat_steps.specs.Log.{Input, learned_count};
 ghost use Rattle.evidence_rec.specs.Records.{IsAccepted};
 ghost use Rattle.evidence_rec.specs.Asking.{OracleState, TellsAsked, IsSpent, IsHonestOver, refuted_by, asked_once};
-ghost use Rattle.lawful_fakes.specs.Table.{IsRefutation};
+ghost use Rattle.lawful_fakes.specs.Table.{IsRefutation, unanswered};
 
 use evidence_rec::{Asked, Oracle, Record, Records, Witnesses};
 use gm_base::{Assign, Clause, Derivation, GroupSet, Lit, Problem, Purse, write_with_selector};
@@ -57,6 +57,7 @@ impl TableOracle {
     ) -> Result<TableOracle, AllocError>
         ensures problem { IfOk result (λ oracle. oracle.problem ≡ problem.now) }
         ensures honest { IfOk result (λ oracle. IsHonestOver problem.now oracle.log) }
+        ensures nothing { IfOk result (λ oracle. learned_count oracle.log ≡ 0) }
         ensures asks { IfOk result (λ oracle. oracle.asks ≡ 0) }
     {
         let log = input_log(alloc, problem)?;
@@ -77,6 +78,15 @@ impl TableOracle {
         ensures { self.new ≡ self.old }
     {
         self.conflicts.push(conflict)
+    }
+
+    /// Counts a question, and answers none.
+    pub(crate) fn refuse(&mut self)
+        ensures state { self.new ≡ unanswered self.old }
+        ensures honest { IsHonestOver self.new.problem self.new.log }
+    {
+        self.asks = self.asks.saturating_add(1);
+        self.refuted = None;
     }
 
     /// How many questions there were.
@@ -193,7 +203,8 @@ fn refuted_by(
 
 // The log of an oracle that has learnt nothing: the clauses of the problem, with their selectors.
 fn input_log(alloc: Global, problem: &Problem) -> Result<Log, AllocError>
-    ensures { IfOk result (IsHonestOver problem.now) }
+    ensures honest { IfOk result (IsHonestOver problem.now) }
+    ensures nothing { IfOk result (λ log. learned_count log ≡ 0) }
 {
     let mut log = Log::new(alloc);
     let mut lits = Vec::new(alloc);

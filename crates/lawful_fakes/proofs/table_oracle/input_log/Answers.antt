@@ -1,9 +1,9 @@
-use Rattle.std.proofs.Common.{◌≡◌, ◌∙◌, ◌++◌, ◌∷◌, [], List, ap, subst, sym}
+use Rattle.std.proofs.Common.{◌∙◌, ◌++◌, ◌∷◌, [], List, ap, subst, sym}
 use Rattle.std.specs.Prelude.{ℤ}
 use Rattle.gm_base.specs.Evidence.{with_selector}
-use Rattle.lrat_steps.specs.Log.{inputs_of}
+use Rattle.lrat_steps.specs.Log.{Input, inputs_of, learned_count}
 use Rattle.lrat_steps.specs.Honest.{IsHonest}
-use Rattle.lrat_steps.proofs.LogLemmas.{inputs-push_input, honest-input}
+use Rattle.lrat_steps.proofs.LogLemmas.{inputs-push_input, honest-input, learned-push}
 use Rattle.lawful_fakes.proofs.TableLemmas.{selectors_more}
 use Rattle.lawful_fakes.proofs.table_oracle.input_log.Goals as goal
 
@@ -19,4 +19,5 @@ loop-at-preserved c =
           ∙ ap (λ (cs : List (List ℤ)). cs ++ lits ∷ []) c.loop-at.invariant.inputs
           ∙ sym (selectors_more p c.loop-at.at c.clause.result.now c.clause.ensures.same);
       honest = subst IsHonest (sym pushed) (honest-input c.loop-at.log lits c.loop-at.invariant.honest);
+      nothing = ap learned_count pushed ∙ learned-push c.loop-at.log (Input lits) ∙ c.loop-at.invariant.nothing;
     }
