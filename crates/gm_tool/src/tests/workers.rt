@@ -156,11 +156,11 @@ fn three_workers_stop_at_a_limit_of_four_sets(rt: HostRuntime) -> Result<(), Fai
         assert!(rt; false);
         return Ok(());
     };
-    let mut sets = 0;
+    let mut sets: u32 = 0;
     for line in PAIRS_SETS {
         if let Some(more) = behind(rest, line) {
             rest = more;
-            sets += 1;
+            sets = sets.saturating_add(1);
         }
     }
     assert_eq!(rt; sets, 4);
