@@ -2,8 +2,10 @@
 //!
 //! Where nothing is left to propagate, the assumed literals are decided in their order, and then variables without
 //! value: those of the plan, if one is followed (`plan.rt`), and then in the order that the turn began, as each was last held
-//! (Pipatsrisawat and Darwiche 2007), or positive where that is asked for. Which assumed literals are true is not asked
-//! again for each decision: the search remembers how far they all are, and forgets it only where it goes back below them.
+//! (Pipatsrisawat and Darwiche 2007), or positive where that is asked for. Where none of those left was ever in a conflict,
+//! one order is as good as another, and the plan is followed again, which costs no heap. Which assumed literals are true is
+//! not asked again for each decision: the search remembers how far they all are, and forgets it only where it goes back
+//! below them.
 ghost use Rattle.std.specs.Prelude.{◌≡◌, ℕ, ℤ, length, take, true, IfOk, IfSome, IfNone};
 ghost use Rattle.sat_base.specs.Members.{In};
 ghost use Rattle.sat_base.specs.Literals.{AreLiterals, IsLiteral, literal_true};
@@ -45,9 +47,16 @@ fn choice(trail: &mut Trail, plan: &mut Plan, true_first: bool) -> Option<Lit>
         return Some(lit);
     }
     if true_first {
-        trail.pick_true()
-    } else {
-        trail.pick()
+        return trail.pick_true();
+    }
+    let lit = trail.pick()?;
+    if trail.activity(lit.var()) > 0 {
+        return Some(lit);
+    }
+    plan.resume();
+    match plan.next(trail, true_first) {
+        Some(planned) => Some(planned),
+        None => Some(lit),
     }
 }
 

@@ -2,8 +2,9 @@
 //!
 //! Where a search has found an assignment, the next one often differs from it in few values. So its literals are decided
 //! again in the order in which they came onto the trail, those that have no value when their turn comes; the order by
-//! activity is asked for behind the first conflict, or where no literal of the plan is left. Nothing rests on the plan: each
-//! literal is looked at before it is decided.
+//! activity is asked for behind the first conflict, or where no literal of the plan is left. Behind a conflict the plan is
+//! begun again where no variable without value has an activity. Nothing rests on the plan: each literal is looked at before
+//! it is decided.
 //!
 //! Where choices are positive only, no assignment is planned again: the plan has a few variables that were false in
 //! assignments that were left (`leaving.rt`), the latest first. Behind them come those of no activity: the next assignment
@@ -64,6 +65,11 @@ impl Plan {
     /// Leaves the literals that are left.
     pub fn stop(&mut self) {
         self.next = self.len;
+    }
+
+    /// Begins with the first literal again, within a search.
+    pub fn resume(&mut self) {
+        self.next = 0;
     }
 
     /// Ends with a trail on which each variable has a value: its literals are planned, the oldest first. Where choices are
