@@ -4,7 +4,7 @@
 //! whose flip may make that group true is tried; where the flip leaves out one other group of the set alone, and no
 //! assignment is known that shows that one critical, what comes of it is remembered, and turned in its turn (model
 //! rotation, Marques-Silva and Lynce 2011).
-ghost use Rattle.std.specs.Prelude.{◌≡◌, ◌<◌, ◌≤◌, All, length};
+ghost use Rattle.std.specs.Prelude.{◌≡◌, ◌<◌, ◌≤◌, All, IfOk, length};
 ghost use Rattle.model_flips.specs.Rotation.{IsListing, Satisfies};
 ghost use Rattle.known_sets.specs.Memory.{IsSatisfied};
 
@@ -18,7 +18,8 @@ use std::alloc::{AllocError, Global};
 // An assignment that leaves out more groups than that is not turned.
 const MOST_LEFT_OUT: usize = 64;
 
-/// Turns the assignments from this number on, with those that come of it, until so much was looked at.
+/// Turns the assignments from this number on, with those that come of it, until so much was looked at for nothing: what
+/// shows a group critical saves a question.
 pub fn turn_all(
     alloc: Global,
     rotation: &Rotation,
@@ -71,7 +72,8 @@ fn turn_one(
     )
 }
 
-// Flips each variable that may make the group true.
+// Flips each variable that may make the group true. What was looked at counts where nothing comes of it that leaves out one
+// group alone.
 fn turn_by_each(
     alloc: Global,
     rotation: &Rotation,
@@ -89,18 +91,25 @@ fn turn_by_each(
     if assign.len() != vars as usize {
         return Ok(());
     }
+    let before = *looks;
+    let mut found = false;
     for var in rotation.candidates(alloc, problem, assign, group)? {
         if var > 0 && var <= vars {
-            turn_by(
-                alloc, rotation, problem, shrinking, satisfied, out, assign, var,
-            )?;
             *looks = looks.saturating_add(rotation.cost(var));
+            let more = turn_by(
+                alloc, rotation, problem, shrinking, satisfied, out, assign, var, looks,
+            )?;
+            found = found || more;
         }
+    }
+    if found {
+        *looks = before;
     }
     Ok(())
 }
 
-// Flips one variable, and remembers what comes of it where that shows one more group critical.
+// Flips one variable, and remembers what comes of it where that shows one more group critical. It tells whether that leaves
+// out no other group.
 fn turn_by(
     alloc: Global,
     rotation: &Rotation,
@@ -110,21 +119,18 @@ fn turn_by(
     out: &GroupSet,
     assign: &Assign,
     var: u32,
-) -> Result<(), AllocError>
+    looks: &mut u64,
+) -> Result<bool, AllocError>
     requires not_zero { 0 < var }
     requires in_range { var ≤ problem.now.vars }
     requires assign { length assign.now ≡ problem.now.vars }
     ensures { IsListing problem.now.clauses rotation.now → Satisfies problem.now out.now assign.now → All (IsSatisfied problem.now) satisfied.old → All (IsSatisfied problem.now) satisfied.new }
 {
     let Some(turned) = rotation.turned(alloc, problem, out, assign, var)? else {
-        return Ok(());
+        return Ok(false);
     };
-    let Turned {
-        out: left,
-        assign: flipped,
-    } = turned;
-    let Some(group) = lone(shrinking, left.as_slice()) else {
-        return Ok(());
+    let Some(group) = lone(shrinking, turned.out.as_slice()) else {
+        return Ok(false);
     };
     let wanted = Wanted {
         marks: shrinking,
@@ -132,9 +138,65 @@ fn turn_by(
         but: group,
     };
     if satisfied.find(wanted).is_some() {
-        return Ok(());
+        return Ok(false);
     }
-    satisfied.insert(&left, flipped)
+    let tidy = tidied(alloc, rotation, problem, turned, group, looks)?;
+    let alone = is_alone(tidy.out.as_slice(), group);
+    let Turned {
+        out: left,
+        assign: flipped,
+    } = tidy;
+    satisfied.insert(&left, flipped)?;
+    Ok(alone)
+}
+
+// Where an assignment leaves out one other group besides this one, tries to make that true by the flip of one variable.
+fn tidied(
+    alloc: Global,
+    rotation: &Rotation,
+    problem: &Problem,
+    turned: Turned,
+    group: u32,
+    looks: &mut u64,
+) -> Result<Turned, AllocError>
+    ensures { IfOk result (λ tidy. IsListing problem.now.clauses rotation.now → Satisfies problem.now turned.out turned.assign → Satisfies problem.now tidy.out tidy.assign) }
+{
+    let vars = problem.vars();
+    if turned.assign.len() != vars as usize {
+        return Ok(turned);
+    }
+    let Some(other) = second_of(turned.out.as_slice(), group) else {
+        return Ok(turned);
+    };
+    for var in rotation.candidates(alloc, problem, &turned.assign, other)? {
+        if var > 0 && var <= vars {
+            *looks = looks.saturating_add(rotation.cost(var));
+            let more = rotation.turned(alloc, problem, &turned.out, &turned.assign, var)?;
+            if let Some(tidy) = more {
+                if is_alone(tidy.out.as_slice(), group) {
+                    return Ok(tidy);
+                }
+            }
+        }
+    }
+    Ok(turned)
+}
+
+// Whether these groups are this one alone.
+fn is_alone(groups: &[u32], group: u32) -> bool {
+    groups.len() == 1 && groups[0] == group
+}
+
+// The other one of two groups.
+fn second_of(groups: &[u32], group: u32) -> Option<u32> {
+    if groups.len() != 2 {
+        return None;
+    }
+    if groups[0] == group {
+        Some(groups[1])
+    } else {
+        Some(groups[0])
+    }
 }
 
 // The one group of these that is marked, where they are few.

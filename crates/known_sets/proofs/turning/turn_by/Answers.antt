@@ -12,7 +12,7 @@ pub returns : goal.returns
 returns c = λ listing before all.
     let p = c.args.problem.now in
     let turned = subst (λ (o : Option Turned). IfSome o (IsTurned p c.args.rotation.now c.args.out.now c.args.assign.now)) c.in-Some.is c.in_ok-turned.ensures in
-    let known : Entry (List Bool) = record { set = c.in-Some.turned.out; evidence = c.in-Some.turned.assign } in
+    let known : Entry (List Bool) = record { set = c.in_ok-tidy.tidy.out; evidence = c.in_ok-tidy.tidy.assign } in
     All-inserted (IsSatisfied p) c.insert.result c.args.satisfied.now c.insert.new.self known
     (subst (λ before. OnOk c.insert.result (c.insert.new.self ≡ before ++ known ∷ [])) c.find.ensures c.insert.ensures.ok)
-    (subst (λ before. OnErr c.insert.result (c.insert.new.self ≡ before)) c.find.ensures c.insert.ensures.err) all (turned listing before)
+    (subst (λ before. OnErr c.insert.result (c.insert.new.self ≡ before)) c.find.ensures c.insert.ensures.err) all (c.in_ok-tidy.ensures listing (turned listing before))
