@@ -1,3 +1,4 @@
 pub mod RecordLemmas
 pub mod NodeLemmas
 pub mod ThirdLemmas
+pub mod SetLemmas

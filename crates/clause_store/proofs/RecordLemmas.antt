@@ -2,6 +2,7 @@
 use Rattle.std.proofs.Common.{suc, refl, sym, ap, ap₂, ◌∙◌, arith, subst, inl, inr, drop, length-drop, length-set, set, ◌≡◌, ℕ, ℤ, ◌-◌, List, [], ◌∷◌, ◌++◌, length, map, get_or, All, slice_range}
 use Rattle.std.proofs.lemmas.List.{map_push, length-take-le}
 use Rattle.std.proofs.lemmas.List.Elements.{All-drop, All-take, All-set}
+use Rattle.std.proofs.Math.Seq.{map-set_same}
 use Rattle.std.specs.List.{AllByRecursion}
 use Rattle.sat_base.proofs.SpanLemmas.{range_before, range_at_end}
 use Rattle.sat_base.specs.Literals.{IsLiteral, AreLiterals}
@@ -10,6 +11,7 @@ use Rattle.std.specs.Vec.{with_item}
 use Rattle.clause_store.specs.Inner.{cut_by, IsWithin, HasMix, IsLaidOut}
 use Rattle.clause_store.specs.declared.store.Store.TheInside.{Inside}
 use Rattle.clause_store.specs.Thirds.{mix_of}
+use Rattle.clause_store.specs.Words.{AreSets}
 use Rattle.clause_store.specs.declared.store.ClauseRecord.{ClauseRecord}
 
 -- a record within the old literals cuts the same from the longer list
@@ -18,6 +20,12 @@ cut_before vars last ls ms r w =
     ap (λ (cut : List ℤ). record { lits = cut; live = r.live }) (range_before ls ms r.start r.end w.ordered w.within)
 
 -- so the clauses that were there stay
+pub lits_before : (vars last : ℕ) (ls ms : List ℤ) (records : List ClauseRecord) → All (IsWithin vars (length ls) last) records
+    → map (λ r. (cut_by (ls ++ ms) r).lits) records ≡ map (λ r. (cut_by ls r).lits) records
+lits_before vars last ls ms [] w = refl
+lits_before vars last ls ms (r ∷ records) w =
+    ap₂ ◌∷◌ (range_before ls ms r.start r.end (w 0 r (omega arith)).ordered (w 0 r (omega arith)).within) (lits_before vars last ls ms records (λ k d h. w (suc k) d (omega arith)))
+
 cuts_before : (vars last : ℕ) (ls ms : List ℤ) (records : List ClauseRecord) → All (IsWithin vars (length ls) last) records → map (cut_by (ls ++ ms)) records ≡ map (cut_by ls) records
 cuts_before vars last ls ms [] w = refl
 cuts_before vars last ls ms (r ∷ records) w =
@@ -57,9 +65,10 @@ long_cut vars last ls r w =
     let within = w.within in
     length-take-le (r.end - r.start) (drop r.start ls) (omega (arith, within, length-drop r.start ls))
 
--- one record is another that fits
-pub laid_set : (a : Inside) (i : ℕ) (y : ClauseRecord) → IsLaidOut a → IsWithin a.vars (length a.lits.items) (length a.records.items) y → HasMix a.lits.items y → IsLaidOut (record a { records = with_item a.records i y })
-laid_set a i y inv fits mixed =
+-- one record is another that fits, and cuts the same literals
+pub laid_set : (a : Inside) (i : ℕ) (y r : ClauseRecord) → IsLaidOut a → r ≡ get_or a.records.items i r → (cut_by a.lits.items y).lits ≡ (cut_by a.lits.items r).lits
+    → IsWithin a.vars (length a.lits.items) (length a.records.items) y → HasMix a.lits.items y → IsLaidOut (record a { records = with_item a.records i y })
+laid_set a i y r inv is same fits mixed =
     let records = a.records.items in
     let long : length (set records i y) ≡ length records = length-set records i y in
     record {
@@ -67,6 +76,7 @@ laid_set a i y inv fits mixed =
       over = inv.over;
       within = subst (λ (n : ℕ). All (IsWithin a.vars (length a.lits.items) n) (set records i y)) (sym long) (All-set (IsWithin a.vars (length a.lits.items) (length records)) records i y fits inv.within);
       mixes = All-set (HasMix a.lits.items) records i y mixed inv.mixes;
+      sets = subst (AreSets a.words.items) (sym (map-set_same (λ x. (cut_by a.lits.items x).lits) records i y r (same ∙ ap (λ x. (cut_by a.lits.items x).lits) is))) inv.sets;
       counted = inv.counted;
       lits_counted = inv.lits_counted;
       a_head_each = inv.a_head_each;

@@ -4,6 +4,7 @@ use Rattle.sat_base.specs.Literals.{IsLiteral}
 use Rattle.sat_base.specs.Database.{StoredClause}
 use Rattle.clause_store.specs.Clauses.{Clauses}
 use Rattle.clause_store.specs.Thirds.{mix_of}
+use Rattle.clause_store.specs.Words.{AreSets}
 use Rattle.clause_store.specs.declared.store.ClauseRecord.{ClauseRecord}
 use Rattle.clause_store.specs.declared.store.Store.TheInside.{Inside}
 
@@ -35,6 +36,10 @@ most = 2 ^ 32 - 1
 abbrev pub clauses_of : Inside → List StoredClause
 clauses_of a = map (cut_by a.lits.items) a.records.items
 
+-- the literals of each clause
+abbrev pub literals_of : Inside → List (List ℤ)
+literals_of a = map (λ r. (cut_by a.lits.items r).lits) a.records.items
+
 abbrev pub store_of : Inside → Clauses
 store_of a =
     record {
@@ -55,6 +60,7 @@ pub record IsLaidOut (a : Inside) : Type 0 where
   pub over : All (IsLiteral a.vars) a.lits.items
   pub within : All (IsWithin a.vars (length a.lits.items) (length a.records.items)) a.records.items
   pub mixes : All (HasMix a.lits.items) a.records.items
+  pub sets : AreSets a.words.items (literals_of a)
   pub counted : vec_len a.records ≤ most
   pub lits_counted : vec_len a.lits ≤ most
   pub a_head_each : length a.heads.items ≡ 2 * a.vars + 2

@@ -1,4 +1,5 @@
 pub mod Clauses
 pub mod Links
 pub mod Thirds
+pub mod Words
 pub mod Inner

@@ -18,5 +18,6 @@ mod store;
 #[cfg(test)]
 mod tests;
 mod thirds;
+mod words;
 
 pub use store::Store;

@@ -13,6 +13,8 @@
 //! A watch can be parked instead: then its link goes on in another list, of those that are parked under a literal, of which
 //! a third table has the first one.
 //!
+//! Where there are at most 64 variables, a table beside the records has the literals of each clause as a set (`words.rt`).
+//!
 //! Places in the list of literals and ids are kept in 32 bits. A store that would outgrow them answers want of memory.
 ghost use Rattle.std.specs.Prelude.{◌≡◌, ℕ, ℤ, ◌+◌, ◌<◌, ◌≤◌, ◌^◌, ◌++◌, ◌∷◌, [], None, length, IfOk, OnOk, OnErr, IsOk};
 ghost use Rattle.sat_base.specs.Literals.{AreLiterals};
@@ -22,6 +24,8 @@ ghost use Rattle.clause_store.specs.Clauses.{clause_at, IsId, HasRoomFor};
 ghost use Rattle.clause_store.specs.Links.{watched_at, next_of, head_of, tail_of, park_of, KeepsLinks};
 
 use crate::thirds::mix;
+use crate::words::{keep_words, reserve_words};
+use lit_words::LitWords;
 use sat_base::Lit;
 use std::alloc::{AllocError, Global};
 use std::marker::Model;
@@ -51,6 +55,8 @@ pub struct Store {
     pub(crate) vars: u32,
     pub(crate) lits: Vec<Lit>,
     pub(crate) records: Vec<ClauseRecord>,
+    // By clause, the first one's first: its literals as a set. The last clauses may have none.
+    pub(crate) words: Vec<LitWords>,
     // By literal, in two rows for each variable.
     pub(crate) heads: Vec<u32>,
     pub(crate) tails: Vec<u32>,
@@ -88,6 +94,7 @@ impl Store {
             vars,
             lits: Vec::new(alloc),
             records: Vec::new(alloc),
+            words: Vec::new(alloc),
             heads: vec![in alloc; 0u32; rows]?,
             tails: vec![in alloc; 0u32; rows]?,
             parks: vec![in alloc; 0u32; rows]?,
@@ -126,6 +133,7 @@ impl Store {
         if literals > (MOST - self.lits.len()) as u64 {
             return Err(AllocError);
         }
+        reserve_words(&mut self.words, self.vars, count as usize)?;
         self.records.reserve(count as usize)?;
         self.lits.reserve(literals as usize)
     }
@@ -149,6 +157,7 @@ impl Store {
         self.records.reserve(1)?;
         self.lits.extend_from_slice(lits)?;
         let end = self.lits.len() as u32;
+        keep_words(&mut self.words, self.vars, self.records.len(), lits);
         self.records.push_reserved(ClauseRecord {
             watched: [Lit::new(1), Lit::new(1)],
             next: [0, 0],

@@ -1,8 +1,10 @@
 //! Clauses come back as they were added.
 ghost use Rattle.std.specs.Prelude.{◌≡◌};
+ghost use Rattle.sat_base.specs.Literals.{IsLiteral};
 ghost use Rattle.clause_store.specs.Clauses.{IsId};
 
 use crate::Store;
+use lit_words::LitWords;
 use sat_base::Lit;
 use std::alloc::AllocError;
 
@@ -163,5 +165,44 @@ fn position_is_the_one_that_was_set(rt: HostRuntime) -> Result<(), AllocError> {
     assert!(rt; position_set_to(&mut store, four, 9) == 4);
     store.set_position(three, 2);
     assert!(rt; store.third(three, a, b) == Some(c));
+    Ok(())
+}
+
+// A literal of a clause that is neither `other` nor false, by its words.
+fn open_by_words(store: &Store, id: u64, trues: LitWords, other: Lit) -> Option<Lit>
+    requires id { IsId store.now.clauses id }
+    requires other { IsLiteral 64 other }
+{
+    store.words(id)?.open(trues, other)
+}
+
+#[test]
+fn clauses_over_64_variables_have_words(rt: HostRuntime) -> Result<(), AllocError> {
+    let alloc = rt.alloc();
+    let mut store = Store::new(alloc, 64)?;
+    store.reserve(1, 2)?;
+    let first = store.add_reserved(&[Lit::new(64), Lit::new(-1)], true);
+    let second = store.add(
+        &[Lit::new(2), Lit::new(-2), Lit::new(2), Lit::new(-63)],
+        true,
+    )?;
+    store.forget(first);
+    let none = LitWords::new();
+    let trues = LitWords::of(&[Lit::new(-2), Lit::new(63)]);
+    assert!(rt; open_by_words(&store, first, none, Lit::new(64)) == Some(Lit::new(-1)));
+    assert!(rt; open_by_words(&store, first, none, Lit::new(-1)) == Some(Lit::new(64)));
+    assert!(rt; open_by_words(&store, second, none, Lit::new(2)) == Some(Lit::new(-2)));
+    assert!(rt; open_by_words(&store, second, trues, Lit::new(-63)) == Some(Lit::new(-2)));
+    assert!(rt; open_by_words(&store, second, trues, Lit::new(-2)).is_none());
+    Ok(())
+}
+
+#[test]
+fn clauses_over_65_variables_have_none(rt: HostRuntime) -> Result<(), AllocError> {
+    let alloc = rt.alloc();
+    let mut store = Store::new(alloc, 65)?;
+    let id = store.add(&[Lit::new(1), Lit::new(-2)], true)?;
+    assert!(rt; store.words(id).is_none());
+    assert!(rt; store.lits(id).len() == 2);
     Ok(())
 }

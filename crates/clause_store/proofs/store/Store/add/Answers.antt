@@ -1,6 +1,6 @@
-use Rattle.std.proofs.Common.{◌≡◌, ◌≤◌, ◌<◌, ◌+◌, ◌∙◌, ◌++◌, ◌∷◌, [], ◌/◌, ◌%◌, ℕ, ℤ, zero, suc, get_or, List, All, length, length-append, ap, subst, sym, arith, refl, false}
+use Rattle.std.proofs.Common.{◌≡◌, ◌≤◌, ◌<◌, ◌+◌, ◌∙◌, ◌++◌, ◌∷◌, [], ◌/◌, ◌%◌, ℕ, ℤ, zero, suc, get_or, List, All, length, length-append, ap, ap₂, map, subst, sym, arith, refl, false}
 use Rattle.std.proofs.lemmas.Bool.{false≢true}
-use Rattle.std.proofs.lemmas.List.{length_push}
+use Rattle.std.proofs.lemmas.List.{length_push, length-map, map_push}
 use Rattle.std.proofs.lemmas.List.Elements.{All-push, All-append}
 use Rattle.sat_base.specs.Literals.{IsLiteral, AreLiterals}
 use Rattle.clause_store.specs.Clauses.{Clauses}
@@ -8,7 +8,9 @@ use Rattle.clause_store.specs.declared.store.ClauseRecord.{ClauseRecord}
 use Rattle.clause_store.specs.Inner.{cut_by, watched_by, IsWithin, HasMix}
 use Rattle.clause_store.specs.Thirds.{mix_of}
 use Rattle.sat_base.proofs.SpanLemmas.{range_at_end}
-use Rattle.clause_store.proofs.RecordLemmas.{cuts_after_add, mixes_before}
+use Rattle.clause_store.proofs.RecordLemmas.{cuts_after_add, mixes_before, lits_before}
+use Rattle.clause_store.specs.Words.{AreSets}
+use Rattle.clause_store.proofs.SetLemmas.{sets_keep_up}
 use Rattle.clause_store.proofs.NodeLemmas.{watches-push, nexts-push, within-more, all-more, from_recursion}
 use Rattle.clause_store.proofs.store.Store.add.Goals as goal
 
@@ -65,6 +67,12 @@ invariant_of-self-2 c =
     let old : All P a.records.items = all-more (IsWithin a.vars (length a.lits.items) (length a.records.items)) P a.records.items
     (λ r w. within-more a.vars (length a.lits.items) (length a.records.items) (length c.extend_from_slice.new.self.items) (length c.push_reserved.new.self.items) r lits_more (omega (arith, more)) w) inv.within
     in
+    let counted : c.len-2.result ≡ length a.records.items = grind arith in
+    let literals : map (λ r. (cut_by c.extend_from_slice.new.self.items r).lits) c.push_reserved.new.self.items ≡ map (λ r. (cut_by a.lits.items r).lits) a.records.items ++ c.args.lits.now ∷ [] =
+    ap (map (λ r. (cut_by c.extend_from_slice.new.self.items r).lits)) items
+    ∙ map_push (λ r. (cut_by c.extend_from_slice.new.self.items r).lits) a.records.items y
+    ∙ ap₂ (λ (ls : List (List ℤ)) (l : List ℤ). ls ++ l ∷ []) (ap (λ (ls : List ℤ). map (λ r. (cut_by ls r).lits) a.records.items) longer ∙ lits_before a.vars (length a.records.items) a.lits.items c.args.lits.now a.records.items inv.within) cut
+    in
     record {
       small = inv.small;
       over = subst (λ (ls : List ℤ). All (IsLiteral a.vars) ls) (sym longer) (All-append (IsLiteral a.vars) a.lits.items c.args.lits.now inv.over (from_recursion (IsLiteral a.vars) c.args.lits.now over_args));
@@ -72,6 +80,9 @@ invariant_of-self-2 c =
       mixes = subst (λ (rs : List ClauseRecord). All (HasMix c.extend_from_slice.new.self.items) rs) (sym items) (All-push (HasMix c.extend_from_slice.new.self.items) a.records.items y
           (subst (λ (ls : List ℤ). All (HasMix ls) a.records.items) (sym longer) (mixes_before a.vars (length a.records.items) a.lits.items c.args.lits.now a.records.items inv.within inv.mixes))
           (λ is. c.mix.ensures (ap length (sym cut) ∙ is) ∙ ap mix_of (sym cut)));
+      sets = subst (λ (ls : List (List ℤ)). AreSets c.keep_words.new.words.items ls) (sym literals)
+          (sets_keep_up a.words.items c.keep_words.new.words.items (map (λ r. (cut_by a.lits.items r).lits) a.records.items) c.args.lits.now c.len-2.result inv.sets
+          (omega (arith, counted, length-map a.records.items (λ r. (cut_by a.lits.items r).lits))) c.keep_words.ensures);
       counted = grind (arith, starts, more);
       lits_counted = grind (arith, long, starts);
       a_head_each = inv.a_head_each;

@@ -1,10 +1,11 @@
-use Rattle.std.proofs.Common.{◌≡◌, ◌≤◌, ◌<◌, ◌-◌, ℕ, All, length, length-set, arith, subst, sym, refl, set, ◌∙◌}
+use Rattle.std.proofs.Common.{◌≤◌, ◌<◌, ◌-◌, length, length-set, arith, subst, sym, refl, set, ◌∙◌}
 use Rattle.std.proofs.lemmas.List.{length-map}
 use Rattle.clause_store.specs.Clauses.{Clauses}
 use Rattle.clause_store.specs.Links.{link_of}
 use Rattle.std.proofs.lemmas.List.Elements.{All-set}
 use Rattle.clause_store.specs.declared.store.ClauseRecord.{ClauseRecord}
 use Rattle.clause_store.specs.Inner.{store_of, cut_by, watched_by, IsWithin, HasMix}
+use Rattle.clause_store.proofs.RecordLemmas.{laid_set}
 use Rattle.clause_store.proofs.NodeLemmas.{table-set_same, table-set_other, map-kept}
 use Rattle.clause_store.proofs.store.Store.set_next.Goals as goal
 
@@ -51,7 +52,6 @@ invariant_of-self c =
     let i : c.args.id - 1 < length records = omega (arith, within, c.requires.id.from_one) in
     let safe = subst (λ (x : ClauseRecord). IsWithin a.vars (length a.lits.items) (length records) x) (sym c.index_mut-record.ensures.value) (inv.within (c.args.id - 1) r i) in
     let y : ClauseRecord = record { start = r.start; end = r.end; watched = r.watched; next = set r.next c.args.place c.number_of-next.result; third = r.third; live = r.live; is_watched = r.is_watched } in
-    let long : length (set records (c.args.id - 1) y) ≡ length records = length-set records (c.args.id - 1) y in
     let to : c.number_of-next.result ≤ length records = omega (arith, c.number_of-next.ensures, subst (λ (s : Clauses). link_of c.args.to ≤ length s.clauses) (sym c.self.view_is) c.requires.to.within, length-map records (cut_by a.lits.items)) in
     let fits : IsWithin a.vars (length a.lits.items) (length records) y = record {
       ordered = safe.ordered;
@@ -61,18 +61,4 @@ invariant_of-self c =
       two_watched = safe.two_watched;
       two_next = length-set r.next c.args.place c.number_of-next.result ∙ safe.two_next;
     } in
-    record {
-      small = inv.small;
-      over = inv.over;
-      within = subst (λ (n : ℕ). All (IsWithin a.vars (length a.lits.items) n) (set records (c.args.id - 1) y)) (sym long)
-          (All-set (IsWithin a.vars (length a.lits.items) (length records)) records (c.args.id - 1) y fits inv.within);
-      mixes = All-set (HasMix a.lits.items) records (c.args.id - 1) y (subst (λ (x : ClauseRecord). HasMix a.lits.items x) (sym c.index_mut-record.ensures.value) (inv.mixes (c.args.id - 1) r i)) inv.mixes;
-      counted = inv.counted;
-      lits_counted = inv.lits_counted;
-      a_head_each = inv.a_head_each;
-      a_tail_each = inv.a_tail_each;
-      a_park_each = inv.a_park_each;
-      heads = rw long inv.heads;
-      tails = rw long inv.tails;
-      parks = rw long inv.parks;
-    }
+    laid_set a (c.args.id - 1) y r inv c.index_mut-record.ensures.value refl fits (subst (λ (x : ClauseRecord). HasMix a.lits.items x) (sym c.index_mut-record.ensures.value) (inv.mixes (c.args.id - 1) r i))

@@ -48,6 +48,6 @@ invariant_of-self c =
     let safe = subst (λ (x : ClauseRecord). IsWithin a.vars (length a.lits.items) (length records) x) (sym c.index_mut-record.ensures.value) (inv.within (c.args.id - 1) r i) in
     let mixed = subst (λ (x : ClauseRecord). HasMix a.lits.items x) (sym c.index_mut-record.ensures.value) (inv.mixes (c.args.id - 1) r i) in
     let y : ClauseRecord = record { start = r.start; end = r.end; watched = r.watched; next = r.next; third = r.third; live = r.live; is_watched = false } in
-    laid_set a (c.args.id - 1) y inv
+    laid_set a (c.args.id - 1) y r inv c.index_mut-record.ensures.value refl
     (record { ordered = safe.ordered; within = safe.within; watched = λ e. absurd (false≢true e); next = safe.next; two_watched = safe.two_watched; two_next = safe.two_next })
     mixed

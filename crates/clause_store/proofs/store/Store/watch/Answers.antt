@@ -1,10 +1,10 @@
-use Rattle.std.proofs.Common.{◌≡◌, ◌≢◌, ◌≤◌, ◌<◌, ◌-◌, ◌∙◌, ℕ, ℤ, All, length, arith, ap₂, subst, sym, refl, set, get_or, true, Some, pos, get_or-set_same, get_or-set_other, length-set}
+use Rattle.std.proofs.Common.{◌≡◌, ◌≢◌, ◌≤◌, ◌<◌, ◌-◌, ◌∙◌, ℕ, ℤ, length, arith, ap₂, subst, sym, refl, set, get_or, true, Some, pos, get_or-set_same, get_or-set_other, length-set}
 use Rattle.std.proofs.lemmas.List.{length-map}
 use Rattle.clause_store.specs.Clauses.{Clauses}
 use Rattle.clause_store.specs.declared.store.ClauseRecord.{ClauseRecord}
 use Rattle.clause_store.specs.Inner.{store_of, cut_by, watched_by, IsWithin, HasMix}
-use Rattle.std.proofs.lemmas.List.Elements.{All-set}
 use Rattle.sat_base.specs.Literals.{IsLiteral}
+use Rattle.clause_store.proofs.RecordLemmas.{laid_set}
 use Rattle.clause_store.proofs.NodeLemmas.{row-same, row-other, map-kept, pair-set}
 use Rattle.clause_store.proofs.store.Store.watch.Goals as goal
 
@@ -59,7 +59,6 @@ invariant_of-self c =
     let y : ClauseRecord = record { start = r.start; end = r.end; watched = set (set r.watched 0 c.args.first) 1 c.args.second; next = r.next; third = r.third; live = r.live; is_watched = true } in
     let first = subst (λ (s : Clauses). IsLiteral s.vars c.args.first) (sym c.self.view_is) c.requires.first in
     let second = subst (λ (s : Clauses). IsLiteral s.vars c.args.second) (sym c.self.view_is) c.requires.second in
-    let long : length (set records (c.args.id - 1) y) ≡ length records = length-set records (c.args.id - 1) y in
     let fits : IsWithin a.vars (length a.lits.items) (length records) y = record {
       ordered = safe.ordered;
       within = safe.within;
@@ -68,18 +67,4 @@ invariant_of-self c =
       two_watched = length-set (set r.watched 0 c.args.first) 1 c.args.second ∙ length-set r.watched 0 c.args.first ∙ safe.two_watched;
       two_next = safe.two_next;
     } in
-    record {
-      small = inv.small;
-      over = inv.over;
-      within = subst (λ (n : ℕ). All (IsWithin a.vars (length a.lits.items) n) (set records (c.args.id - 1) y)) (sym long)
-          (All-set (IsWithin a.vars (length a.lits.items) (length records)) records (c.args.id - 1) y fits inv.within);
-      mixes = All-set (HasMix a.lits.items) records (c.args.id - 1) y (subst (λ (x : ClauseRecord). HasMix a.lits.items x) (sym c.index_mut-record.ensures.value) (inv.mixes (c.args.id - 1) r i)) inv.mixes;
-      counted = inv.counted;
-      lits_counted = inv.lits_counted;
-      a_head_each = inv.a_head_each;
-      a_tail_each = inv.a_tail_each;
-      a_park_each = inv.a_park_each;
-      heads = rw long inv.heads;
-      tails = rw long inv.tails;
-      parks = rw long inv.parks;
-    }
+    laid_set a (c.args.id - 1) y r inv c.index_mut-record.ensures.value refl fits (subst (λ (x : ClauseRecord). HasMix a.lits.items x) (sym c.index_mut-record.ensures.value) (inv.mixes (c.args.id - 1) r i))
