@@ -5,3 +5,4 @@ pub mod ValueLemmas
 pub mod OrderLemmas
 pub mod HeapLemmas
 pub mod WaitLemmas
+pub mod SetLemmas

@@ -9,6 +9,7 @@ use Rattle.trail_book.specs.Trail.{Trail, trues, IsTrail}
 use Rattle.trail_book.specs.Slots.{entries_of, AreKept}
 use Rattle.trail_book.specs.Values.{AreValues}
 use Rattle.trail_book.specs.Order.{Ranking, rank}
+use Rattle.lit_words.specs.Words.{AreWordsOf}
 use Rattle.trail_book.specs.Heap.{Heap, IsHeap, Holds}
 
 -- what callers see of a ranking
@@ -56,4 +57,5 @@ pub record AreTables (inside : Inside) : Type 0 where
   pub ranked : length inside.ranking.activities ≡ inside.vars
   pub sized : length inside.heap.items ≡ inside.vars
   pub heap : IsHeap (rank inside.ranking) inside.heap
+  pub words : inside.vars ≤ 64 → AreWordsOf inside.words (trues (entries_of (reverse inside.slots.items)))
   pub waiting : AreWaiting inside.values.items inside.heap

@@ -31,6 +31,7 @@ mod slot;
 mod tests;
 mod trail;
 mod value;
+mod words;
 
 pub use entry::Entry;
 pub use trail::Trail;

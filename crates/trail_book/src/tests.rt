@@ -4,6 +4,7 @@ ghost use Rattle.sat_base.specs.Units.{IsUnset};
 ghost use Rattle.trail_book.specs.Trail.{trues};
 
 use super::*;
+use lit_words::LitWords;
 use sat_base::Lit;
 use std::alloc::{AllocError, Global};
 use std::test::Fail;
@@ -301,5 +302,29 @@ fn literal_is_picked_as_it_was_last_held(rt: HostRuntime) -> Result<(), Fail> {
     );
     trail.back_to(0);
     assert!(rt; trail.pick_true().is_some_and(|lit| lit.number() == 1));
+    Ok(())
+}
+
+// A literal of these that is not false and is not 2, by the trail's words.
+fn open_beside_2(trail: &Trail, clause: LitWords) -> Option<Lit> {
+    clause.open(trail.true_words()?, Lit::new(2))
+}
+
+#[test]
+fn words_follow_the_trail(rt: HostRuntime) -> Result<(), AllocError> {
+    let alloc = rt.alloc();
+    let mut trail = Trail::new(alloc, 64)?;
+    let clause = LitWords::of(&[Lit::new(-1), Lit::new(2), Lit::new(64)]);
+    assert!(rt; open_beside_2(&trail, clause) == Some(Lit::new(64)));
+    decide(&mut trail, -64);
+    assert!(rt; open_beside_2(&trail, clause) == Some(Lit::new(-1)));
+    decide(&mut trail, 3);
+    assign(&mut trail, 1, 7);
+    assert!(rt; open_beside_2(&trail, clause).is_none());
+    trail.back_to(1);
+    assert!(rt; open_beside_2(&trail, clause) == Some(Lit::new(-1)));
+    trail.back_to(0);
+    assert!(rt; open_beside_2(&trail, clause) == Some(Lit::new(64)));
+    assert!(rt; Trail::new(alloc, 65)?.true_words().is_none());
     Ok(())
 }

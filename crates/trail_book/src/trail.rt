@@ -10,12 +10,15 @@
 //! value stays there until it comes to the top, since most lose their value again before that. One that loses its value is
 //! taken in without order. Only a decision asks for order, and what has a value by then is let go before.
 //!
+//! Where there are at most 64 variables, the true literals are kept as a set besides, in two words.
+//!
 //! What was last true is noted where a value is taken back, and not where it comes: for a variable with a value that is
 //! the literal on the trail.
 ghost use Rattle.std.specs.Prelude.{◌≡◌, ℕ, ◌+◌, ◌-◌, ◌<◌, ◌≤◌, ◌^◌, ◌∷◌, [], length, map, drop, ℤ, pos, true, IfOk, Some, None, IfSome, IfNone, neg_ℤ, min, slice_index_or, slice_set};
 ghost use Rattle.sat_base.specs.Literals.{var_of, IsLiteral};
 ghost use Rattle.sat_base.specs.Members.{In};
 ghost use Rattle.sat_base.specs.Units.{IsUnset, HasValue, IsValue};
+ghost use Rattle.lit_words.specs.Words.{AreWordsOf};
 ghost use Rattle.trail_book.specs.declared.entry.Entry.{Entry};
 ghost use Rattle.trail_book.specs.Slots.{entry_of};
 ghost use Rattle.trail_book.specs.Order.{IsPositive, activity_of, bumped, halved, grown, turned};
@@ -26,6 +29,8 @@ use crate::heap::Heap;
 use crate::order::Ranking;
 use crate::slot::{Slot, id};
 use crate::value::Value;
+use crate::words::{FEW, note_true, note_unset};
+use lit_words::LitWords;
 use sat_base::Lit;
 use std::alloc::{AllocError, Global};
 use std::marker::Model;
@@ -46,6 +51,8 @@ pub struct Trail {
     ranking: Ranking,
     // Each variable without value is in it, and maybe others.
     heap: Heap,
+    // Where there are at most 64 variables: the literals that are true.
+    words: LitWords,
 }
 
 impl Model for Trail {
@@ -74,6 +81,7 @@ impl Trail {
             held: positive(alloc, vars)?,
             ranking: Ranking::new(alloc, vars)?,
             heap: Heap::new(alloc, vars)?,
+            words: LitWords::new(),
             done: 0,
         })
     }
@@ -153,6 +161,18 @@ impl Trail {
             None
         } else {
             Some((value == Value::True) == lit.is_positive())
+        }
+    }
+
+    /// The literals that are true as a set, where there are at most 64 variables.
+    pub fn true_words(&self) -> Option<LitWords>
+        ensures words { IfSome result (λ words. AreWordsOf words (trues self.now.entries)) }
+        ensures few { IfSome result (λ words. self.now.vars ≤ 64) }
+    {
+        if self.vars <= FEW {
+            Some(self.words)
+        } else {
+            None
         }
     }
 
@@ -397,6 +417,7 @@ impl Trail {
         ensures trail { IsTrail self.new.vars self.new.entries }
     {
         let index = (slot.lit.var() - 1) as usize;
+        note_true(&mut self.words, self.vars, slot.lit);
         self.values[index] = Value::by(slot.lit);
         self.places[index] = self.slots.len() as u32;
         self.slots.push_reserved(slot);
@@ -417,6 +438,7 @@ impl Trail {
         self.values[index as usize] = Value::Unset;
         self.held[index as usize] = slot.lit;
         self.heap.insert(index);
+        note_unset(&mut self.words, self.vars, slot.lit);
     }
 }
 

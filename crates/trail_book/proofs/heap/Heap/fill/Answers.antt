@@ -1,4 +1,4 @@
-use Rattle.std.proofs.Common.{length, sym, subst, ap, ◌∙◌, ◌<◌, arith}
+use Rattle.std.proofs.Common.{length, subst, ap, ◌∙◌, ◌<◌, arith}
 use Rattle.std.specs.Prelude.{slice_index}
 use Rattle.trail_book.specs.Heap.{Heap}
 use Rattle.trail_book.proofs.heap.Heap.fill.Goals as goal

@@ -1,4 +1,4 @@
-use Rattle.std.proofs.Common.{◌≡◌, ◌≤◌, ◌+◌, ◌*◌, length}
+use Rattle.std.proofs.Common.{◌≡◌, ◌≤◌, length}
 use Rattle.trail_book.specs.Order.{rank}
 use Rattle.trail_book.specs.Heap.{key, AreOrdered, Keeps}
 use Rattle.trail_book.proofs.heap.Heap.order_whole.Given as goal

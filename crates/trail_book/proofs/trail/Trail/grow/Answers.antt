@@ -22,5 +22,6 @@ invariant_of-self-else-grow c =
       ranked = subst (λ (r : Ranking). length r.activities ≡ c.self.inside.vars) is inv.ranked;
       sized = inv.sized;
       heap = subst (λ (r : Ranking). IsHeap (rank r) c.self.inside.heap) is (heap_grown c.self.inside.ranking c.self.inside.heap inv.heap);
+      words = inv.words;
       waiting = inv.waiting;
     }

@@ -1,4 +1,4 @@
-use Rattle.std.proofs.Common.{◌≡◌, ◌≢◌, ◌<◌, ◌∙◌, sym, length, arith}
+use Rattle.std.proofs.Common.{◌≢◌, ◌<◌, ◌∙◌, sym, length, arith}
 use Rattle.std.specs.Prelude.{slice_index_or}
 use Rattle.std.proofs.lemmas.List.{get_or_read}
 use Rattle.trail_book.specs.declared.value.Value.TheVariants.{Unset}
@@ -30,6 +30,7 @@ loop-place-preserved c =
         ranked = inv.ranked;
         sized = gone.size ∙ inv.sized;
         heap = gone.heap (rank a.ranking) inv.heap;
+        words = inv.words;
         waiting = waiting_drop a.values.items a.heap c.drop_at.new.self index has (λ item held apart. gone.holds item held (λ same. apart (same ∙ sym c.at-item.ensures.item))) inv.waiting;
       };
       same = c.loop-place.invariant.same;

@@ -8,6 +8,7 @@ use Rattle.trail_book.specs.Trail.{trues, IsTrail}
 use Rattle.trail_book.specs.Slots.{entries_of, AreKept}
 use Rattle.trail_book.specs.Order.{Ranking}
 use Rattle.trail_book.proofs.WaitLemmas.{held_of_vars, length-positive_from, values_new}
+use Rattle.lit_words.specs.Words.{AreWordsOf}
 use Rattle.trail_book.proofs.trail.Trail.new.Goals as goal
 
 -- nothing is true, and all variables wait, none of them in order yet
@@ -33,6 +34,7 @@ invariant_of-result c =
       ranked = subst (λ (r : Ranking). length r.activities ≡ vars) ranking (length-replicate vars 0);
       sized = heap.size;
       heap = λ high low f b in_heap. absurd (omega (arith, in_heap, heap.sorted));
+      words = λ few. subst (λ (ss : List Slot). AreWordsOf c.new-3.result (trues (entries_of (reverse ss)))) (sym none) (λ x. (c.new-3.ensures x, λ i. absurd i));
       waiting = λ index h gone.
           let within : index < vars = omega (arith, h, ap length values, length-replicate vars Unset) in
           heap.holds index within;

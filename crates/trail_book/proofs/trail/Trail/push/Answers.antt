@@ -11,6 +11,8 @@ use Rattle.trail_book.specs.Tables.{AreWaiting}
 use Rattle.trail_book.proofs.SlotLemmas.{push_seen, push_room, slots_room, kept_push}
 use Rattle.trail_book.proofs.ValueLemmas.{values_push}
 use Rattle.trail_book.proofs.WaitLemmas.{waiting_push}
+use Rattle.lit_words.specs.Words.{AreWordsOf}
+use Rattle.trail_book.proofs.SetLemmas.{words_with}
 use Rattle.trail_book.proofs.trail.Trail.push.Goals as goal
 
 -- no variable stands twice, so there are at most as many slots as variables
@@ -61,5 +63,6 @@ invariant_of-self c =
       ranked = inv.ranked;
       sized = inv.sized;
       heap = inv.heap;
+      words = λ few. subst (λ (ss : List Slot). AreWordsOf c.note_true.new.words (trues (entries_of ss))) (sym seen) (words_with a.words c.note_true.new.words (trues (entries_of (reverse old))) slot.lit (c.note_true.ensures few) (inv.words few));
       waiting = subst (λ (vs : List Value). AreWaiting vs a.heap) values (waiting_push a.values.items a.heap slot.lit (var_of slot.lit - 1) within inv.waiting);
     }

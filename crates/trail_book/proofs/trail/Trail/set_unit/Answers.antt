@@ -8,6 +8,7 @@ use Rattle.trail_book.specs.Tables.{trail_of, holding}
 use Rattle.trail_book.proofs.TrailLemmas.{IsTrail-with_unit, trues-with_unit}
 use Rattle.trail_book.proofs.PlaceLemmas.{place_one}
 use Rattle.trail_book.proofs.SlotLemmas.{length-entries, place_reads, unit_entries, unit_slots}
+use Rattle.lit_words.specs.Words.{AreWordsOf}
 use Rattle.trail_book.proofs.trail.Trail.set_unit.Goals as goal
 
 -- the literals, levels and places stay, and so do the values
@@ -37,6 +38,7 @@ invariant_of-self c =
       ranked = c.self.invariant.ranked;
       sized = c.self.invariant.sized;
       heap = c.self.invariant.heap;
+      words = λ few. subst (AreWordsOf c.self.inside.words) (sym trues_are) (c.self.invariant.words few);
       waiting = c.self.invariant.waiting;
     }
 

@@ -1,4 +1,4 @@
-use Rattle.std.proofs.Common.{◌≡◌, ◌<◌, ◌-◌, ◌∷◌, ◌∙◌, ℕ, List, length, set, refl, arith, ap, subst, sym, length-set}
+use Rattle.std.proofs.Common.{◌≡◌, ◌<◌, ◌-◌, ◌∷◌, ◌∙◌, ℕ, List, length, set, arith, ap, subst, sym, length-set}
 use Rattle.std.specs.Prelude.{reverse}
 use Rattle.sat_base.specs.Literals.{var_of}
 use Rattle.trail_book.specs.declared.slot.Slot.{Slot}
@@ -11,6 +11,8 @@ use Rattle.trail_book.specs.Tables.{AreOfVars, holding}
 use Rattle.trail_book.proofs.SlotLemmas.{push_seen}
 use Rattle.trail_book.proofs.ValueLemmas.{values_undo}
 use Rattle.trail_book.proofs.WaitLemmas.{waiting_undo, held_note, holding_note}
+use Rattle.lit_words.specs.Words.{AreWordsOf}
+use Rattle.trail_book.proofs.SetLemmas.{words_without}
 use Rattle.trail_book.proofs.trail.Trail.undo.Goals as goal
 
 -- the slots below the newest stay, its variable has no value any more and waits
@@ -40,6 +42,8 @@ invariant_of-self c =
       ranked = inv.ranked;
       sized = c.insert.ensures.size ∙ inv.sized;
       heap = c.insert.ensures.heap (rank a.ranking) inv.heap;
+      words = λ few. words_without a.words c.note_unset.new.words (trues (entries_of (reverse low))) slot.lit trail.0 (c.note_unset.ensures few)
+          (subst (λ (ss : List Slot). AreWordsOf a.words (trues (entries_of ss))) seen (inv.words few));
       waiting = waiting_undo a.values.items a.heap c.insert.new.self (c.var-index.result - 1) within c.insert.ensures.item c.insert.ensures.holds inv.waiting;
     }
 
@@ -56,3 +60,12 @@ returns-clause-held c =
     ∙ holding_note a.vars a.held.items (entries_of (reverse low)) slot.lit trail.2 trail.0 trail.1
     ∙ ap (λ (ss : List Slot). holding a.held.items (trues (entries_of ss))) (sym seen)
     ∙ ap (λ (t : Trail). t.held) c.self.view_is
+
+-- what is on a trail is over its variables
+pub note_unset-requires : goal.note_unset-requires
+note_unset-requires c =
+    let a = c.self.inside in
+    let low = c.take_last-slot.new.self.items in
+    let slot = c.take_last-slot.result in
+    let seen : reverse a.slots.items ≡ slot ∷ reverse low = ap reverse c.take_last-slot.ensures.items ∙ push_seen low slot in
+    (subst (λ (ss : List Slot). IsTrail a.vars (entries_of ss)) seen c.self.invariant.trail).1
