@@ -9,6 +9,8 @@ use mathlib.Core.Bool.{beq}
 use Rattle.sat_base.specs.Members.{In}
 use Rattle.sat_base.specs.Literals.{IsLiteral}
 use Rattle.sat_base.specs.Units.{AllFalse, AllFalseBut, IsUnset, IsValue}
+use Rattle.lit_words.specs.Words.{AreWordsOf, IsOpen}
+use Rattle.lit_words.specs.declared.lit_words.LitWords.{LitWords}
 use Rattle.clause_store.specs.Thirds.{IsLeft}
 use Rattle.propagate.specs.Walk.{CanWatch}
 
@@ -89,3 +91,11 @@ pub but_around : (t c : List ℤ) (from : ℕ) (other : ℤ) (o : Option (ℤ ×
     → IfNone o (AllFalseBut t (take 0 c) other → AllFalseBut t (take from c) other) → IfNone o (AllFalseBut t c other)
 but_around t c from other (Some at) behind before = tt
 but_around t c from other None behind before = but_all t c (length c) other (omega arith) (behind (before (λ l i. absurd i)))
+
+-- by words: what is open can be watched
+pub words_found : (vars : ℕ) (t c : List ℤ) (words trues : LitWords) (b : ℤ) (o : Option (ℤ × ℕ)) → AreWordsOf words c → AreWordsOf trues t → ((x : ℤ) → In x c → IsLiteral vars x)
+    → IfSome o (λ at. IsOpen words trues b at.0) → IfSome o (λ at. CanWatch vars t c b at.0)
+words_found vars t c words trues b None of_clause of_trail over h = tt
+words_found vars t c words trues b (Some at) of_clause of_trail over h =
+    let stands = (of_clause at.0).0 h.has in
+    record { stands = stands; differs = h.differs; not_false = λ i. h.not_false ((of_trail (neg_ℤ at.0)).1 i); literal = over at.0 stands }

@@ -155,7 +155,8 @@ fn watch_moves_to_the_end_of_another_list(rt: HostRuntime) -> Result<(), AllocEr
 
 #[test]
 fn search_begins_where_the_last_one_ended(rt: HostRuntime) -> Result<(), AllocError> {
-    let mut bench = Bench::new(rt.alloc(), 5)?;
+    // a clause over so many variables has no words
+    let mut bench = Bench::new(rt.alloc(), 65)?;
     bench.add(&[
         Lit::new(1),
         Lit::new(2),
@@ -175,6 +176,28 @@ fn search_begins_where_the_last_one_ended(rt: HostRuntime) -> Result<(), AllocEr
     bench.back(0);
     assert!(rt; bench.decide(Lit::new(-5)) == 0);
     assert!(rt; bench.store.head(Lit::new(1)) == Some(1));
+    Ok(())
+}
+
+#[test]
+fn long_clause_moves_by_its_words(rt: HostRuntime) -> Result<(), AllocError> {
+    let mut bench = Bench::new(rt.alloc(), 64)?;
+    bench.add(&[Lit::new(1), Lit::new(2), Lit::new(-63), Lit::new(64)])?;
+    // 1 is false, and of what is left beside 2 there is -63 and 64: the positive one comes first
+    assert!(rt; bench.decide(Lit::new(-1)) == 0);
+    assert!(rt; bench.store.head(Lit::new(64)) == Some(1));
+    assert!(rt; bench.store.head(Lit::new(2)) == Some(1));
+    // 2 is false too, and then only -63 is left beside 64
+    assert!(rt; bench.decide(Lit::new(-2)) == 0);
+    assert!(rt; bench.store.head(Lit::new(-63)) == Some(1));
+    // it is forced where 64 is false
+    assert!(rt; bench.decide(Lit::new(-64)) == 0);
+    assert!(rt; bench.trail.value(Lit::new(-63)) == Some(true));
+    bench.back(0);
+    // a literal that is true is taken rather than one without value: 2, and not 1
+    assert!(rt; bench.decide(Lit::new(2)) == 0);
+    assert!(rt; bench.decide(Lit::new(-64)) == 0);
+    assert!(rt; bench.store.head(Lit::new(2)) == Some(1));
     Ok(())
 }
 

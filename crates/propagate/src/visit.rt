@@ -1,14 +1,21 @@
 //! A look at one clause, of which one watched literal is false.
+//!
+//! Where the other one is not true, a literal is searched for that can be watched instead. Of a clause of three literals
+//! the record tells the third one. Over few variables the store has the literals of each clause as words, and the trail the
+//! true ones, so that the search is a few steps of arithmetic. Otherwise the literals are looked at one by one, from where
+//! the last search ended.
 ghost use Rattle.std.specs.Prelude.{◌≡◌, ◌≢◌, ◌⊎◌, ◌≤◌, true, false, ℕ, ℤ, List, neg_ℤ, take, length, IfSome, IfNone};
 ghost use Rattle.sat_base.specs.Members.{In};
 ghost use Rattle.sat_base.specs.Literals.{AreLiterals, IsLiteral};
 ghost use Rattle.sat_base.specs.Units.{AllFalseBut};
+ghost use Rattle.lit_words.specs.Words.{Has, IsOpen};
 ghost use Rattle.clause_store.specs.Clauses.{clause_at, IsId};
 ghost use Rattle.trail_book.specs.Trail.{trues};
 ghost use Rattle.propagate.specs.Walk.{CanWatch, IsFalseWatch, Visits};
 
 use crate::entrance::level_of;
 use clause_store::Store;
+use lit_words::LitWords;
 use sat_base::Lit;
 use trail_book::Trail;
 
@@ -89,8 +96,38 @@ fn replacement(
     let _vars = store.vars(); // The literals of its clauses are over the variables.
     match store.third(id, falsified, other) {
         Some(third) => third_open(trail, third, other),
-        None => among(store.lits(id), trail, store.position(id), falsified, other),
+        None => open_of_any(store, trail, id, falsified, other),
     }
+}
+
+// The same of a clause of any length: by words where the store and the trail have them, and else by its literals.
+fn open_of_any(
+    store: &Store,
+    trail: &Trail,
+    id: u64,
+    falsified: Lit,
+    other: Lit,
+) -> Option<(Lit, usize)>
+    requires vars { store.now.vars ≡ trail.now.vars }
+    requires id { IsId store.now.clauses id }
+    requires watch { IsFalseWatch (trues trail.now.entries) (clause_at store.now.clauses id).lits falsified other }
+    ensures found { IfSome result (λ at. CanWatch trail.now.vars (trues trail.now.entries) (clause_at store.now.clauses id).lits other at.0) }
+    ensures none { IfNone result (AllFalseBut (trues trail.now.entries) (clause_at store.now.clauses id).lits other) }
+{
+    let _vars = store.vars(); // The literals of its clauses are over the variables.
+    match (store.words(id), trail.true_words()) {
+        (Some(words), Some(trues)) => open_word(words, trues, other),
+        _ => among(store.lits(id), trail, store.position(id), falsified, other),
+    }
+}
+
+fn open_word(words: LitWords, trues: LitWords, other: Lit) -> Option<(Lit, usize)>
+    requires { IsLiteral 64 other }
+    ensures found { IfSome result (λ at. IsOpen words trues other at.0) }
+    ensures none { IfNone result ((lit : ℤ) → Has words lit → (lit ≡ other) ⊎ Has trues (neg_ℤ lit)) }
+{
+    let lit = words.open(trues, other)?;
+    Some((lit, 0))
 }
 
 fn third_open(trail: &Trail, third: Lit, other: Lit) -> Option<(Lit, usize)>
@@ -105,7 +142,7 @@ fn third_open(trail: &Trail, third: Lit, other: Lit) -> Option<(Lit, usize)>
     }
 }
 
-// The same of a clause of any length. A clause of two literals has none, and its literals are not read.
+// The same by its literals. A clause of two has none, and they are not read.
 fn among(
     clause: &[Lit],
     trail: &Trail,

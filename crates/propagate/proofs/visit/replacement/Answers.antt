@@ -3,7 +3,7 @@ use Rattle.sat_base.specs.Literals.{IsLiteral}
 use Rattle.clause_store.specs.Clauses.{clause_at}
 use Rattle.clause_store.specs.Thirds.{AreTwoOfThree}
 use Rattle.trail_book.specs.Trail.{trues}
-use Rattle.propagate.proofs.ClauseLemmas.{third_found, third_false, but_of}
+use Rattle.propagate.proofs.ClauseLemmas.{third_found, third_false}
 use Rattle.propagate.proofs.EntranceLemmas.{literal_of_clause}
 use Rattle.propagate.proofs.visit.replacement.Goals as goal
 
@@ -36,6 +36,3 @@ returns-in-Some-clause-none c =
     let two : AreTwoOfThree (clause_at s.clauses c.args.id).lits c.args.falsified c.args.other = record { three = c.in-Some.ensures.three; first_stands = w.stands; second_stands = w.other_stands; differ = w.differ } in
     third_false (trues c.args.trail.now.entries) (clause_at s.clauses c.args.id).lits c.args.falsified c.args.other c.in-Some.third c.third_open.result
     (c.in-Some.ensures.left two) w.is_false c.third_open.ensures.none
-
-pub returns-in-None-clause-none : goal.returns-in-None-clause-none
-returns-in-None-clause-none c = but_of (trues c.args.trail.now.entries) _ _ c.args.other c.among.result c.lits.ensures.lits c.among.ensures.none
