@@ -1,5 +1,5 @@
 -- What two questions share of a trail.
-use Rattle.std.proofs.Common.{◌≡◌, ◌⊎◌, ℕ, ◌+◌, ◌<◌, ◌≤◌, List, [], ◌∷◌, Option, Some, None, is_some, false, refl, sym, ◌∙◌, ap, subst, inl, inr, arith}
+use Rattle.std.proofs.Common.{◌≡◌, ◌⊎◌, ℕ, ◌+◌, ◌<◌, ◌≤◌, min, List, [], ◌∷◌, Option, Some, None, is_some, false, refl, sym, ◌∙◌, ap, subst, inl, inr, arith}
 use Rattle.std.specs.Prelude.{ℤ}
 use Rattle.std.proofs.lemmas.Bool.Decides.{leb_tells}
 use Rattle.sat_base.specs.Members.{In}
@@ -14,7 +14,7 @@ use Rattle.lrat_steps.specs.Log.{LogStep}
 use Rattle.learn_step.specs.Reasons.{IsDecision}
 use Rattle.cdcl_core.specs.State.{IsSoundEntry, IsSound, IsState, ArePositive}
 use Rattle.cdcl_core.specs.Resuming.{IsShared}
-use Rattle.cdcl_core.proofs.SearchLemmas.{sound_keep}
+use Rattle.cdcl_core.proofs.SearchLemmas.{sound_keep, sound_recount}
 use Rattle.cdcl_core.proofs.PositiveLemmas.{positive_keep, positive_recount}
 
 pub none_of : (o : Option ℕ) → is_some o ≡ false → o ≡ None
@@ -114,3 +114,23 @@ positive_shared es count n p = let high = top-keep n es in positive_recount coun
 pub state_whole : (vars : ℕ) (db : List StoredClause) (log : List LogStep) (es : List Entry) (old new : List ℤ) (count : ℕ) → AllTrue (trues (keep count es)) new → ((l : ℤ) → IsDecision (keep count es) l → In l new)
     → IsState vars db log es old count → IsState vars db log es new count
 state_whole vars db log es old new count on all s = record { recorded = s.recorded; trail = s.trail; sound = sound_over db old new count es on all s.sound; levels = s.levels }
+
+-- ---- back to a level
+
+-- the levels that were assumed stay so
+pub state_lower : (vars : ℕ) (db : List StoredClause) (log : List LogStep) (es : List Entry) (assumed : List ℤ) (count n new : ℕ) → new ≡ min count n → IsState vars db log es assumed count
+    → IsState vars db log (keep n es) assumed new
+state_lower vars db log es assumed count n new is s =
+    let high = top-keep n es in
+    record {
+      recorded = s.recorded;
+      trail = IsTrail-keep vars n es s.trail;
+      sound = sound_recount db assumed count new (keep n es) (omega (arith, is)) (λ m low within. omega (arith, is, high, low, within)) (sound_keep db assumed count n es s.sound);
+      levels = elim (leb_tells n (top es)) [
+        | inl within ↦ let exact = top-keep_exact n es within.1 in omega (arith, is, exact)
+        | inr above ↦ let whole = ap top (keep-whole n es (omega (arith, above.1))) in let levels = s.levels in omega (arith, is, whole, levels)
+      ];
+    }
+
+pub positive_lower : (es : List Entry) (count n new : ℕ) → new ≡ min count n → ArePositive count es → ArePositive new (keep n es)
+positive_lower es count n new is p = let high = top-keep n es in positive_recount count new (keep n es) (λ m low above. omega (arith, is, high, low, above)) (positive_keep count n es p)

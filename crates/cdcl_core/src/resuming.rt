@@ -51,6 +51,19 @@ impl Search {
         self.assumed_true = 0;
         back_to(&mut self.store, &mut self.trail, 0);
     }
+
+    /// Takes back the levels above this one.
+    pub fn to_level(&mut self, level: u32)
+        requires { IsReady self.old }
+        ensures ready { IsReady self.new }
+        ensures log { self.new.log ≡ self.old.log }
+        ensures vars { self.new.trail.vars ≡ self.old.trail.vars }
+        ensures true_first { self.new.true_first ≡ self.old.true_first }
+    {
+        self.assumed_levels = self.assumed_levels.min(level);
+        self.assumed_true = 0;
+        back_to(&mut self.store, &mut self.trail, level);
+    }
 }
 
 // How many of the first levels, up to `most`, were decided as assumed literals, in their order. Counts those that are true

@@ -143,8 +143,8 @@ impl Solver {
     }
 
     /// Has the next search begin elsewhere where it would find the last assignment again, and else at growing intervals:
-    /// it decides a variable first that is false now, another one for each such call. So assignments that are asked for one
-    /// after the other differ where they can, and not in a few late variables only.
+    /// it goes back and decides a variable next that is false now, another one for each such call. So assignments that are
+    /// asked for one after the other differ where they can, and not in a few late variables only.
     pub fn leave(&mut self)
         ensures { self.new ≡ self.old }
     {
