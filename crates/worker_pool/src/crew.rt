@@ -35,7 +35,27 @@ pub fn hire<O: Oracle + Drop>(
     Ok(workers)
 }
 
-/// All workers at once, in up to 64 threads. Where no thread can be had they work one after the other.
+// So many workers have a thread each, also where there are fewer processors.
+const FEW: usize = 2;
+
+// So many processors are taken where the system does not tell.
+const MANY: usize = 64;
+
+// In how many threads so many workers are at work: in as many as there are processors, or somewhat more, so that one has
+// about as many workers as another.
+fn threads_for<R: Threads>(rt: &R, workers: usize) -> usize
+    ensures { 0 < result }
+{
+    let processors = match thread::available_parallelism(rt) {
+        Ok(count) => count.get().max(FEW),
+        Err(_) => MANY,
+    };
+    let each = (workers / processors).max(1);
+    workers.div_ceil(each).max(1)
+}
+
+/// All workers at once, in threads. Where there are more workers than processors, a thread has several, which work one
+/// after the other: a seat that waits takes from those that work. Where no thread can be had, all workers do so.
 pub fn work_all<O: Oracle + Send, M: MapEngine + Send, G: Gate, R: Threads + Wait + Sync>(
     rt: &R,
     alloc: Global,
@@ -50,10 +70,11 @@ pub fn work_all<O: Oracle + Send, M: MapEngine + Send, G: Gate, R: Threads + Wai
     ensures same { length workers.new ≡ length workers.old }
     ensures each { (i : ℕ) (d : _) → i < length workers.old → HasWorked board.now problem.now O.state (slice_index_or workers.old i d) (slice_index_or workers.new i d) }
 {
+    let threads = threads_for(rt, workers.len());
     thread::for_each_mut(
         rt,
         workers,
-        64,
+        threads,
         &|_: usize, worker: &mut Worker<O>|
             requires { (board.now.opening.problem ≡ problem.now) × IsOpening board.now.opening × IsNew board.now problem.now (O.state worker.old.oracle) worker.old.seat }
             ensures { HasWorked board.entry.now problem.entry.now O.state worker.old worker.new }
