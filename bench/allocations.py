@@ -1,16 +1,17 @@
 #!/usr/bin/env python3
 """Refuses each allocation of the program in turn.
 
-    bench/allocations.py --gmus PROGRAM [--dense 1000] [--step 100] [--try NUMBERS]
+    bench/allocations.py [--gmus PROGRAM] [--dense 1000] [--step 100] [--try NUMBERS]
 
 The commands are a listing by one worker, one by two workers with evidence, a checking, and a made case where the program
 has that command. Of each, every allocation up to --dense is refused, and then each --step-th to the last one. A run has to
 end with 8 and its line and no report, or with 0 and the full output, or with 6 or 7 and their line where a call of the real
 files or streams found no memory. Where evidence was asked for, what stands under its name with 0 is accepted evidence.
 
-The allocations are refused by a small library (allocations/refuse.c) that is loaded before the program. With --try N,M,..
-those of the first command are refused by the toolchain's own option too (`rt try --fail-alloc`), which builds the program
-once for each number, about a minute each. Needs Python 3.9, Linux and a C compiler. Ends with 1 where a run ends otherwise.
+The allocations are refused by a small library (allocations/refuse.c) that is loaded before PROGRAM. It has to be the proved
+one: one that `rt try` builds has an allocator of its own. With --try N,M,.. those of the first command are refused by the
+toolchain's own option too (`rt try --fail-alloc`), which builds the program without proof once for each number, some minutes
+each. Needs Python 3.9, Linux and a C compiler. Ends with 1 where a run ends otherwise.
 """
 import argparse
 import collections
@@ -63,6 +64,8 @@ def try_command(gmus, words, folder, library, given):
     status, full, err, last = run(gmus, words, folder, library, 0)
     if (status, err) != (0, ""):
         sys.exit(f"{' '.join(words)}: status {status} with no allocation refused: {err}")
+    if not last:
+        sys.exit(f"{gmus}: none of its allocations is seen: it is not a proved program")
     counts, wrong = collections.Counter(), 0
     for at in numbers(last, given.dense, given.step):
         found = run(gmus, words, folder, library, at)
@@ -77,25 +80,23 @@ def try_command(gmus, words, folder, library, given):
 
 
 def try_by_toolchain(numbers_text):
-    """The same of the first command by the toolchain's option: 8, or 0 with the full output."""
+    """The same of the first command by the toolchain's option: 8 with no output, or 0 with the full one."""
+    with open(os.path.join(TOP, "examples", "first.report"), "rb") as report:
+        full = report.read()
     wrong = 0
     for at in filter(None, numbers_text.split(",")):
         done = subprocess.run(["rt", "try", "--fail-alloc", at, "--data", f"f={FIRST}", "--", "list", "f", "--jobs", "1"],
                               cwd=os.path.join(TOP, "crates", "gmus"), stdout=subprocess.PIPE, stderr=subprocess.PIPE)
         last = done.stderr.decode().strip().split("\n")[-1]
-        print(f"rt try --fail-alloc {at}: status {done.returncode}, {last}", flush=True)
-        wrong += done.returncode not in (0, 8)
+        right = (done.returncode, done.stdout) in ((0, full), (8, b""))
+        print(f"rt try --fail-alloc {at}: status {done.returncode}, {last}{'' if right else ': WRONG'}", flush=True)
+        wrong += not right
     return wrong
 
 
-def main():
-    words = argparse.ArgumentParser(description=__doc__, formatter_class=argparse.RawDescriptionHelpFormatter)
-    words.add_argument("--gmus", required=True)
-    words.add_argument("--dense", type=int, default=1000)
-    words.add_argument("--step", type=int, default=100)
-    words.add_argument("--try", dest="tried", default="", help="numbers for the toolchain's own option")
-    given = words.parse_args()
-    gmus, wrong = os.path.abspath(given.gmus), 0
+def try_library(gmus, given):
+    """How many runs of the commands end otherwise than they may, where the library refuses their allocations."""
+    wrong = 0
     with tempfile.TemporaryDirectory() as folder:
         library = os.path.join(folder, "refuse.so")
         subprocess.run(["cc", "-O2", "-shared", "-fPIC", "-o", library, os.path.join(HERE, "allocations", "refuse.c")], check=True)
@@ -108,6 +109,19 @@ def main():
             commands.pop()
         for line in commands:
             wrong += try_command(gmus, line.split(), folder, library, given)
+    return wrong
+
+
+def main():
+    words = argparse.ArgumentParser(description=__doc__, formatter_class=argparse.RawDescriptionHelpFormatter)
+    words.add_argument("--gmus")
+    words.add_argument("--dense", type=int, default=1000)
+    words.add_argument("--step", type=int, default=100)
+    words.add_argument("--try", dest="tried", default="", help="numbers for the toolchain's own option")
+    given = words.parse_args()
+    if not given.gmus and not given.tried:
+        words.error("a program, or numbers to try, are needed")
+    wrong = try_library(os.path.abspath(given.gmus), given) if given.gmus else 0
     wrong += try_by_toolchain(given.tried)
     sys.exit(1 if wrong else 0)
 
