@@ -87,7 +87,14 @@ impl<B: Book> TurnLock<B> {
                 deal(&table.shared, &mut place, &mut list, seats);
                 let badge = place.into_badge();
                 // The list was made with room for all seats.
-                let Ok(()) = list.insert(0, Seat { number: 0, badge }) else {
+                let Ok(()) = list.insert(
+                    0,
+                    Seat {
+                        number: 0,
+                        badge,
+                        looks: 0,
+                    },
+                ) else {
                     unreachable!()
                 };
                 Ok((TurnLock { table }, list))
@@ -109,7 +116,11 @@ impl<B: Book> TurnLock<B> {
         ensures history { IfClosed result (λ book. HasAll B.caller B.legal self.opening seats.items (B.history book)) }
     {
         let TurnLock { table } = self;
-        let Seat { number: _, badge } = seats.remove(0);
+        let Seat {
+            number: _,
+            badge,
+            looks: _,
+        } = seats.remove(0);
         let mut place = badge.into_seat();
         gather(&table.shared, &mut place, &mut seats);
         seats.destroy_empty();
@@ -140,7 +151,11 @@ fn deal<B: Book>(
 {
     for number in 1..seats {
         let badge = top.split_seat::<Deal>(place).into_badge();
-        list.push_reserved(Seat { number, badge });
+        list.push_reserved(Seat {
+            number,
+            badge,
+            looks: 0,
+        });
     }
 }
 
@@ -154,7 +169,11 @@ fn gather<B: Book>(top: &Top<B>, place: &mut Place<B>, others: &mut Vec<Seat<B::
     ensures empty { others.new.items ≡ [] }
 {
     while let Some(seat) = others.pop() {
-        let Seat { number: _, badge } = seat;
+        let Seat {
+            number: _,
+            badge,
+            looks: _,
+        } = seat;
         top.join_seat::<Gather>(place, badge.into_seat());
     }
 }

@@ -18,6 +18,8 @@ use std::marker::Model;
 pub struct Seat<E, O> {
     pub(crate) number: u32,
     pub(crate) badge: Badge<View<E, O>>,
+    // How many looks its turns have waited in all.
+    pub(crate) looks: u64,
 }
 
 impl<E, O> Model for Seat<E, O> {
@@ -37,5 +39,10 @@ impl<E, O> Seat<E, O> {
         ensures { result ≡ self.now.number }
     {
         self.number
+    }
+
+    /// How many times in all it has looked and found that its turn had not come. No clause speaks of it.
+    pub fn looks(&self) -> u64 {
+        self.looks
     }
 }

@@ -30,7 +30,7 @@ impl<B: Book> TurnLock<B> {
         let top = &self.table.shared;
         let mut place = mem::replace(&mut seat.badge, Badge::blank()).into_seat();
         let ticket = draw(top, &mut place);
-        let mut book = await_turn(rt, top, &mut place, ticket);
+        let mut book = await_turn(rt, top, &mut place, ticket, &mut seat.looks);
         let reply = book.apply(seat.number, op);
         give_back(top, &mut place, ticket, book);
         seat.badge = place.into_badge();
@@ -47,8 +47,14 @@ fn draw<B: Book>(top: &Top<B>, place: &mut Place<B>) -> u64
     top.fetch_add::<Draw>(place, TICKET, 1)
 }
 
-// Looks until the ticket is served, and takes the book out.
-fn await_turn<B: Book, R: Wait>(rt: &R, top: &Top<B>, place: &mut Place<B>, ticket: u64) -> B
+// Looks until the ticket is served, and takes the book out. It counts the looks that came too early.
+fn await_turn<B: Book, R: Wait>(
+    rt: &R,
+    top: &Top<B>,
+    place: &mut Place<B>,
+    ticket: u64,
+    looks: &mut u64,
+) -> B
     requires table { (place.old.table_id ≡ top.now.table_id) × (top.now.table_id.words ≡ 2) }
     requires waits { (place.old.me.0.stage ≡ Waits ticket) × (place.old.me.1 ≡ []) }
     ensures same { (place.new.table_id ≡ place.old.table_id) × (place.new.id ≡ place.old.id) }
@@ -64,6 +70,7 @@ fn await_turn<B: Book, R: Wait>(rt: &R, top: &Top<B>, place: &mut Place<B>, tick
                 None => unreachable!(),
             }
         }
+        *looks = looks.saturating_add(1);
         thread::yield_now();
     }
     unreachable!()
