@@ -11,7 +11,8 @@
 //! There is a worker for each oracle, in one list that is made before any thread is. They share a
 //! [`Board`](board::Board), and each takes a seed of it, asks its own oracle about it, shrinks or grows it, and posts the
 //! record. Only the board's calls wait for one another. Where there are more workers than processors, a thread has several,
-//! one after the other. Where no thread can be had, all run so in the caller's.
+//! one after the other. Where no thread can be had, all run so in the caller's. A worker that had to wait long for its turns
+//! sleeps before it takes again (`src/pace.rt`).
 //!
 //! Start reading at `src/marco.rt`, which has the loop, and at `specs/Outcomes.antt`, which says what is left.
 //!
@@ -20,6 +21,7 @@
 
 mod crew;
 mod marco;
+mod pace;
 mod pool;
 mod worker;
 

@@ -17,6 +17,7 @@ ghost use Rattle.worker_pool.specs.Course.{Free, At, IsGiven};
 ghost use Rattle.worker_pool.specs.Exploring.{TellsExplored};
 ghost use Rattle.worker_pool.specs.Workers.{IsNew, IsAt, IsOver};
 
+use crate::pace::Pace;
 use crate::worker::Worker;
 use board::Board;
 use evidence_rec::{Asked, MapEngine, Oracle, Record};
@@ -118,7 +119,7 @@ fn work_on<O: Oracle, M: MapEngine, R: Wait>(
 
 /// Explores one seed after the other, until the board has no more work for this worker.
 ///
-/// The gate is passed before each job. Want of memory ends the worker.
+/// The gate is passed before each job. Want of memory ends the worker. Behind a job it may sleep (`pace.rt`).
 pub fn work<O: Oracle, M: MapEngine, G: Gate, R: Wait>(
     rt: &R,
     alloc: Global,
@@ -133,10 +134,12 @@ pub fn work<O: Oracle, M: MapEngine, G: Gate, R: Wait>(
     ensures same { IsSameSeat worker.old.seat worker.new.seat }
     ensures over { IsOver board.now problem.now (O.state worker.new.oracle) worker.new.seat }
 {
+    let mut pace = Pace::new(worker.seat.number());
     while let Taken::Job { turn, seed, grant } = board.take(rt, &mut worker.seat, 0) {
         gate.pass(worker.seat.number(), turn);
         if !work_on(rt, alloc, board, problem, worker, turn, &seed, grant) {
             return;
         }
+        pace.rest(rt, worker.seat.looks());
     }
 }

@@ -1,0 +1,64 @@
+//! How long a worker leaves the board to others.
+//!
+//! Where the map is most of the work, the workers do little but wait for one another's turns, and the more of them take, the
+//! longer the turns are: a seed is found in a few steps where the block of the last one came before it is asked for, and
+//! nearly anew where another worker is still at that. So a worker that had to look long for its turn sleeps before it takes
+//! again, twice as long each time, and somewhat less where it did not. The first worker never sleeps. Where the oracles are
+//! most of the work, seldom anybody waits, and all are at work.
+use std::sync::Wait;
+use std::thread::Parker;
+use std::time::Duration;
+
+// So many looks that came too early are a long wait.
+const LONG: u64 = 200;
+
+// The first sleep, and the longest one, in microseconds.
+const LEAST: u64 = 20;
+
+const MOST: u64 = 50_000;
+
+// Without a long wait a sleep gets shorter by one part in so many.
+const SLOWLY: u64 = 16;
+
+/// How long a worker sleeps before it takes.
+#[derive(Drop)]
+pub struct Pace {
+    // In microseconds.
+    most: u64,
+    sleep: u64,
+    // The looks of its seat before its last job.
+    looks: u64,
+    // Nobody wakes it.
+    parker: Parker,
+}
+
+impl Pace {
+    /// That of the worker with this number.
+    pub fn new(number: u32) -> Pace {
+        let most = if number == 0 { 0 } else { MOST };
+        Pace {
+            most,
+            sleep: 0,
+            looks: 0,
+            parker: Parker::new(),
+        }
+    }
+
+    /// Sleeps behind a job, where its seat has looked so often in all.
+    pub fn rest<R: Wait>(&mut self, rt: &R, looks: u64) {
+        let waited = looks.saturating_sub(self.looks);
+        self.looks = looks;
+        self.sleep = if waited > LONG {
+            self.sleep
+                .saturating_mul(2)
+                .saturating_add(LEAST)
+                .min(self.most)
+        } else {
+            self.sleep - self.sleep / SLOWLY
+        };
+        if self.sleep >= LEAST {
+            self.parker
+                .park_timeout(rt, Duration::from_micros(self.sleep));
+        }
+    }
+}
