@@ -45,7 +45,7 @@ use std::alloc::{AllocError, Global};
 
 // What a question costs the oracle within at least, in looks of the flips: so many, and so many for each literal of the
 // problem (measured, see docs/DECISIONS.md).
-const LOOKS_A_QUESTION: u64 = 10_000;
+pub(crate) const LOOKS_A_QUESTION: u64 = 10_000;
 
 const LOOKS_A_LITERAL: u64 = 2;
 

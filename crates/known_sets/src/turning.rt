@@ -10,6 +10,7 @@ ghost use Rattle.known_sets.specs.Memory.{IsSatisfied};
 
 use crate::arena::set_of;
 use crate::index::Wanted;
+use crate::memory::LOOKS_A_QUESTION;
 use crate::satisfied::SatisfiedSets;
 use gm_base::{Assign, GroupSet, Problem};
 use model_flips::{Rotation, Turned};
@@ -72,8 +73,8 @@ fn turn_one(
     )
 }
 
-// Flips each variable that may make the group true. What was looked at counts where nothing comes of it that leaves out one
-// group alone.
+// Flips each variable that may make the group true. Where something comes of it that leaves out one group alone, a question
+// is saved, and what that costs at least is not counted.
 fn turn_by_each(
     alloc: Global,
     rotation: &Rotation,
@@ -103,7 +104,7 @@ fn turn_by_each(
         }
     }
     if found {
-        *looks = before;
+        *looks = looks.saturating_sub(LOOKS_A_QUESTION).max(before);
     }
     Ok(())
 }
