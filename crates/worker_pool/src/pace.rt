@@ -49,10 +49,7 @@ impl Pace {
         let waited = looks.saturating_sub(self.looks);
         self.looks = looks;
         self.sleep = if waited > LONG {
-            self.sleep
-                .saturating_mul(2)
-                .saturating_add(LEAST)
-                .min(self.most)
+            self.sleep.saturating_mul(2).max(LEAST).min(self.most)
         } else {
             self.sleep - self.sleep / SLOWLY
         };
