@@ -118,18 +118,18 @@ has-with-kept set g h there =
       ]
     ]
 
-In-slice_get : (clauses : List Clause) (c : Clause) → In c clauses → (at : ℕ) × (slice_get clauses at ≡ Some c)
+pub In-slice_get : (clauses : List Clause) (c : Clause) → In c clauses → (at : ℕ) × (slice_get clauses at ≡ Some c)
 In-slice_get [] c h = absurd h
 In-slice_get (x ∷ xs) c (inl e) = (zero, ap Some (sym e))
 In-slice_get (x ∷ xs) c (inr h) = let (at, is) = In-slice_get xs c h in (suc at, is)
 
-recursion_at : {X : Type 0} (P : X → Type 0) (xs : List X) (x : X) → AllByRecursion P xs → In x xs → P x
+pub recursion_at : {X : Type 0} (P : X → Type 0) (xs : List X) (x : X) → AllByRecursion P xs → In x xs → P x
 recursion_at P [] x h i = absurd i
 recursion_at P (y ∷ ys) x h (inl e) = subst P (sym e) h.0
 recursion_at P (y ∷ ys) x h (inr i) = recursion_at P ys x h.1 i
 
 -- a value that is written leaves the literals of the other variables
-literal_true-other : (w : List Bool) (at : ℕ) (b : Bool) (lit : ℤ) → 0 < var_of lit → var_of lit ≢ at + 1 → literal_true (set w at b) lit ≡ literal_true w lit
+pub literal_true-other : (w : List Bool) (at : ℕ) (b : Bool) (lit : ℤ) → 0 < var_of lit → var_of lit ≢ at + 1 → literal_true (set w at b) lit ≡ literal_true w lit
 literal_true-other w at b (pos v) positive other = get_or-set_other w at (v - 1) b false (λ (e : v - 1 ≡ at). other (omega (arith, positive, e)))
 literal_true-other w at b (negsuc v) positive other = ap not (get_or-set_other w at v b false (λ (e : v ≡ at). other (omega (arith, e))))
 

@@ -1,1 +1,2 @@
+pub mod Repair
 pub mod Rotation

@@ -21,6 +21,7 @@
 
 mod flips;
 mod occurrences;
+mod repair;
 mod rotation;
 mod standing;
 #[cfg(test)]

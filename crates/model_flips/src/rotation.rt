@@ -61,7 +61,7 @@ impl Rotation {
     }
 
     /// The places of the clauses that have a variable.
-    fn of(&self, var: u32) -> &[u32]
+    pub(crate) fn of(&self, var: u32) -> &[u32]
         ensures { result.now ≡ listed self.now var }
     {
         match self.places.get(var as usize) {
@@ -226,8 +226,8 @@ fn without_true(
     Ok(rest)
 }
 
-// The groups left out, and those of these clauses that are false. Nothing where the background is among them.
-fn with_lost(
+/// The groups left out, and those of these clauses that are false. Nothing where the background is among them.
+pub(crate) fn with_lost(
     alloc: Global,
     problem: &Problem,
     places: &[u32],

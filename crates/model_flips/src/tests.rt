@@ -2,7 +2,7 @@
 ghost use Rattle.std.specs.Prelude.{◌≡◌, IfOk};
 
 use crate::flips::Flips;
-use crate::rotation::Rotation;
+use crate::rotation::{Rotation, Turned};
 use gm_base::{Assign, AssignBuilder, Clause, Clauses, GroupSet, Lit, Lits, Problem};
 use std::alloc::{AllocError, Global};
 use std::test::Fail;
@@ -115,6 +115,62 @@ fn turn(
         return Ok(None);
     };
     Ok(Some(turned.out))
+}
+
+// The values, the groups that they leave out, those that have to be true, and those that are left out after the repair.
+const REPAIRS: [((bool, bool, bool), &[u32], &[u32], Option<&[u32]>); 6] = [
+    ((false, false, false), &[1], &[1, 2, 3], Some(&[4])),
+    ((true, true, true), &[4], &[2, 3, 4], Some(&[1])),
+    ((false, false, false), &[1], &[1, 3, 4], Some(&[2])),
+    ((false, true, false), &[1, 3], &[1, 2, 3], Some(&[4])),
+    ((false, false, false), &[1], &[2, 3], Some(&[1])),
+    ((false, false, false), &[1], &[1, 2, 3, 4], None),
+];
+
+#[test]
+fn a_repair_makes_the_wanted_groups_true(rt: HostRuntime) -> Result<(), Fail> {
+    let alloc = rt.alloc();
+    let problem = chain(alloc)?;
+    let rotation = Rotation::new(alloc, &problem)?;
+    for (at, (before, left, groups, wanted)) in REPAIRS.iter().enumerate() {
+        let assign = values(alloc, *before)?;
+        let mut out = GroupSet::new(alloc);
+        for group in *left {
+            out = out.with(alloc, *group)?;
+        }
+        let mut marks = [false; 5];
+        for group in *groups {
+            if *group < 5 {
+                marks[*group as usize] = true;
+            }
+        }
+        let mut looks = 0;
+        let found = repair(
+            alloc, &problem, &rotation, &marks, &out, &assign, &mut looks,
+        )?;
+        match (found, wanted) {
+            (Some(turned), Some(wanted)) => assert_eq!(rt; turned.out.as_slice(), *wanted, "{at}"),
+            (None, None) => {}
+            _ => assert!(rt; false, "{at}"),
+        }
+    }
+    Ok(())
+}
+
+// What comes of repairing an assignment, within many looks.
+fn repair(
+    alloc: Global,
+    problem: &Problem,
+    rotation: &Rotation,
+    marks: &[bool],
+    out: &GroupSet,
+    assign: &Assign,
+    looks: &mut u64,
+) -> Result<Option<Turned>, AllocError> {
+    if assign.len() != problem.vars() as usize {
+        return Ok(None);
+    }
+    rotation.repaired(alloc, problem, marks, out, assign, looks, 1_000_000)
 }
 
 // x in the background, and its denial in group 1.
