@@ -40,7 +40,7 @@ use crate::satisfied::SatisfiedSets;
 use crate::turning::turn_all;
 use evidence_rec::Record;
 use gm_base::{Assign, Derivation, GroupSet, Problem};
-use model_flips::{Flips, Rotation};
+use model_flips::{Flips, Rotation, Turned};
 use std::alloc::{AllocError, Global};
 
 // What a question costs the oracle within at least, in looks of the flips: so many, and so many for each literal of the
@@ -48,6 +48,9 @@ use std::alloc::{AllocError, Global};
 pub(crate) const LOOKS_A_QUESTION: u64 = 10_000;
 
 const LOOKS_A_LITERAL: u64 = 2;
+
+// A problem of fewer literals is not worth a repair: the oracle within answers sooner (measured, see docs/DECISIONS.md).
+const LARGE: usize = 4_000;
 
 /// Sets that were refuted, and sets that were satisfied.
 #[derive(Drop)]
@@ -60,8 +63,9 @@ pub struct Memory {
     flips: Flips,
     // Made when it is needed first.
     rotation: Option<Rotation>,
-    // What was looked at for turns, in literals and in words of assignments.
+    // What was looked at for turns and for repairs, in clauses and in words of assignments.
     turns: u64,
+    repairs: u64,
     // How many questions the oracle within has answered.
     answers: u64,
     // No group is marked between look-ups.
@@ -86,6 +90,7 @@ impl Memory {
             flips: Flips::new(alloc, problem)?,
             rotation: None,
             turns: 0,
+            repairs: 0,
             answers: 0,
             marks: vec![in alloc; false; groups as usize + 1]?,
             last_refuted: None,
@@ -142,6 +147,66 @@ impl Memory {
             but: group,
         })?;
         assignment_without(&self.satisfied, number, set, group)
+    }
+
+    /// An assignment that satisfies the background and the set, where some flips make one of the assignment that was
+    /// remembered last.
+    pub fn repaired(&mut self, alloc: Global, set: &GroupSet) -> Option<Assign>
+        ensures right { (p : Problem) → IsRightFor p self.old → IsRightFor p self.new }
+        ensures witness { (p : Problem) → IsRightFor p self.old → IsSubset set.now (all_groups p.groups) → IfSome result (λ assign. is_witness p set.now assign ≡ true) }
+    {
+        let Ok(found) = self.repair(alloc, set) else {
+            return None;
+        };
+        let Turned { out, assign } = found?;
+        if !misses(set, out.as_slice()) {
+            return None;
+        }
+        self.keep_repaired(alloc, set, &out, &assign).ok();
+        Some(assign)
+    }
+
+    // Flips variables of the assignment that was remembered last, so that it satisfies the set. It isn't tried on small
+    // problems, nor where repairs have cost more so far than the questions have.
+    fn repair(&mut self, alloc: Global, set: &GroupSet) -> Result<Option<Turned>, AllocError>
+        ensures right { (p : Problem) → IsRightFor p self.old → IsRightFor p self.new }
+        ensures found { (p : Problem) → IsRightFor p self.old → IfOk result (λ found. IfSome found (λ turned. Satisfies p turned.out turned.assign)) }
+    {
+        let most = looks_of(self.answers, self.flips.size());
+        if self.flips.size() < LARGE || self.repairs > most {
+            return Ok(None);
+        }
+        let rotation = taken(alloc, &mut self.rotation, self.flips.problem())?;
+        mark_all(&mut self.marks, set.as_slice(), true);
+        let found = repair_last(
+            alloc,
+            &rotation,
+            self.flips.problem(),
+            &self.satisfied,
+            &self.marks,
+            &mut self.repairs,
+            most,
+        );
+        mark_all(&mut self.marks, set.as_slice(), false);
+        self.rotation = Some(rotation);
+        found
+    }
+
+    // Remembers the assignment that came of a repair, as the answer about this set. A question less was asked, and what
+    // that costs at least is not counted.
+    fn keep_repaired(
+        &mut self,
+        alloc: Global,
+        set: &GroupSet,
+        out: &GroupSet,
+        assign: &Assign,
+    ) -> Result<(), AllocError>
+        ensures { (p : Problem) → IsRightFor p self.old → Satisfies p out.now assign.now → IsRightFor p self.new }
+    {
+        self.repairs = self.repairs.saturating_sub(LOOKS_A_QUESTION);
+        self.last_satisfied = set.copy(alloc).ok();
+        let assign = assign.copy()?;
+        self.satisfied.insert(out, assign)
     }
 
     /// Remembers that an assignment satisfies the background and a set. Of a question of shrinking it remembers the set
@@ -264,6 +329,34 @@ impl Memory {
             }
         }
     }
+}
+
+// What comes of repairing the assignment that was remembered last, so that it satisfies the marked groups.
+fn repair_last(
+    alloc: Global,
+    rotation: &Rotation,
+    problem: &Problem,
+    satisfied: &SatisfiedSets,
+    marks: &[bool],
+    looks: &mut u64,
+    most: u64,
+) -> Result<Option<Turned>, AllocError>
+    ensures { IsListing problem.now.clauses rotation.now → All (IsSatisfied problem.now) satisfied.now → IfOk result (λ found. IfSome found (λ turned. Satisfies problem.now turned.out turned.assign)) }
+{
+    let Some(last) = satisfied.len().checked_sub(1) else {
+        return Ok(None);
+    };
+    let Some(lent) = satisfied.get(last) else {
+        return Ok(None);
+    };
+    let Some(out) = set_of(alloc, lent.set) else {
+        return Ok(None);
+    };
+    let assign = lent.evidence.copy()?;
+    if assign.len() != problem.vars() as usize {
+        return Ok(None);
+    }
+    rotation.repaired(alloc, problem, marks, &out, &assign, looks, most)
 }
 
 // The rotation that is kept, or a new one.

@@ -177,6 +177,9 @@ impl<O: Oracle> Oracle for KnownSets<O> {
         if let Some(assign) = self.memory.satisfying(alloc, set) {
             return Ok(Asked::Sat(assign));
         }
+        if let Some(assign) = self.memory.repaired(alloc, set) {
+            return Ok(Asked::Sat(assign));
+        }
         self.ask_within(alloc, set, turn, purse)
     }
 
