@@ -17,6 +17,7 @@
 //!
 //! [`Rotation`] flips one variable of an assignment that is known to satisfy all groups but some, and tells at the cost of
 //! the clauses that have the variable which groups are left out then. Start there at `specs/Rotation.antt`.
+//! [`Rotation::repaired`] flips one variable after the other, until certain groups are true.
 #![tactic(auto)]
 
 mod flips;
