@@ -9,8 +9,8 @@ use std::sync::Wait;
 use std::thread::Parker;
 use std::time::Duration;
 
-// So many looks that came too early are a long wait.
-const LONG: u64 = 200;
+// So many looks that came too early are a long wait (measured, see docs/DECISIONS.md).
+const LONG: u64 = 20;
 
 // The first sleep, and the longest one, in microseconds.
 const LEAST: u64 = 20;
