@@ -10,3 +10,4 @@ pub mod Explored
 pub mod SetListLemmas
 pub mod HeldLemmas
 pub mod ColumnLemmas
+pub mod WithLemmas

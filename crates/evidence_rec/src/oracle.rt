@@ -20,7 +20,7 @@ pub enum Asked {
 /// Answers questions about one problem.
 pub trait Oracle {
     ghost use Rattle.std.specs.Prelude.{◌≡◌, ℕ, ◌+◌, ◌≤◌, true, List, Option, Some, None, IfOk, OnOk, OnErr, IsSome};
-    ghost use Rattle.gm_base.specs.Sets.{IsSubset, all_groups, without};
+    ghost use Rattle.gm_base.specs.Sets.{IsSubset, all_groups, without, with_group};
     ghost use Rattle.gm_base.specs.Evidence.{refutes};
     ghost use Rattle.evidence_rec.specs.Asking.{OracleState, TellsAsked, IsSpent, IsHonestOver, refuted_by, asked_once};
 
@@ -63,6 +63,28 @@ pub trait Oracle {
     {
         let rest = set.without(alloc, group)?;
         self.ask(alloc, &rest, turn, purse)
+    }
+
+    /// Asks the same of a set with a group more: the questions of growing. Who finds what is known by that group needs no
+    /// look at the whole set.
+    fn ask_with(
+        &mut self,
+        alloc: Global,
+        set: &GroupSet,
+        group: u32,
+        turn: u64,
+        purse: &mut Purse,
+    ) -> Result<Asked, AllocError>
+        requires { IsSubset (with_group set.now group) (all_groups (state self.old).problem.groups) }
+        ensures answer { IfOk result (λ answer. TellsAsked (state self.new) (with_group set.now group) purse.new.left answer) }
+        ensures refuted { IfOk result (λ answer. (state self.new).refuted ≡ refuted_by answer) }
+        ensures asks { OnOk result ((state self.new).asks ≡ asked_once (state self.old).asks) }
+        ensures at_most_once { (state self.new).asks ≤ (state self.old).asks + 1 }
+        ensures spent { IsSpent (state self.old) (state self.new) purse.old.left purse.new.left }
+        ensures honest { IsHonestOver (state self.old).problem (state self.old).log → IsHonestOver (state self.new).problem (state self.new).log }
+    {
+        let more = set.with(alloc, group)?;
+        self.ask(alloc, &more, turn, purse)
     }
 
     /// The derivation for the last answer, which was that a set is unsatisfiable.

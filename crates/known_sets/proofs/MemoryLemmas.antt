@@ -1,6 +1,7 @@
 -- Lemmas on what is remembered.
 use Rattle.std.proofs.Common.{◌≡◌, ◌∙◌, ℕ, zero, suc, ◌<◌, Bool, true, not, List, [], ◌∷◌, ◌++◌, Some, length, get_or, eqb, refl, sym, ap, subst, arith}
-use Rattle.std.specs.Prelude.{Result, Ok, Err, OnOk, OnErr, All, slice_get}
+use Rattle.std.specs.Prelude.{Result, Ok, Err, OnOk, OnErr, IfOk, IfSome, Option, All, slice_get}
+use Rattle.std.specs.Result.{result_ok}
 use Rattle.std.specs.List.{list_all}
 use Rattle.std.proofs.lemmas.Bool.{false≢true, false_from_ne_true, eqb-true, not-true, and_parts}
 use Rattle.std.proofs.lemmas.List.Elements.{All-append, All-get_or, All-from_get_or}
@@ -51,3 +52,8 @@ All-at P xs k x h is = subst P (get_or_from_slice_get xs k x x is) (All-get_or P
 pub All-inserted : {X Y Z : Type 0} (P : X → Type 0) (r : Result Y Z) (old new : List X) (x : X) → OnOk r (new ≡ old ++ x ∷ []) → OnErr r (new ≡ old) → All P old → P x → All P new
 All-inserted P (Ok y) old new x ok err h one = subst (All P) (sym ok) (All-append P old (x ∷ []) h (All-from_get_or P (x ∷ []) x (λ i lt. subst P (sym (get_or-one x i lt)) one)))
 All-inserted P (Err z) old new x ok err h one = subst (All P) (sym err) h
+
+-- what holds of something holds of its copy, where there is memory for one
+pub IfSome-copied : {X Y : Type 0} (P : X → Type 0) (x : X) (r : Result X Y) (o : Option X) → o ≡ result_ok r → IfOk r (λ copy. copy ≡ x) → P x → IfSome o P
+IfSome-copied P x (Ok copy) o is same h = subst (λ found. IfSome found P) (sym is) (subst P (sym same) h)
+IfSome-copied P x (Err y) o is same h = subst (λ found. IfSome found P) (sym is) tt

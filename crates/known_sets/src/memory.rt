@@ -12,7 +12,8 @@
 //!
 //! Shrinking asks one question for each group of a set, and the set may have thousands. So the groups of the last refuted
 //! set are marked as long as it is the last one, and a question that names the set and the group is looked up without a
-//! look at the rest of the set.
+//! look at the rest of the set. Growing asks one for each group outside of a set, which may have thousands too: so those of
+//! the last satisfied set are marked in the same way.
 //!
 //! A model of a shrinking question satisfies more groups than were asked about, and more still after some flips. The set of
 //! all groups that it satisfies then is remembered with it, and is often the next seed. How much flipping may look at is
@@ -25,7 +26,7 @@
 //! apart, and goes to the others when one comes that does not lie within it.
 ghost use Rattle.std.specs.Prelude.{◌≡◌, not, true, All, None, IfOk, IfSome};
 ghost use Rattle.std.specs.List.{list_all};
-ghost use Rattle.gm_base.specs.Sets.{has, without, IsSubset, all_groups};
+ghost use Rattle.gm_base.specs.Sets.{has, without, with_group, IsSubset, all_groups};
 ghost use Rattle.gm_base.specs.Problem.{Problem};
 ghost use Rattle.gm_base.specs.Evidence.{refutes, is_witness};
 ghost use Rattle.evidence_rec.specs.Records.{IsAccepted};
@@ -74,6 +75,8 @@ pub struct Memory {
     // The groups of the last refuted set are marked.
     shrinking: Vec<bool>,
     last_satisfied: Option<GroupSet>,
+    // The groups of the last satisfied set are marked.
+    growing: Vec<bool>,
 }
 
 impl Memory {
@@ -96,6 +99,7 @@ impl Memory {
             last_refuted: None,
             shrinking: vec![in alloc; false; groups as usize + 1]?,
             last_satisfied: None,
+            growing: vec![in alloc; false; groups as usize + 1]?,
         })
     }
 
@@ -122,6 +126,22 @@ impl Memory {
         Some(entry)
     }
 
+    /// A refuted set within a set with one group more, where one is found: the one that was refuted last, or by that group.
+    /// It is looked for by the group where the set is the last satisfied one.
+    pub fn refuted_with(&mut self, alloc: Global, set: &GroupSet, group: u32) -> Option<Refuted>
+        ensures right { (p : Problem) → IsRightFor p self.old → IsRightFor p self.new }
+        ensures within { IfSome result (λ entry. IsSubset entry.set (with_group set.now group)) }
+        ensures refuted { (p : Problem) → IsRightFor p self.old → IfSome result (IsRefuted p) }
+    {
+        let entry = match held_with(alloc, &self.held, set, group) {
+            Some(entry) => entry,
+            None => found_with(alloc, &mut self.refuted, &self.growing, set, group)?,
+        };
+        let copy = entry.set.copy(alloc).ok();
+        mark_last(&mut self.last_refuted, &mut self.shrinking, copy);
+        Some(entry)
+    }
+
     /// An assignment that satisfies the background and the set, where one is found: by the one group that it has less than
     /// the last refuted one, or else, as that of a seed, by all its groups.
     pub fn satisfying(&mut self, alloc: Global, set: &GroupSet) -> Option<Assign>
@@ -131,7 +151,11 @@ impl Memory {
         let group = less_than(&self.last_refuted, set);
         let number = number_of(&mut self.satisfied, &mut self.marks, set, group)?;
         let assign = assignment(&self.satisfied, number, set)?;
-        self.last_satisfied = set.copy(alloc).ok();
+        mark_last(
+            &mut self.last_satisfied,
+            &mut self.growing,
+            set.copy(alloc).ok(),
+        );
         Some(assign)
     }
 
@@ -215,7 +239,11 @@ impl Memory {
         ensures { (p : Problem) → IsRightFor p self.old → is_witness p set.now assign.now ≡ true → IsRightFor p self.new }
     {
         let shrinking = less_than(&self.last_refuted, set).is_some();
-        self.last_satisfied = set.copy(alloc).ok();
+        mark_last(
+            &mut self.last_satisfied,
+            &mut self.growing,
+            set.copy(alloc).ok(),
+        );
         self.answers = self.answers.saturating_add(1);
         if shrinking {
             self.keep_grown(alloc, assign).ok();
@@ -529,6 +557,70 @@ fn held_within(alloc: Global, held: &Option<Refuted>, set: &GroupSet) -> Option<
     } else {
         None
     }
+}
+
+// The set that was refuted last, where it lies within this one with a group.
+fn held_with(alloc: Global, held: &Option<Refuted>, set: &GroupSet, group: u32) -> Option<Refuted>
+    ensures within { IfSome result (λ entry. IsSubset entry.set (with_group set.now group)) }
+    ensures refuted { (p : Problem) → IfSome held.now (IsRefuted p) → IfSome result (IsRefuted p) }
+{
+    let Some(held) = held else {
+        return None;
+    };
+    if !are_within(held.set.as_slice(), set, group) {
+        return None;
+    }
+    copy_of(alloc, held).ok()
+}
+
+// A set that is known to be refuted and lies within this one with a group, by that group. These groups are marked.
+fn found_with(
+    alloc: Global,
+    index: &mut SetIndex<Derivation>,
+    marks: &[bool],
+    set: &GroupSet,
+    group: u32,
+) -> Option<Refuted>
+    ensures same { index.new ≡ index.old }
+    ensures within { IfSome result (λ entry. IsSubset entry.set (with_group set.now group)) }
+    ensures refuted { (p : Problem) → All (IsRefuted p) index.old → IfSome result (IsRefuted p) }
+{
+    let found = index.find(Wanted {
+        marks,
+        mark: true,
+        but: group,
+    });
+    let lent = index.get(found?)?;
+    if !are_within(lent.set, set, group) {
+        return None;
+    }
+    let known = set_of(alloc, lent.set)?;
+    let Ok(proof) = lent.evidence.copy() else {
+        return None;
+    };
+    Some(Entry {
+        set: known,
+        evidence: proof,
+    })
+}
+
+// Whether each of these groups stands in the set with one group more.
+fn are_within(groups: &[u32], set: &GroupSet, more: u32) -> bool
+    ensures { result ≡ list_all (has (with_group set.now more)) groups.now }
+{
+    for group in groups {
+        if !has_with(set, *group, more) {
+            return false;
+        }
+    }
+    true
+}
+
+// Whether a group stands in the set with another one.
+fn has_with(set: &GroupSet, group: u32, more: u32) -> bool
+    ensures { result ≡ has (with_group set.now more) group }
+{
+    group == more || set.contains(group)
 }
 
 // The number of a complement that has no group of the set: by the one group that the set has to leave out, or else by all

@@ -199,6 +199,28 @@ impl<O: Oracle> Oracle for KnownSets<O> {
         self.ask_within(alloc, &rest, turn, purse)
     }
 
+    fn ask_with(
+        &mut self,
+        alloc: Global,
+        set: &GroupSet,
+        group: u32,
+        turn: u64,
+        purse: &mut Purse,
+    ) -> Result<Asked, AllocError> {
+        self.begin();
+        if let Some(found) = self.memory.refuted_with(alloc, set, group) {
+            let _groups = found.set.as_slice(); // They ascend.
+            let core = found.set.copy(alloc)?;
+            self.last = Last::Known(found);
+            return Ok(Asked::Unsat(core));
+        }
+        let more = set.with(alloc, group)?;
+        if let Some(assign) = self.memory.satisfying(alloc, &more) {
+            return Ok(Asked::Sat(assign));
+        }
+        self.ask_within(alloc, &more, turn, purse)
+    }
+
     fn proof(&self, alloc: Global) -> Result<Derivation, AllocError> {
         match &self.last {
             Last::Nothing => unreachable!(),

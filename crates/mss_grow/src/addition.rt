@@ -1,16 +1,19 @@
 //! Growing by addition.
 //!
-//! The groups are settled one after the other, ascending. A group of the given set is kept, and so is one whose clauses
-//! the assignment at hand makes true already: no question is asked for these. For any other the oracle is asked whether
-//! it goes together with what is kept and the rest of the given set. Where it does, it is kept, and the answer is the
-//! assignment at hand from then on, which may make later groups true. Where it does not, it stays out for good, since
-//! more groups keep unsatisfiability, and the oracle's proof of that serves each larger set. At the end those left out
-//! are a minimal correction (Liffiton and Sakallah 2008; Marques-Silva, Heras, Janota, Previti and Belov 2013).
-ghost use Rattle.std.specs.Prelude.{◌≡◌, ◌+◌, ◌^◌, ◌<◌, ◌≤◌, ◌++◌, ◌∷◌, [], true, IfOk, length};
-ghost use Rattle.gm_base.specs.Sets.{IsSubset, IsGroupSet, all_groups, complement};
+//! The groups outside of the given set are settled one after the other, ascending. One whose clauses the assignment at hand
+//! makes true already is put into the set at hand: no question is asked for it. For any other the oracle is asked whether
+//! it goes together with the set at hand. Where it does, it is put into it, and the answer is the assignment at hand from
+//! then on, which may make later groups true. Where it does not, it stays out for good, since more groups keep
+//! unsatisfiability, and the oracle's proof of that serves each larger set. At the end those left out are a minimal
+//! correction (Liffiton and Sakallah 2008; Marques-Silva, Heras, Janota, Previti and Belov 2013).
+//!
+//! A seed is often one of thousands of groups, and leaves out a few. So a question names the set at hand and the group, and
+//! what is done for each group does not walk the set, but where it grows.
+ghost use Rattle.std.specs.Prelude.{◌≡◌, ◌+◌, ◌≤◌, true, IfOk, length};
+ghost use Rattle.gm_base.specs.Sets.{IsSubset, all_groups, complement, with_group};
 ghost use Rattle.gm_base.specs.Evidence.{is_witness};
 ghost use Rattle.evidence_rec.specs.Asking.{IsSpent, IsHonestOver};
-ghost use Rattle.mss_grow.specs.Growth.{IsGrowth, TellsSettled, asks_for, so_far};
+ghost use Rattle.mss_grow.specs.Growth.{TellsSettled};
 ghost use Rattle.mss_grow.specs.Grown.{TellsGrown};
 
 use crate::grown::Grown;
@@ -39,88 +42,60 @@ pub fn grow<O: Oracle>(
     ensures honest { IsHonestOver problem.now (O.state oracle.old).log → IsHonestOver problem.now (O.state oracle.new).log }
     ensures spent { IsSpent (O.state oracle.old) (O.state oracle.new) purse.old.left purse.new.left }
 {
+    let out = set.complement(alloc, problem.groups())?;
     let mut growth = Growth {
-        kept: GroupSet::new(alloc),
+        set: set.copy(alloc)?,
         witness: assign.copy()?,
         proofs: Proofs::new(alloc),
     };
-    for settled in 0..problem.groups() {
-        if let Some(asked) = settle(
-            alloc,
-            oracle,
-            problem,
-            set,
-            &mut growth,
-            settled,
-            turn,
-            purse,
-        )? {
+    for g in out.as_slice() {
+        if let Some(asked) = settle(alloc, oracle, problem, &mut growth, *g, turn, purse)? {
             return Ok(Grown::Dry(asked));
         }
     }
     Ok(Grown::Done(Record::Correction {
-        set: growth.kept.complement(alloc, problem.groups())?,
+        set: growth.set.complement(alloc, problem.groups())?,
         witness: growth.witness,
         proofs: growth.proofs,
     }))
 }
 
-/// Settles the next group, where those up to `settled` are, and gives the set asked where the purse is empty.
+/// Settles a group that is not in the set at hand, and gives the set asked where the purse is empty.
 fn settle<O: Oracle>(
     alloc: Global,
     oracle: &mut O,
     problem: &Problem,
-    set: &GroupSet,
     growth: &mut Growth,
-    settled: u32,
+    g: u32,
     turn: u64,
     purse: &mut Purse,
 ) -> Result<Option<GroupSet>, AllocError>
     requires problem { problem.now ≡ (O.state oracle.old).problem }
-    requires in_range { settled < problem.now.groups }
-    requires small { problem.now.groups < 2 ^ 31 }
-    requires within { IsSubset set.now (all_groups problem.now.groups) }
-    requires growth { IsGrowth problem.now set.now settled growth.old }
-    ensures settled { IfOk result (λ dry. TellsSettled (O.state oracle.new) set.now (settled + 1) growth.new purse.new.left dry) }
-    ensures asks { (O.state oracle.new).asks ≤ (O.state oracle.old).asks + asks_for set.now (settled + 1) }
+    requires within { IsSubset (with_group growth.old.set g) (all_groups problem.now.groups) }
+    requires satisfied { is_witness problem.now growth.old.set growth.old.witness ≡ true }
+    ensures settled { IfOk result (λ dry. TellsSettled (O.state oracle.new) growth.old g growth.new purse.new.left dry) }
+    ensures asks { (O.state oracle.new).asks ≤ (O.state oracle.old).asks + 1 }
     ensures honest { IsHonestOver problem.now (O.state oracle.old).log → IsHonestOver problem.now (O.state oracle.new).log }
     ensures spent { IsSpent (O.state oracle.old) (O.state oracle.new) purse.old.left purse.new.left }
 {
-    let g = settled + 1;
-    if set.contains(g) || problem.group_holds(g, &growth.witness) {
-        growth.kept.push(g)?;
-        return Ok(None);
-    }
-    let asked = together(alloc, &growth.kept, g, set)?;
-    match oracle.ask(alloc, &asked, turn, purse)? {
-        Asked::Sat(witness) => {
-            growth.witness = witness;
-            growth.kept.push(g)?;
-        }
-        Asked::Unsat(_core) => {
-            // The oracle derives its last answer alone, so the proof is taken before the next question.
-            let proof = oracle.proof(alloc)?;
-            growth.proofs.push(proof)?;
-        }
-        Asked::Dry => {
-            return Ok(Some(asked));
+    if !problem.group_holds(g, &growth.witness) {
+        match oracle.ask_with(alloc, &growth.set, g, turn, purse)? {
+            Asked::Sat(witness) => {
+                growth.witness = witness;
+            }
+            Asked::Unsat(_core) => {
+                // The oracle derives its last answer alone, so the proof is taken before the next question.
+                let proof = oracle.proof(alloc)?;
+                growth.proofs.push(proof)?;
+                return Ok(None);
+            }
+            Asked::Dry => {
+                let asked = growth.set.with(alloc, g)?;
+                let _groups = asked.as_slice(); // They ascend.
+                return Ok(Some(asked));
+            }
         }
     }
+    growth.set = growth.set.with(alloc, g)?;
     Ok(None)
-}
-
-/// The groups kept, this one, and the groups of the given set above it.
-fn together(alloc: Global, kept: &GroupSet, g: u32, set: &GroupSet) -> Result<GroupSet, AllocError>
-    requires { IsGroupSet (kept.now ++ g ∷ []) }
-    ensures groups { IfOk result (λ asked. asked ≡ so_far set.now (kept.now ++ g ∷ []) g) }
-    ensures ascends { IfOk result (λ asked. IsGroupSet asked) }
-{
-    let mut asked = kept.copy(alloc)?;
-    asked.push(g)?;
-    for h in set.as_slice() {
-        if *h > g {
-            asked.push(*h)?;
-        }
-    }
-    Ok(asked)
 }

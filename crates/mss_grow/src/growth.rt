@@ -2,11 +2,10 @@
 use evidence_rec::Proofs;
 use gm_base::{Assign, GroupSet};
 
-/// What is settled so far: the groups that are kept, an assignment that satisfies them together with the given set, and a
-/// proof for each group that is left out.
+/// What is settled so far: the set at hand, an assignment that satisfies it, and a proof for each group that is left out.
 #[derive(Drop)]
 pub struct Growth {
-    pub kept: GroupSet,
+    pub set: GroupSet,
     pub witness: Assign,
     pub proofs: Proofs,
 }
