@@ -233,19 +233,6 @@ asked-within groups set items large i within is lt sub h inside =
 pub not-given : (groups : ℕ) (set items : List ℕ) (i : ℕ) → items ≡ complement groups set → i < length items → has set (get_or items i 0) ≡ false
 not-given groups set items i is lt = (has-complement-parts groups set (get_or items i 0) (subst (λ gs. has gs (get_or items i 0) ≡ true) is (has-at items i lt))).0
 
--- The beginning
-
-begin-plain : (p : Problem) (set : List ℕ) (w : List Bool) → is_witness p set w ≡ true → IsGrowth p set [] (record { set = set; witness = w; proofs = [] })
-begin-plain p set w h = record { given = λ k i. i; within = λ k i. in-front set [] k i; witnessed = h; refuted = refl }
-
-pub begin : (p : Problem) (set copy : List ℕ) (assign w : List Bool) (proofs : List Derivation) → copy ≡ set → w ≡ assign → proofs ≡ [] → is_witness p set assign ≡ true
-    → IsGrowth p set [] (record { set = copy; witness = w; proofs = proofs })
-begin p set copy assign w proofs same_set same no_proofs h =
-    let plain : Growth = record { set = set; witness = assign; proofs = [] } in
-    let growth : Growth = record { set = copy; witness = w; proofs = proofs } in
-    let equal : plain ≡ growth = cc in
-    subst (IsGrowth p set []) equal (begin-plain p set assign h)
-
 -- The end
 
 -- a group left out, and the set at hand, are in what is put together for its proof
