@@ -228,7 +228,11 @@ impl Memory {
         ensures { (p : Problem) → IsRightFor p self.old → Satisfies p out.now assign.now → IsRightFor p self.new }
     {
         self.repairs = self.repairs.saturating_sub(LOOKS_A_QUESTION);
-        self.last_satisfied = set.copy(alloc).ok();
+        mark_last(
+            &mut self.last_satisfied,
+            &mut self.growing,
+            set.copy(alloc).ok(),
+        );
         let assign = assign.copy()?;
         self.satisfied.insert(out, assign)
     }
