@@ -1,15 +1,14 @@
 -- Lemmas on the repair of models.
-use Rattle.std.proofs.Common.{◌≡◌, ◌⊎◌, ◌∙◌, ℕ, zero, suc, ◌≤◌, ◌+◌, ◌-◌, ◌<◌, ℤ, Bool, true, false, not, ◌||◌, List, [], ◌∷◌, ◌++◌, Some, length, set, sym, ap, subst, inl, inr, refl, eqb, arith, length-set}
+use Rattle.std.proofs.Common.{◌≡◌, ◌⊎◌, ◌∙◌, ℕ, zero, suc, ◌+◌, ◌-◌, ◌<◌, Bool, true, false, not, ◌||◌, List, [], ◌∷◌, ◌++◌, Some, length, set, sym, ap, subst, inl, inr, eqb, arith}
 use Rattle.std.specs.Prelude.{slice_get}
 use Rattle.std.proofs.lemmas.Bool.{cases_eq, cases_Bool, false≢true, or_left, or_right, or_cases, and_parts, and_from, eqb-true, eq-eqb}
 use Rattle.std.proofs.lemmas.Option.{slice_get_within}
 use Rattle.sat_base.specs.Literals.{IsLiteral, literal_true, clause_true, var_of}
 use Rattle.sat_base.specs.Members.{In}
-use Rattle.sat_base.proofs.Members.{In-append_left, In-append_right, In-append_cases, all_at, all_from, any_at, any_from}
+use Rattle.sat_base.proofs.Members.{In-append_cases, all_at, all_from, any_at, any_from}
 use Rattle.gm_base.specs.declared.clause.Clause.{Clause}
-use Rattle.gm_base.specs.Sets.{IsGroupSet, has, complement, all_groups}
+use Rattle.gm_base.specs.Sets.{IsGroupSet, has, complement}
 use Rattle.gm_base.specs.Problem.{Problem, IsClause, IsProblem, satisfies, is_present}
-use Rattle.gm_base.specs.Evidence.{is_witness}
 use Rattle.gm_base.proofs.SetLemmas.{has-all_groups, has-complement-parts, has-complement-from, not_has-bound}
 use Rattle.model_flips.specs.Rotation.{IsListing, listed, HasLost, Satisfies}
 use Rattle.model_flips.specs.Repair.{IsFalseAmong}

@@ -1,20 +1,18 @@
 -- Lemmas on the rotation of models.
-use Rattle.std.proofs.Common.{◌≡◌, ◌≢◌, ◌⊎◌, ◌∙◌, ℕ, zero, suc, ◌+◌, ◌-◌, ◌<◌, ◌≤◌, ℤ, pos, negsuc, Bool, true, false, not, ◌||◌, List, [], ◌∷◌, ◌++◌, Some, length, take, get_or, set, refl, sym, ap, subst, inl, inr, arith, eqb, ltb, length-set}
-use Rattle.std.specs.Prelude.{slice_get, slice_index_or, slice_set}
+use Rattle.std.proofs.Common.{◌≡◌, ◌≢◌, ◌⊎◌, ◌∙◌, ℕ, zero, suc, ◌+◌, ◌-◌, ◌<◌, ℤ, pos, negsuc, Bool, true, false, not, ◌||◌, List, [], ◌∷◌, ◌++◌, Some, length, set, refl, sym, ap, subst, inl, inr, arith, eqb, ltb, length-set}
+use Rattle.std.specs.Prelude.{slice_get, slice_set}
 use Rattle.std.specs.List.{AllByRecursion, filter}
-use Rattle.std.proofs.lemmas.Bool.{cases_lt, cases_eq, cases_Bool, lt-ltb, eqb-true, eq-eqb, false≢true, or_left, or_right, or_cases, and_parts, and_from, false_from_ne_true, not-true}
-use Rattle.std.proofs.lemmas.List.{get_or-set_same, get_or-set_other, take_more}
+use Rattle.std.proofs.lemmas.Bool.{cases_lt, cases_eq, cases_Bool, lt-ltb, eqb-true, eq-eqb, false≢true, or_left, or_right, or_cases, and_parts, and_from}
+use Rattle.std.proofs.lemmas.List.{get_or-set_same, get_or-set_other}
 use Rattle.std.proofs.lemmas.List.Folds.{list_any-append}
-use Rattle.std.proofs.lemmas.Option.{get_or_from_slice_get, slice_get_within}
-use Rattle.sat_base.specs.Literals.{AreLiterals, IsLiteral, literal_true, clause_true, var_of}
+use Rattle.sat_base.specs.Literals.{IsLiteral, literal_true, clause_true, var_of}
 use Rattle.sat_base.specs.Members.{In}
 use Rattle.sat_base.proofs.Members.{In-append_left, In-append_right, In-append_cases, all_at, all_from, any_at, any_from}
 use Rattle.gm_base.specs.declared.clause.Clause.{Clause}
-use Rattle.gm_base.specs.Sets.{IsGroupSet, has, without, with_group, all_groups, complement}
+use Rattle.gm_base.specs.Sets.{IsGroupSet, has, with_group, all_groups, complement}
 use Rattle.gm_base.specs.Problem.{Problem, IsClause, IsProblem, satisfies, is_present}
 use Rattle.gm_base.specs.Index.{group_true}
-use Rattle.gm_base.specs.Evidence.{is_witness}
-use Rattle.gm_base.proofs.SetLemmas.{has-filter, has-without, has-complement-parts, has-complement-from, has-head, not_has-bound, all_groups-has}
+use Rattle.gm_base.proofs.SetLemmas.{has-filter, has-complement-parts, has-complement-from, has-head, not_has-bound}
 use Rattle.model_flips.specs.Rotation.{IsListing, listed, HasLost, Satisfies}
 
 -- a place that is added under a variable is listed there

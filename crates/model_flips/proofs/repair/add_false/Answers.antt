@@ -1,11 +1,8 @@
-use Rattle.std.proofs.Common.{◌≡◌, ◌⊎◌, ◌∙◌, ℕ, ◌+◌, Vec, Global, ap, ◌++◌, ◌∷◌, [], true, get_or, take, sym, subst, inl, inr, arith, refl}
-use Rattle.std.specs.Prelude.{Some, slice_get}
-use Rattle.std.proofs.lemmas.List.{take_more, take_all}
+use Rattle.std.proofs.Common.{◌≡◌, ◌∙◌, ℕ, ◌+◌, Vec, Global, ap, ◌++◌, ◌∷◌, [], true, get_or, take, sym, subst, inl, inr, arith, refl}
+use Rattle.std.proofs.lemmas.List.{take_more}
 use Rattle.std.proofs.lemmas.Bool.{false≢true}
-use Rattle.sat_base.specs.Literals.{clause_true}
 use Rattle.sat_base.specs.Members.{In}
 use Rattle.sat_base.proofs.Members.{In-append_left, In-append_right}
-use Rattle.gm_base.specs.declared.clause.Clause.{Clause}
 use Rattle.model_flips.specs.Repair.{IsFalseAmong}
 use Rattle.model_flips.proofs.RepairLemmas.{IsFalseAmong-next}
 use Rattle.model_flips.proofs.repair.add_false.Goals.{then-is_false+in_ok-push, else-is_false}

@@ -1,4 +1,4 @@
-use Rattle.std.proofs.Common.{◌≡◌, List, Option, ℕ, [], subst}
+use Rattle.std.proofs.Common.{List, Option, ℕ, [], subst}
 use Rattle.std.specs.Prelude.{IfSome}
 use Rattle.model_flips.specs.Rotation.{HasLost}
 use Rattle.model_flips.proofs.RepairLemmas.{Satisfies-finished}

@@ -1,4 +1,4 @@
-use Rattle.std.proofs.Common.{◌≡◌, ◌∙◌, sym, subst}
+use Rattle.std.proofs.Common.{◌∙◌, sym, subst}
 use Rattle.std.specs.Prelude.{All, IfOk, IfSome}
 use Rattle.gm_base.specs.Problem.{Problem}
 use Rattle.model_flips.specs.Rotation.{IsListing, Satisfies}

@@ -1,5 +1,4 @@
-use Rattle.std.proofs.Common.{◌-◌, ℕ, not, false, get_or, sym, subst}
-use Rattle.sat_base.specs.Members.{In}
+use Rattle.std.proofs.Common.{◌-◌, not, false, get_or, subst}
 use Rattle.model_flips.specs.Repair.{IsFalseAmong}
 use Rattle.model_flips.proofs.RepairLemmas.{AreFalse-flipped}
 use Rattle.model_flips.proofs.rotation.Rotation.flipped.Goals as goal
