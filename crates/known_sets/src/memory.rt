@@ -22,6 +22,10 @@
 //! One that leaves out one group of the set that is shrunk is turned as well, one variable at a time, so that it leaves out
 //! another group in its place: each assignment that comes of that answers the question of shrinking about that group.
 //!
+//! On a large problem the assignment that was remembered last is repaired for a seed that nothing known answers: some flips
+//! often make it satisfy the seed, at the cost of the clauses that have their variables. Which groups it leaves out then is
+//! known as surely as before, and tested against the seed. What repairs may look at is bounded like flipping.
+//!
 //! Shrinking refutes ever smaller sets, of which only the last is worth keeping. So the set that was refuted last is held
 //! apart, and goes to the others when one comes that does not lie within it.
 ghost use Rattle.std.specs.Prelude.{◌≡◌, not, true, All, None, IfOk, IfSome};
