@@ -1,7 +1,7 @@
 -- Lemmas on the repair of models.
 use Rattle.std.proofs.Common.{◌≡◌, ◌⊎◌, ◌∙◌, ℕ, zero, suc, ◌+◌, ◌-◌, ◌<◌, Bool, true, false, not, ◌||◌, List, [], ◌∷◌, ◌++◌, Some, length, set, sym, ap, subst, inl, inr, eqb, arith}
 use Rattle.std.specs.Prelude.{slice_get}
-use Rattle.std.proofs.lemmas.Bool.{cases_eq, cases_Bool, false≢true, or_left, or_right, or_cases, and_parts, and_from, eqb-true, eq-eqb}
+use Rattle.std.proofs.lemmas.Bool.{cases_eq, cases_Bool, false≢true, or_left, or_right, or_cases, and_parts, and_from, eq-eqb}
 use Rattle.std.proofs.lemmas.Option.{slice_get_within}
 use Rattle.sat_base.specs.Literals.{IsLiteral, literal_true, clause_true, var_of}
 use Rattle.sat_base.specs.Members.{In}
@@ -9,10 +9,10 @@ use Rattle.sat_base.proofs.Members.{In-append_cases, all_at, all_from, any_at, a
 use Rattle.gm_base.specs.declared.clause.Clause.{Clause}
 use Rattle.gm_base.specs.Sets.{IsGroupSet, has, complement}
 use Rattle.gm_base.specs.Problem.{Problem, IsClause, IsProblem, satisfies, is_present}
-use Rattle.gm_base.proofs.SetLemmas.{has-all_groups, has-complement-parts, has-complement-from, not_has-bound}
+use Rattle.gm_base.proofs.SetLemmas.{has-all_groups, has-complement-from}
 use Rattle.model_flips.specs.Rotation.{IsListing, listed, HasLost, Satisfies}
-use Rattle.model_flips.specs.Repair.{IsFalseAmong}
-use Rattle.model_flips.proofs.RotationLemmas.{In-slice_get, recursion_at, literal_true-other}
+use Rattle.model_flips.specs.Repair.{IsFalseAmong, AreFalse}
+use Rattle.model_flips.proofs.RotationLemmas.{In-slice_get, recursion_at, literal_true-other, not_left_out}
 
 -- one clause more
 pub IsFalseAmong-next : (p : Problem) (values : List Bool) (places old new : List ℕ) (place : ℕ) → IsFalseAmong p values places old → ((at : ℕ) → In at old → In at new)
@@ -35,10 +35,6 @@ In-at (x ∷ xs) zero c h = inl (some_same c x (sym h))
     some_same : (a b : Clause) → Some a ≡ Some b → a ≡ b
     some_same a b e = cc
 In-at (x ∷ xs) (suc at) c h = inr (In-at xs at c h)
-
--- each clause that the assignment makes false is at one of these places
-abbrev pub AreFalse : Problem → List Bool → List ℕ → Type 0
-AreFalse p w falsified = (at : ℕ) (c : Clause) → slice_get p.clauses at ≡ Some c → (clause_true w c.lits ≡ true) ⊎ In at falsified
 
 -- after the flip of a variable: those that were false, and those that have the variable, were looked at
 pub AreFalse-flipped : (p : Problem) (lists : List (List ℕ)) (w v : List Bool) (var : ℕ) (b : Bool) (before old new : List ℕ) → IsProblem p → 0 < var → v ≡ set w (var - 1) b
@@ -95,16 +91,9 @@ Satisfies-finished p w out falsified len ascends lost h =
     (λ c inside.
     elim (cases_Bool (is_present (complement p.groups out) c)) [
       | inr absent ↦ or_left (not (is_present (complement p.groups out) c)) (clause_true w c.lits) (ap not absent)
-      | inl present ↦ or_right (not (is_present (complement p.groups out) c)) (clause_true w c.lits) (made c inside (apart c present))
+      | inl present ↦ or_right (not (is_present (complement p.groups out) c)) (clause_true w c.lits) (made c inside (not_left_out p out c ascends present))
     ]))
   where
-    apart : (c : Clause) → is_present (complement p.groups out) c ≡ true → has out c.group ≡ false
-    apart c present =
-        elim (or_cases (eqb c.group 0) (has (complement p.groups out) c.group) present) [
-          | inl background ↦ not_has-bound 0 c.group out (omega (arith, eqb-true c.group 0 background)) ascends
-          | inr outside ↦ (has-complement-parts p.groups out c.group outside).0
-        ]
-
     made : (c : Clause) → In c p.clauses → has out c.group ≡ false → clause_true w c.lits ≡ true
     made c inside out_of =
         let (at, there) = In-slice_get p.clauses c inside in

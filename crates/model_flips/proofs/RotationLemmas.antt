@@ -131,6 +131,14 @@ pub literal_true-other : (w : List Bool) (at : ℕ) (b : Bool) (lit : ℤ) → 0
 literal_true-other w at b (pos v) positive other = get_or-set_other w at (v - 1) b false (λ (e : v - 1 ≡ at). other (omega (arith, positive, e)))
 literal_true-other w at b (negsuc v) positive other = ap not (get_or-set_other w at v b false (λ (e : v ≡ at). other (omega (arith, e))))
 
+-- a clause that is present where some groups are left out is of none of these
+pub not_left_out : (p : Problem) (left : List ℕ) (c : Clause) → IsGroupSet left → is_present (complement p.groups left) c ≡ true → has left c.group ≡ false
+not_left_out p left c ascends present =
+    elim (or_cases (eqb c.group 0) (has (complement p.groups left) c.group) present) [
+      | inl background ↦ not_has-bound 0 c.group left (omega (arith, eqb-true c.group 0 background)) ascends
+      | inr outside ↦ (has-complement-parts p.groups left c.group outside).0
+    ]
+
 -- what the flip of a variable of an assignment leaves satisfied: the clauses that have it were looked at, and the groups
 -- that were left out before are so still or were tested
 pub Satisfies-turned : (p : Problem) (lists : List (List ℕ)) (out left : List ℕ) (w v : List Bool) (var : ℕ) (b : Bool) → IsProblem p → 0 < var → v ≡ set w (var - 1) b → IsGroupSet left
@@ -145,16 +153,9 @@ Satisfies-turned p lists out left w v var b well_formed positive is ascends rega
     (λ c inside.
     elim (cases_Bool (is_present (complement p.groups left) c)) [
       | inr absent ↦ or_left (not (is_present (complement p.groups left) c)) (clause_true v c.lits) (ap not absent)
-      | inl present ↦ or_right (not (is_present (complement p.groups left) c)) (clause_true v c.lits) (made parts.1 c inside (apart c present) (in_range c present))
+      | inl present ↦ or_right (not (is_present (complement p.groups left) c)) (clause_true v c.lits) (made parts.1 c inside (not_left_out p left c ascends present) (in_range c present))
     ]))
   where
-    apart : (c : Clause) → is_present (complement p.groups left) c ≡ true → has left c.group ≡ false
-    apart c present =
-        elim (or_cases (eqb c.group 0) (has (complement p.groups left) c.group) present) [
-          | inl background ↦ not_has-bound 0 c.group left (omega (arith, eqb-true c.group 0 background)) ascends
-          | inr outside ↦ (has-complement-parts p.groups left c.group outside).0
-        ]
-
     in_range : (c : Clause) → is_present (complement p.groups left) c ≡ true → (c.group ≡ 0) ⊎ (has (all_groups p.groups) c.group ≡ true)
     in_range c present =
         elim (or_cases (eqb c.group 0) (has (complement p.groups left) c.group) present) [

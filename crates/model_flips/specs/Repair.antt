@@ -10,6 +10,10 @@ use Rattle.model_flips.specs.declared.repair.Repair.{Repair}
 abbrev pub IsFalseAmong : Problem → List Bool → List ℕ → List ℕ → Type 0
 IsFalseAmong p values places falsified = (at : ℕ) (c : Clause) → In at places → slice_get p.clauses at ≡ Some c → (clause_true values c.lits ≡ true) ⊎ In at falsified
 
+-- each clause that the assignment makes false is at one of these places
+abbrev pub AreFalse : Problem → List Bool → List ℕ → Type 0
+AreFalse p values falsified = (at : ℕ) (c : Clause) → slice_get p.clauses at ≡ Some c → (clause_true values c.lits ≡ true) ⊎ In at falsified
+
 -- each clause that its assignment makes false is listed
 abbrev pub IsRepair : Problem → Repair → Type 0
-IsRepair p r = (at : ℕ) (c : Clause) → slice_get p.clauses at ≡ Some c → (clause_true r.values c.lits ≡ true) ⊎ In at r.falsified.items
+IsRepair p r = AreFalse p r.values r.falsified.items

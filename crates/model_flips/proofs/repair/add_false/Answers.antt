@@ -1,4 +1,4 @@
-use Rattle.std.proofs.Common.{◌≡◌, ◌∙◌, ℕ, ◌+◌, Vec, Global, ap, ◌++◌, ◌∷◌, [], true, get_or, take, sym, subst, inl, inr, arith, refl}
+use Rattle.std.proofs.Common.{◌≡◌, ◌∙◌, ℕ, ◌+◌, Vec, Global, ap, ◌++◌, ◌∷◌, [], get_or, take, sym, subst, inl, inr, arith, refl}
 use Rattle.std.proofs.lemmas.List.{take_more}
 use Rattle.std.proofs.lemmas.Bool.{false≢true}
 use Rattle.sat_base.specs.Members.{In}

@@ -6,8 +6,8 @@ use Rattle.sat_base.specs.Members.{In}
 use Rattle.sat_base.proofs.Members.{In-append_cases, any_from}
 use Rattle.gm_base.specs.declared.clause.Clause.{Clause}
 use Rattle.gm_base.specs.Sets.{has}
-use Rattle.model_flips.specs.Repair.{IsFalseAmong}
-use Rattle.model_flips.proofs.RepairLemmas.{AreFalse, AreFalse-begun}
+use Rattle.model_flips.specs.Repair.{IsFalseAmong, AreFalse}
+use Rattle.model_flips.proofs.RepairLemmas.{AreFalse-begun}
 use Rattle.model_flips.proofs.repair.begun.Goals as goal
 
 pub loop-group-preserved : goal.loop-group-preserved

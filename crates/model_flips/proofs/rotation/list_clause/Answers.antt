@@ -1,4 +1,4 @@
-use Rattle.std.proofs.Common.{◌++◌, ◌∷◌, [], get_or, take, sym, subst, arith}
+use Rattle.std.proofs.Common.{◌++◌, ◌∷◌, [], take, sym, subst, arith}
 use Rattle.std.proofs.lemmas.List.{take_more}
 use Rattle.sat_base.specs.Members.{In}
 use Rattle.model_flips.specs.Rotation.{listed}

@@ -1,4 +1,4 @@
-use Rattle.std.proofs.Common.{◌≡◌, ◌∙◌, true, ap}
+use Rattle.std.proofs.Common.{◌∙◌, ap}
 use Rattle.gm_base.specs.Sets.{has}
 use Rattle.model_flips.proofs.RotationLemmas.{has-with-kept}
 use Rattle.model_flips.proofs.rotation.with_false.Goals as goal

@@ -1,9 +1,8 @@
-use Rattle.std.proofs.Common.{◌≡◌, ◌∙◌, sym, ap, subst, arith}
+use Rattle.std.proofs.Common.{◌≡◌, sym, subst, arith}
 use Rattle.std.proofs.lemmas.Option.{slice_get_within}
 use Rattle.sat_base.specs.Literals.{var_of}
 use Rattle.sat_base.specs.Members.{In}
 use Rattle.model_flips.specs.Rotation.{listed}
-use Rattle.gm_base.specs.declared.clause.Clause.{Clause}
 use Rattle.model_flips.proofs.RotationLemmas.{AreListed-next}
 use Rattle.model_flips.proofs.rotation.Rotation.new.Goals as goal
 

@@ -3,7 +3,7 @@ use Rattle.std.specs.Prelude.{IfSome}
 use Rattle.gm_base.specs.Sets.{has}
 use Rattle.gm_base.specs.Index.{group_true}
 use Rattle.sat_base.specs.Members.{In}
-use Rattle.model_flips.specs.Rotation.{HasLost, listed}
+use Rattle.model_flips.specs.Rotation.{HasLost}
 use Rattle.model_flips.proofs.RotationLemmas.{Satisfies-turned}
 use Rattle.model_flips.proofs.rotation.Rotation.turned.Goals as goal
 
