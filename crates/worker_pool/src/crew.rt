@@ -4,7 +4,8 @@ ghost use Rattle.evidence_rec.specs.Asking.{IsHonestOver};
 ghost use Rattle.map_core.specs.Sound.{IsOpening};
 ghost use Rattle.worker_pool.specs.Workers.{IsNew, HasWorked, oracle_of, seat_of, log_of};
 
-use crate::marco::work;
+use crate::bell::Bell;
+use crate::marco::work_beside;
 use crate::worker::Worker;
 use board::{Board, Seat};
 use evidence_rec::{MapEngine, Oracle};
@@ -71,6 +72,7 @@ pub fn work_all<O: Oracle + Send, M: MapEngine + Send, G: Gate, R: Threads + Wai
     ensures each { (i : ℕ) (d : _) → i < length workers.old → HasWorked board.now problem.now O.state (slice_index_or workers.old i d) (slice_index_or workers.new i d) }
 {
     let threads = threads_for(rt, workers.len());
+    let bell = Bell::new();
     thread::for_each_mut(
         rt,
         workers,
@@ -78,7 +80,7 @@ pub fn work_all<O: Oracle + Send, M: MapEngine + Send, G: Gate, R: Threads + Wai
         &|_: usize, worker: &mut Worker<O>|
             requires { (board.now.opening.problem ≡ problem.now) × IsOpening board.now.opening × IsNew board.now problem.now (O.state worker.old.oracle) worker.old.seat }
             ensures { HasWorked board.entry.now problem.entry.now O.state worker.old worker.new }
-        { work(rt, alloc, board, problem, worker, gate) },
+        { work_beside(rt, alloc, board, problem, worker, gate, &bell) },
     );
 }
 

@@ -12,13 +12,14 @@
 //! [`Board`](board::Board), and each takes a seed of it, asks its own oracle about it, shrinks or grows it, and posts the
 //! record. Only the board's calls wait for one another. Where there are more workers than processors, a thread has several,
 //! one after the other. Where no thread can be had, all run so in the caller's. A worker that had to wait long for its turns
-//! sleeps before it takes again (`src/pace.rt`).
+//! sleeps before it takes again (`src/pace.rt`), unless one has ended (`src/bell.rt`).
 //!
 //! Start reading at `src/marco.rt`, which has the loop, and at `specs/Outcomes.antt`, which says what is left.
 //!
 //! Nothing is promised of who finds which set, of speed, nor that two workers are ever at work at the same time.
 #![tactic(auto)]
 
+mod bell;
 mod crew;
 mod marco;
 mod pace;

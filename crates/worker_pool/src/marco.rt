@@ -17,6 +17,7 @@ ghost use Rattle.worker_pool.specs.Course.{Free, At, IsGiven};
 ghost use Rattle.worker_pool.specs.Exploring.{TellsExplored};
 ghost use Rattle.worker_pool.specs.Workers.{IsNew, IsAt, IsOver};
 
+use crate::bell::Bell;
 use crate::pace::Pace;
 use crate::worker::Worker;
 use board::Board;
@@ -134,12 +135,33 @@ pub fn work<O: Oracle, M: MapEngine, G: Gate, R: Wait>(
     ensures same { IsSameSeat worker.old.seat worker.new.seat }
     ensures over { IsOver board.now problem.now (O.state worker.new.oracle) worker.new.seat }
 {
+    work_beside(rt, alloc, board, problem, worker, gate, &Bell::new())
+}
+
+/// Works as `work` does, beside others that share this bell: whoever ends wakes those that sleep.
+pub fn work_beside<O: Oracle, M: MapEngine, G: Gate, R: Wait>(
+    rt: &R,
+    alloc: Global,
+    board: &Board<M>,
+    problem: &Problem,
+    worker: &mut Worker<O>,
+    gate: &G,
+    bell: &Bell,
+)
+    requires board { board.now.opening.problem ≡ problem.now }
+    requires opening { IsOpening board.now.opening }
+    requires new { IsNew board.now problem.now (O.state worker.old.oracle) worker.old.seat }
+    ensures same { IsSameSeat worker.old.seat worker.new.seat }
+    ensures over { IsOver board.now problem.now (O.state worker.new.oracle) worker.new.seat }
+{
     let mut pace = Pace::new(worker.seat.number());
     while let Taken::Job { turn, seed, grant } = board.take(rt, &mut worker.seat, 0) {
         gate.pass(worker.seat.number(), turn);
         if !work_on(rt, alloc, board, problem, worker, turn, &seed, grant) {
+            bell.ring();
             return;
         }
-        pace.rest(rt, worker.seat.looks());
+        pace.rest(rt, bell, worker.seat.looks());
     }
+    bell.ring();
 }

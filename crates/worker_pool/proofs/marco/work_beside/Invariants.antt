@@ -2,7 +2,7 @@ use Rattle.std.proofs.Common.{◌-◌, ◌^◌, length}
 use Rattle.board.specs.Boards.{IsSameSeat}
 use Rattle.worker_pool.specs.Course.{Free}
 use Rattle.worker_pool.specs.Workers.{IsAt}
-use Rattle.worker_pool.proofs.marco.work.Given as goal
+use Rattle.worker_pool.proofs.marco.work_beside.Given as goal
 
 -- the worker has no job, and may take one
 abbrev pub invariant-loop-turn : goal.invariant-loop-turn

@@ -1,6 +1,6 @@
 use Rattle.worker_pool.proofs.Given.{given}
 use Rattle.worker_pool.proofs.Steps.{take_job, take_ends, same-seat}
-use Rattle.worker_pool.proofs.marco.work.Goals as goal
+use Rattle.worker_pool.proofs.marco.work_beside.Goals as goal
 
 -- the seed is one that the records of that moment leave unexplored
 pub work_on-requires-clause-given : goal.work_on-requires-clause-given
