@@ -7,3 +7,4 @@ pub mod CheckLemmas
 pub mod WritingLemmas
 pub mod EvidenceLemmas
 pub mod ResumeLemmas
+pub mod MadeLemmas

@@ -1,5 +1,5 @@
 //! The enumeration of a problem, from its beginning to what is left of it.
-ghost use Rattle.std.specs.Prelude.{◌≡◌, ◌<◌, ◌≤◌, All, IfOk, length};
+ghost use Rattle.std.specs.Prelude.{◌≡◌, ◌<◌, ◌≤◌, map, All, Ok, IfOk, length};
 ghost use Rattle.std.specs.List.{AllByRecursion};
 ghost use Rattle.evidence_rec.specs.Records.{IsAccepted};
 ghost use Rattle.gm_words.specs.Requests.{AreGoodJobs};
@@ -17,7 +17,7 @@ use map_core::Closing;
 use power_map::PowerMap;
 use std::alloc::{AllocError, Global};
 use std::sync::Wait;
-use std::thread::Threads;
+use std::thread::{self, Threads};
 use worker_pool::{Outcome, enumerate};
 
 /// How many workers there are, how many clauses may be learnt, and how many sets recorded.
@@ -53,7 +53,7 @@ pub fn list_sets<G: Gate, R: Threads + Wait + Sync>(
     ensures { IfOk result (IsLeft problem.now first bounds) }
 {
     let _groups = problem.groups(); // The problem is well-formed.
-    let oracles = fresh_oracles(alloc, problem, first.as_slice(), bounds.jobs)?;
+    let oracles = fresh_oracles(rt, alloc, problem, first.as_slice(), bounds.jobs)?;
     let map = PowerMap::new(alloc, problem.groups())?;
     let outcome = enumerate(
         rt,
@@ -82,8 +82,9 @@ pub fn list_sets<G: Gate, R: Threads + Wait + Sync>(
     })
 }
 
-// An oracle for each worker, which remembers these records and what it is answered.
-fn fresh_oracles(
+// An oracle for each worker, which remembers these records and what it is answered. All are made at once, in threads.
+fn fresh_oracles<R: Threads + Sync>(
+    rt: &R,
     alloc: Global,
     problem: &Problem,
     first: &[Record],
@@ -93,12 +94,27 @@ fn fresh_oracles(
     ensures count { IfOk result (λ oracles. length oracles.items ≡ count) }
     ensures fresh { IfOk result (λ oracles. All (λ o. IsFresh problem.now o) oracles.items) }
 {
-    let mut oracles = Vec::with_capacity(alloc, count as usize)?;
-    for _ in 0..count {
-        let oracle = fresh_oracle(alloc, problem, first)?;
-        oracles.push(oracle)?;
+    let made = thread::map_indices(
+        rt,
+        alloc,
+        count as usize,
+        &|_: usize| -> Result<KnownSets<GroupOracle>, AllocError>
+            requires { AllByRecursion (IsAccepted problem.now) first.now }
+            ensures { IfOk result (IsFresh problem.entry.now) }
+        { fresh_oracle(alloc, problem, first) },
+    )?;
+    all_of(alloc, made)
+}
+
+// What is in all of these, where each has something in it.
+fn all_of<T: Drop>(alloc: Global, made: Vec<Result<T, AllocError>>) -> Result<Vec<T>, AllocError>
+    ensures { IfOk result (λ all. map Ok all.items ≡ made.items) }
+{
+    let mut all = Vec::with_capacity(alloc, made.len())?;
+    for one in made {
+        all.push(one?)?;
     }
-    Ok(oracles)
+    Ok(all)
 }
 
 fn fresh_oracle(

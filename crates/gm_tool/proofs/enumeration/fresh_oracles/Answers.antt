@@ -1,13 +1,13 @@
-use Rattle.std.proofs.Common.{sym, subst, arith}
+use Rattle.std.proofs.Common.{length, arith}
 use Rattle.std.specs.Prelude.{All}
-use Rattle.std.proofs.lemmas.List.Elements.{All-push}
+use Rattle.std.proofs.lemmas.Result.{IfOk-weaker}
 use Rattle.worker_pool.specs.Workers.{IsFresh}
+use Rattle.gm_tool.proofs.MadeLemmas.{all_hold}
 use Rattle.gm_tool.proofs.enumeration.fresh_oracles.Goals as goal
 
--- one oracle more
-pub loop-preserved : goal.loop-preserved
-loop-preserved c =
-    let p = c.args.problem.now in (
-      omega (arith, c.loop.invariant.0, c.in_ok-push.ensures.len),
-      subst (All (IsFresh p)) (sym c.in_ok-push.ensures.items) (All-push (IsFresh p) c.loop.oracles.items c.in_ok-oracle.oracle c.loop.invariant.1 c.in_ok-oracle.ensures),
-    )
+-- each call made a fresh one
+pub returns-clause-fresh : goal.returns-clause-fresh
+returns-clause-fresh g c =
+    let p = c.args.problem.now in
+    let made = c.in_ok-made in
+    IfOk-weaker c.all_of.result _ (λ all. All (IsFresh p) all.items) (λ all same. all_hold (IsFresh p) all.items made.made.items (λ i d low. (made.ensures.each i d (omega (arith, low, made.ensures.len, made.made.ok))).1.met) same) c.all_of.ensures
