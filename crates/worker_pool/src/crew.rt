@@ -6,6 +6,7 @@ ghost use Rattle.worker_pool.specs.Workers.{IsNew, HasWorked, oracle_of, seat_of
 
 use crate::bell::Bell;
 use crate::marco::work_beside;
+use crate::pace::Pace;
 use crate::worker::Worker;
 use board::{Board, Seat};
 use evidence_rec::{MapEngine, Oracle};
@@ -55,6 +56,16 @@ fn threads_for<R: Threads>(rt: &R, workers: usize) -> usize
     workers.div_ceil(each).max(1)
 }
 
+// The first of those that work in the caller's thread, which are the last ones: there memory is had at less cost than in
+// another thread (measured, see docs/DECISIONS.md).
+fn leader_of(workers: usize, threads: usize) -> usize
+    requires { 0 < threads }
+{
+    let each = workers.div_ceil(threads).max(1);
+    let last = workers.saturating_sub(1);
+    last - last % each
+}
+
 /// All workers at once, in threads. Where there are more workers than processors, a thread has several, which work one
 /// after the other: a seat that waits takes from those that work. Where no thread can be had, all workers do so.
 pub fn work_all<O: Oracle + Send, M: MapEngine + Send, G: Gate, R: Threads + Wait + Sync>(
@@ -72,15 +83,19 @@ pub fn work_all<O: Oracle + Send, M: MapEngine + Send, G: Gate, R: Threads + Wai
     ensures each { (i : ℕ) (d : _) → i < length workers.old → HasWorked board.now problem.now O.state (slice_index_or workers.old i d) (slice_index_or workers.new i d) }
 {
     let threads = threads_for(rt, workers.len());
+    let leader = leader_of(workers.len(), threads);
     let bell = Bell::new();
     thread::for_each_mut(
         rt,
         workers,
         threads,
-        &|_: usize, worker: &mut Worker<O>|
+        &|place: usize, worker: &mut Worker<O>|
             requires { (board.now.opening.problem ≡ problem.now) × IsOpening board.now.opening × IsNew board.now problem.now (O.state worker.old.oracle) worker.old.seat }
             ensures { HasWorked board.entry.now problem.entry.now O.state worker.old worker.new }
-        { work_beside(rt, alloc, board, problem, worker, gate, &bell) },
+        {
+            let pace = Pace::new(place == leader);
+            work_beside(rt, alloc, board, problem, worker, gate, pace, &bell)
+        },
     );
 }
 

@@ -135,10 +135,19 @@ pub fn work<O: Oracle, M: MapEngine, G: Gate, R: Wait>(
     ensures same { IsSameSeat worker.old.seat worker.new.seat }
     ensures over { IsOver board.now problem.now (O.state worker.new.oracle) worker.new.seat }
 {
-    work_beside(rt, alloc, board, problem, worker, gate, &Bell::new())
+    work_beside(
+        rt,
+        alloc,
+        board,
+        problem,
+        worker,
+        gate,
+        Pace::new(true),
+        &Bell::new(),
+    )
 }
 
-/// Works as `work` does, beside others that share this bell: whoever ends wakes those that sleep.
+/// Works as `work` does, at this pace, beside others that share the bell: whoever ends wakes those that sleep.
 pub fn work_beside<O: Oracle, M: MapEngine, G: Gate, R: Wait>(
     rt: &R,
     alloc: Global,
@@ -146,6 +155,7 @@ pub fn work_beside<O: Oracle, M: MapEngine, G: Gate, R: Wait>(
     problem: &Problem,
     worker: &mut Worker<O>,
     gate: &G,
+    mut pace: Pace,
     bell: &Bell,
 )
     requires board { board.now.opening.problem ≡ problem.now }
@@ -154,7 +164,6 @@ pub fn work_beside<O: Oracle, M: MapEngine, G: Gate, R: Wait>(
     ensures same { IsSameSeat worker.old.seat worker.new.seat }
     ensures over { IsOver board.now problem.now (O.state worker.new.oracle) worker.new.seat }
 {
-    let mut pace = Pace::new(worker.seat.number());
     while let Taken::Job { turn, seed, grant } = board.take(rt, &mut worker.seat, 0) {
         gate.pass(worker.seat.number(), turn);
         if !work_on(rt, alloc, board, problem, worker, turn, &seed, grant) {

@@ -3,7 +3,7 @@
 //! Where the map is most of the work, the workers do little but wait for one another's turns, and the more of them take, the
 //! longer the turns are: a seed is found in a few steps where the block of the last one came before it is asked for, and
 //! nearly anew where another worker is still at that. So a worker that had to look long for its turns sleeps before it takes
-//! again, eight times as long each time, up to two seconds, and half as long where it did not. The first worker never sleeps.
+//! again, four times as long each time, up to two seconds, and half as long where it did not. One worker leads and never sleeps.
 //! Where the oracles are most of the work, seldom anybody waits, and all are at work. Nobody sleeps past the end of the
 //! enumeration, since a bell is rung there (`bell.rt`).
 use crate::bell::Bell;
@@ -11,7 +11,7 @@ use std::sync::Wait;
 use std::time::Duration;
 
 // So many looks that came too early are a long wait (measured, see docs/DECISIONS.md).
-const LONG: u64 = 5;
+const LONG: u64 = 20;
 
 // The first sleep, and the longest one, in microseconds.
 const LEAST: u64 = 500;
@@ -19,7 +19,7 @@ const LEAST: u64 = 500;
 const MOST: u64 = 2_000_000;
 
 // A sleep gets so many times as long behind a long wait, and so many times shorter without.
-const LONGER: u64 = 8;
+const LONGER: u64 = 4;
 
 const SHORTER: u64 = 2;
 
@@ -34,11 +34,10 @@ pub struct Pace {
 }
 
 impl Pace {
-    /// That of the worker with this number.
-    pub fn new(number: u32) -> Pace {
-        let most = if number == 0 { 0 } else { MOST };
+    /// That of the worker that leads, who never sleeps, or of another one.
+    pub fn new(leads: bool) -> Pace {
         Pace {
-            most,
+            most: if leads { 0 } else { MOST },
             sleep: 0,
             looks: 0,
         }
