@@ -56,8 +56,8 @@ fn threads_for<R: Threads>(rt: &R, workers: usize) -> usize
     workers.div_ceil(each).max(1)
 }
 
-// The first of those that work in the caller's thread, which are the last ones: there memory is had at less cost than in
-// another thread (measured, see docs/DECISIONS.md).
+// The first of those that work in the caller's thread, which are the last ones: that thread has the allocator's main arena
+// (see docs/DECISIONS.md).
 fn leader_of(workers: usize, threads: usize) -> usize
     requires { 0 < threads }
 {
