@@ -1,7 +1,7 @@
 //! Problems.
 //!
 //! A problem is a list of clauses in groups. Beside them stands an index, by which the clauses of a group are found
-//! without a walk over the others. Contracts see the clauses alone.
+//! without a walk over the others. Contracts see the clauses alone. Both never change, so copies share them.
 ghost use Rattle.std.specs.Prelude.{◌≡◌, ◌<◌, ◌+◌, ◌^◌, ◌↔◌, IsTrue, IfOk, Some, length, slice_get};
 ghost use Rattle.gm_base.specs.Problem.{IsClause, IsProblem, satisfies};
 ghost use Rattle.gm_base.specs.Index.{ArePlaces, group_true};
@@ -9,33 +9,35 @@ ghost use Rattle.gm_base.specs.Index.{ArePlaces, group_true};
 use crate::clause::{Clause, Clauses};
 use crate::group_set::GroupSet;
 use crate::index::{Placed, index_of, stretch};
-use sat_base::{Assign, Lits};
+use sat_base::Assign;
 use std::alloc::{AllocError, Global};
 use std::marker::Model;
+use std::sync::Arc;
 
 /// Clauses in groups from 0 to `groups`, over variables from 1 to `vars`.
 #[derive(Debug, Drop)]
 pub struct Problem {
     vars: u32,
     groups: u32,
-    clauses: Vec<Clause>,
-    index: Vec<Placed>,
+    clauses: Arc<Vec<Clause>, Global>,
+    index: Arc<Vec<Placed>, Global>,
 }
 
 impl Model for Problem {
     ghost use Rattle.std.specs.Prelude.{◌+◌, ◌^◌, ◌<◌};
+    ghost use Rattle.std.specs.Arc.{arc_value};
     ghost use Rattle.gm_base.specs.Problem.{Problem, IsProblem};
     ghost use Rattle.gm_base.specs.Index.{IsIndex};
 
     ghost Value = { Problem };
 
-    ghost view = { λ p. record { vars = p.vars; groups = p.groups; clauses = p.clauses.items } };
+    ghost view = { λ p. record { vars = p.vars; groups = p.groups; clauses = (arc_value p.clauses).items } };
 
     ghost invariant = { λ p.
         record {
-          well_formed : IsProblem (record { vars = p.vars; groups = p.groups; clauses = p.clauses.items });
+          well_formed : IsProblem (record { vars = p.vars; groups = p.groups; clauses = (arc_value p.clauses).items });
           small : p.vars + p.groups < 2 ^ 31;
-          index : IsIndex p.clauses.items p.index.items;
+          index : IsIndex (arc_value p.clauses).items (arc_value p.index).items;
         } };
 }
 
@@ -53,6 +55,8 @@ impl Problem {
     {
         let clauses = clauses.into_vec();
         let index = index_of(alloc, clauses.as_slice())?;
+        let clauses = Arc::new(alloc, clauses)?;
+        let index = Arc::new(alloc, index)?;
         Ok(Problem {
             vars,
             groups,
@@ -61,12 +65,12 @@ impl Problem {
         })
     }
 
-    /// A copy of it.
-    pub fn copy(&self, alloc: Global) -> Result<Problem, AllocError>
+    /// One more reference to it. It takes no memory, and fails where there are 2^63 references already.
+    pub fn copy(&self) -> Result<Problem, AllocError>
         ensures { IfOk result (λ copy. copy ≡ self.now) }
     {
-        let clauses = copy_clauses(alloc, self.clauses.as_slice())?;
-        let index = Vec::from_slice(alloc, self.index.as_slice())?;
+        let clauses = Arc::try_clone(&self.clauses)?;
+        let index = Arc::try_clone(&self.index)?;
         Ok(Problem {
             vars: self.vars,
             groups: self.groups,
@@ -103,7 +107,7 @@ impl Problem {
         ensures same { slice_get self.now.clauses at ≡ Some result.now }
         ensures fits { IsClause self.now.vars self.now.groups result.now }
     {
-        &self.clauses[at]
+        &self.clauses.as_slice()[at]
     }
 
     /// Where the clauses of a group stand, without a walk over the others.
@@ -142,20 +146,6 @@ impl Problem {
         }
         true
     }
-}
-
-fn copy_clauses(alloc: Global, clauses: &[Clause]) -> Result<Vec<Clause>, AllocError>
-    ensures { IfOk result (λ copies. copies.items ≡ clauses.now) }
-{
-    let mut copies = Vec::with_capacity(alloc, clauses.len())?;
-    for clause in clauses {
-        let lits = Lits::from_slice(alloc, clause.lits.as_slice())?;
-        copies.push(Clause {
-            group: clause.group,
-            lits,
-        })?;
-    }
-    Ok(copies)
 }
 
 /// Whether a clause is over these groups and variables.

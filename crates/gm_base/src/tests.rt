@@ -78,7 +78,7 @@ fn four_clauses(alloc: Global) -> Result<Problem, AllocError> {
 fn problem_holds_for_the_groups_that_an_assignment_satisfies(rt: HostRuntime) -> Result<(), Fail> {
     let alloc = rt.alloc();
     let problem = four_clauses(alloc)?;
-    let copy = problem.copy(alloc)?;
+    let copy = problem.copy()?;
     let rows: [(bool, bool, &[u32], bool); 6] = [
         (false, false, &[2, 3, 4], true),
         (false, false, &[1], false),
@@ -103,7 +103,7 @@ fn problem_holds_for_the_groups_that_an_assignment_satisfies(rt: HostRuntime) ->
 #[test]
 fn copy_of_a_problem_has_its_clauses_in_their_groups(rt: HostRuntime) -> Result<(), Fail> {
     let alloc = rt.alloc();
-    let copy = four_clauses(alloc)?.copy(alloc)?;
+    let copy = four_clauses(alloc)?.copy()?;
     let rows: [(u32, &[i32]); 4] = [(1, &[1]), (2, &[-1]), (3, &[-1, 2]), (4, &[-2])];
     assert_eq!(rt; copy.len(), rows.len());
     for (at, (group, lits)) in rows.iter().enumerate() {

@@ -62,7 +62,7 @@ impl TableOracle {
     {
         let log = input_log(alloc, problem)?;
         Ok(TableOracle {
-            problem: problem.copy(alloc)?,
+            problem: problem.copy()?,
             witnesses,
             conflicts: Records::new(alloc),
             whole,

@@ -237,7 +237,7 @@ impl<M: MapEngine + Drop> MapCore<M> {
         ensures { IfOk result (λ core. core ≡ opened (opening_of problem.now records workers budget limit M.TOPS)) }
     {
         let mut engine = engine;
-        let problem = problem.copy(alloc)?;
+        let problem = problem.copy()?;
         let records = records.into_vec();
         let held = enter_all(alloc, &mut engine, records.as_slice())?;
         let seats = new_workers(alloc, workers)?;

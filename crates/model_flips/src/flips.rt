@@ -58,12 +58,12 @@ impl Model for Flips {
 }
 
 impl Flips {
-    /// All variables are false. The problem is copied.
+    /// All variables are false.
     pub fn new(alloc: Global, problem: &Problem) -> Result<Flips, AllocError>
         ensures { IfOk result (λ flips. flips ≡ problem.now) }
     {
         Ok(Flips {
-            problem: problem.copy(alloc)?,
+            problem: problem.copy()?,
             occurrences: Occurrences::new(alloc, problem)?,
             standing: Standing::new(alloc, problem)?,
             kept: vec![in alloc; false; problem.groups() as usize + 1]?,
