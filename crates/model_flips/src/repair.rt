@@ -39,8 +39,8 @@ impl Rotation {
     /// Flips variables of an assignment that satisfies the background and all groups but some, until it satisfies the
     /// background and all groups that are marked, and says which groups are left out then. Nothing where it does not come
     /// to that, or where more was looked at in all than `most`. No clause says that a marked group is not left out: who needs
-    /// that looks at the groups. What a flip costs are the clauses that have one of the variables of a clause, and copies of
-    /// the assignment.
+    /// that looks at the groups. What a flip costs are the clauses that have one of the variables of a clause, and one copy
+    /// of the assignment.
     pub fn repaired(
         &self,
         alloc: Global,
@@ -60,13 +60,13 @@ impl Rotation {
             let Some(place) = pressing(problem, marks, &repair.falsified) else {
                 return finished(alloc, problem, repair);
             };
-            let Some(var) = self.to_flip(alloc, problem, marks, &repair, &flipped, place, looks)?
-            else {
+            let Some(var) = self.to_flip(problem, marks, &repair, &flipped, place, looks) else {
                 return Ok(None);
             };
             if *looks > most || var == 0 || var > problem.vars() {
                 return Ok(None);
             }
+            *looks = looks.saturating_add(self.cost(var));
             flipped.push(var)?;
             repair = self.flipped(alloc, problem, repair, var)?;
         }
@@ -98,66 +98,55 @@ impl Rotation {
     // The variable of a clause to be flipped next: one that was not flipped lately, where there is one.
     fn to_flip(
         &self,
-        alloc: Global,
         problem: &Problem,
         marks: &[bool],
         repair: &Repair,
         flipped: &[u32],
         place: u32,
         looks: &mut u64,
-    ) -> Result<Option<u32>, AllocError>
+    ) -> Option<u32>
         requires { length repair.now.values ≡ problem.now.vars }
     {
         for most in &BARRED {
             let barred = last_of(flipped, *most);
-            let chosen = self.cheapest(
-                alloc,
-                problem,
-                marks,
-                &repair.values,
-                barred,
-                place,
-                looks,
-            )?;
+            let chosen = self.cheapest(problem, marks, &repair.values, barred, place, looks);
             if chosen.is_some() {
-                return Ok(chosen);
+                return chosen;
             }
         }
-        Ok(None)
+        None
     }
 
     // The variable of a clause, but for those that are barred, whose flip falsifies fewest clauses that matter.
     fn cheapest(
         &self,
-        alloc: Global,
         problem: &Problem,
         marks: &[bool],
         values: &Assign,
         barred: &[u32],
         place: u32,
         looks: &mut u64,
-    ) -> Result<Option<u32>, AllocError>
+    ) -> Option<u32>
         requires { length values.now ≡ problem.now.vars }
     {
         if place as usize >= problem.len() {
-            return Ok(None);
+            return None;
         }
-        let vars = problem.vars();
         let mut best = None;
         let mut fewest = usize::MAX;
         for lit in problem.clause(place as usize).lits.as_slice() {
             let var = lit.var();
-            if var > 0 && var <= vars && !barred.contains(&var) {
-                *looks = looks.saturating_add(self.cost(var));
-                let next = values.flipped(alloc, var)?;
-                let broken = count_false(problem, marks, self.of(var), &next);
+            if !barred.contains(&var) {
+                let places = self.of(var);
+                *looks = looks.saturating_add(places.len() as u64);
+                let broken = count_false(problem, marks, places, values, var);
                 if broken < fewest {
                     fewest = broken;
                     best = Some(var);
                 }
             }
         }
-        Ok(best)
+        best
     }
 }
 
@@ -263,17 +252,38 @@ fn pressing(problem: &Problem, marks: &[bool], falsified: &[u32]) -> Option<u32>
     last
 }
 
-// How many of these clauses matter and are false.
-fn count_false(problem: &Problem, marks: &[bool], places: &[u32], values: &Assign) -> usize
+// How many of these clauses matter, and are false once a variable is flipped.
+fn count_false(
+    problem: &Problem,
+    marks: &[bool],
+    places: &[u32],
+    values: &Assign,
+    flipped: u32,
+) -> usize
     requires { length values.now ≡ problem.now.vars }
 {
     let mut count = 0usize;
     for place in places {
-        if is_false(problem, *place, values) && matters(problem, marks, *place) {
+        if matters(problem, marks, *place) && is_false_behind(problem, *place, values, flipped) {
             count = count.saturating_add(1);
         }
     }
     count
+}
+
+// Whether there is a clause at this place, and it is false once a variable is flipped.
+fn is_false_behind(problem: &Problem, place: u32, values: &Assign, flipped: u32) -> bool
+    requires { length values.now ≡ problem.now.vars }
+{
+    if place as usize >= problem.len() {
+        return false;
+    }
+    for lit in problem.clause(place as usize).lits.as_slice() {
+        if values.makes_true(*lit) != (lit.var() == flipped) {
+            return false;
+        }
+    }
+    true
 }
 
 // The last ones of these, so many at most.
