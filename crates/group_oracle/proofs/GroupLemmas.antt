@@ -1,7 +1,6 @@
 -- The groups of literals that switch groups off, sorted and each taken once.
-use Rattle.std.proofs.Common.{◌≡◌, ◌⊎◌, ◌↔◌, ℕ, zero, suc, ◌+◌, ◌-◌, ◌<◌, ◌≤◌, Bool, true, false, ◌||◌, eqb, List, [], ◌∷◌, ◌++◌, map, length, get_or, take, refl, sym, ◌∙◌, ap, subst, inl, inr, arith}
+use Rattle.std.proofs.Common.{◌≡◌, ◌⊎◌, ℕ, zero, suc, ◌+◌, ◌-◌, ◌<◌, ◌≤◌, true, false, ◌||◌, eqb, List, [], ◌∷◌, ◌++◌, map, length, get_or, take, refl, sym, ◌∙◌, ap, subst, inl, inr, arith}
 use Rattle.std.specs.Prelude.{ℤ, pos, neg_ℤ, nat_abs, All}
-use Rattle.std.specs.List.{list_any}
 use Rattle.std.specs.List.Sorted.{IsNonDecreasingBy, IsPermutation}
 use Rattle.std.proofs.lemmas.Bool.{or_left, or_right, cases_Bool, eqb-true, eq-eqb}
 use Rattle.std.proofs.Math.Bool.{or-false}
@@ -13,7 +12,7 @@ use Rattle.sat_base.specs.Literals.{var_of}
 use Rattle.gm_base.specs.Sets.{has, AscendsAbove, IsGroupSet}
 use Rattle.sat_base.proofs.Members.{In-map, In-from_map, any_at, any_from}
 use Rattle.sat_base.proofs.DatabaseLemmas.{get_in}
-use Rattle.group_oracle.specs.Selectors.{off, IsOff, AreOff, AreGroupsOf, IsSetOf}
+use Rattle.group_oracle.specs.Selectors.{off, AreOff, AreGroupsOf, IsSetOf}
 
 pub in_has : (set : List ℕ) (g : ℕ) → In g set → has set g ≡ true
 in_has set g i = any_at (λ h. eqb h g) set g i (eq-eqb g g refl)

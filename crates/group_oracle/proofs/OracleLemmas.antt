@@ -1,9 +1,8 @@
 -- What a search means for the problem behind the log.
-use Rattle.std.proofs.Common.{◌≡◌, ℕ, ◌+◌, ◌<◌, ◌≤◌, Bool, true, List, map, length, take, Option, Some, refl, sym, ◌∙◌, ap, subst, arith}
+use Rattle.std.proofs.Common.{◌≡◌, ℕ, ◌+◌, ◌≤◌, Bool, true, List, map, length, take, Option, Some, sym, ◌∙◌, ap, subst}
 use Rattle.std.specs.Prelude.{ℤ, Result, IfOk, IfSome}
 use Rattle.std.specs.Option.{option_map}
 use Rattle.std.proofs.lemmas.Result.{IfOk-weaker}
-use Rattle.gm_base.specs.declared.clause.Clause.{Clause}
 use Rattle.sat_base.specs.Literals.{AreLiterals}
 use Rattle.gm_base.specs.Sets.{IsSubset, IsGroupSet, all_groups}
 use Rattle.gm_base.specs.Problem.{Problem, IsProblem, Sat}
@@ -11,13 +10,12 @@ use Rattle.sat_base.specs.Derivation.{Derivation, clause_of}
 use Rattle.sat_base.specs.Database.{known_of}
 use Rattle.gm_base.specs.Evidence.{is_witness, refutes}
 use Rattle.lrat_steps.specs.Log.{LogStep, lits_of, steps_of, step_at, inputs_of, db_of}
-use Rattle.lrat_steps.specs.Honest.{IsHonest}
 use Rattle.lrat_steps.specs.Trimmed.{IsTrimmed}
 use Rattle.cdcl_core.specs.Answers.{IsConsistent, IsModel, IsRefuted, IsHonestlyPaid}
 use Rattle.evidence_rec.specs.Asking.{IsHonestOver}
 use Rattle.group_oracle.specs.Selectors.{on, AreOff, AreGroupsOf, without_selector, problem_of}
 use Rattle.group_oracle.specs.Inside.{IsRefutedBy, refuted_at}
-use Rattle.group_oracle.proofs.SelectorLemmas.{group_range, selectors_over, selectors_consistent}
+use Rattle.group_oracle.proofs.SelectorLemmas.{selectors_over, selectors_consistent}
 use Rattle.group_oracle.proofs.WitnessLemmas.{witness-from_model}
 use Rattle.group_oracle.proofs.RefutedLemmas.{core_at, core_off, core_within, core_refuted, switched_off-one, refuted-unsat, refuted-refutes}
 

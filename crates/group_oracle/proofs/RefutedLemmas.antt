@@ -1,5 +1,5 @@
 -- What a clause that switches off groups says of the problem.
-use Rattle.std.proofs.Common.{◌≡◌, ℕ, zero, suc, ◌+◌, ◌-◌, ◌<◌, ◌≤◌, Bool, true, false, not, ◌&&◌, eqb, List, [], ◌∷◌, ◌++◌, map, length, get_or, Option, Some, None, refl, sym, ◌∙◌, ap, subst, inl, inr, arith}
+use Rattle.std.proofs.Common.{◌≡◌, ℕ, zero, suc, ◌+◌, ◌-◌, ◌<◌, ◌≤◌, Bool, true, false, not, List, [], ◌++◌, map, length, Option, Some, refl, sym, ◌∙◌, ap, subst, arith}
 use Rattle.std.specs.Prelude.{ℤ, pos, negsuc, neg_ℤ, slice_get}
 use Rattle.std.specs.Ordering.{int_eq}
 use Rattle.std.specs.List.{list_any, list_all}
@@ -7,8 +7,8 @@ use Rattle.std.specs.Option.{option_map_or}
 use Rattle.std.proofs.lemmas.Bool.{false≢true, and_from, and_parts}
 use Rattle.std.proofs.lemmas.Bool.Decides.{Decides-int_eq}
 use Rattle.sat_base.specs.Members.{In}
-use Rattle.sat_base.specs.Literals.{AreLiterals, literal_true, clause_true}
-use Rattle.gm_base.specs.Sets.{has, IsSubset, IsGroupSet, all_groups}
+use Rattle.sat_base.specs.Literals.{literal_true}
+use Rattle.gm_base.specs.Sets.{has, IsSubset, all_groups}
 use Rattle.gm_base.specs.Problem.{Problem, IsProblem, Sat}
 use Rattle.sat_base.specs.Derivation.{Derivation, clause_of, all_known, is_derivation, contains_lit}
 use Rattle.sat_base.specs.Database.{known_of}
@@ -19,13 +19,12 @@ use Rattle.sat_base.proofs.Members.{In-from_map, all_from, any_at, any_from}
 use Rattle.sat_base.proofs.DatabaseLemmas.{get_in}
 use Rattle.sat_base.proofs.FollowsLemmas.{Holds}
 use Rattle.lrat_steps.specs.Log.{LogStep, Input, Core, lits_of, steps_of, step_at, inputs_of, db_of}
-use Rattle.lrat_steps.specs.Honest.{IsHonest}
 use Rattle.lrat_steps.specs.Trimmed.{IsTrimmed}
 use Rattle.lrat_steps.proofs.LogLemmas.{named_step}
 use Rattle.lrat_steps.proofs.SoundLemmas.{honest-sound}
 use Rattle.cdcl_core.specs.Answers.{IsRefuted}
 use Rattle.evidence_rec.specs.Asking.{IsHonestOver}
-use Rattle.group_oracle.specs.Selectors.{on, off, IsOff, AreOff, AreGroupsOf, switched_off}
+use Rattle.group_oracle.specs.Selectors.{on, off, AreOff, AreGroupsOf, switched_off}
 use Rattle.group_oracle.specs.Inside.{IsRefutedBy}
 use Rattle.group_oracle.proofs.GroupLemmas.{in_has, has_in, group_of, group_off}
 use Rattle.group_oracle.proofs.SelectorLemmas.{group_range, form_over, get_or-from}

@@ -1,6 +1,6 @@
 -- Selectors are literals of their own, and the problem can be read off the clauses with selectors.
-use Rattle.std.proofs.Common.{◌≡◌, ◌⊎◌, ℕ, zero, suc, ◌+◌, ◌-◌, ◌<◌, ◌≤◌, Bool, true, false, eqb, leb, List, [], ◌∷◌, ◌++◌, map, refl, sym, ◌∙◌, ap, ap₂, subst, inl, inr, arith, append-nil, length, take, get_or, Some}
-use Rattle.std.specs.Prelude.{ℤ, pos, negsuc, neg_ℤ, slice_get}
+use Rattle.std.proofs.Common.{◌≡◌, ℕ, zero, suc, ◌+◌, ◌-◌, ◌<◌, ◌≤◌, Bool, true, false, eqb, leb, List, [], ◌∷◌, ◌++◌, map, refl, sym, ◌∙◌, ap, ap₂, subst, inl, inr, arith, append-nil, length, take, get_or, Some}
+use Rattle.std.specs.Prelude.{ℤ, pos, neg_ℤ, slice_get}
 use Rattle.std.specs.List.{filter, range_with_len, AllByRecursion}
 use Rattle.std.proofs.lemmas.Bool.{or_cases, cases_Bool, false≢true, cond-true, cond-false, le-leb, lt-leb, eqb-true, eqb-false}
 use Rattle.std.proofs.lemmas.List.{map_more, map_push}
@@ -181,8 +181,11 @@ given_from : (inputs : List (List ℤ)) (earlier : List LogStep) (cs : List (Lis
 given_from inputs earlier [] = tt
 given_from inputs earlier (c ∷ cs) = (tt, given_from inputs (earlier ++ Input c ∷ []) cs)
 
+pub honest-inputs : (cs : List (List ℤ)) → IsHonest (map Input cs)
+honest-inputs cs = given_from (inputs_of (map Input cs)) [] cs
+
 pub honest-given : (p : Problem) → IsHonestOver p (map Input (selector_form p))
-honest-given p = record { inputs = inputs-given (selector_form p); honest = given_from (inputs_of (map Input (selector_form p))) [] (selector_form p) }
+honest-given p = record { inputs = inputs-given (selector_form p); honest = honest-inputs (selector_form p) }
 
 -- of a log that was just made
 pub problem_new : (p : Problem) (vars groups : ℕ) (log : List LogStep) → IsProblem p → vars ≡ p.vars → groups ≡ p.groups → log ≡ map Input (selector_form p) → problem_of vars groups log ≡ p

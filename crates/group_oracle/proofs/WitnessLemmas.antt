@@ -1,15 +1,14 @@
 -- Assignments of the problem, and assignments that give the selectors values too.
-use Rattle.std.proofs.Common.{◌≡◌, ◌⊎◌, ℕ, zero, suc, ◌+◌, ◌-◌, ◌<◌, ◌≤◌, Bool, true, false, not, ◌&&◌, ◌||◌, eqb, leb, List, [], ◌∷◌, ◌++◌, map, length, get_or, take, drop, refl, sym, ◌∙◌, ap, subst, inl, inr, arith}
+use Rattle.std.proofs.Common.{◌≡◌, ◌⊎◌, ℕ, zero, suc, ◌+◌, ◌-◌, ◌<◌, ◌≤◌, Bool, true, false, not, ◌||◌, eqb, List, [], ◌∷◌, ◌++◌, map, length, get_or, take, drop, refl, sym, ◌∙◌, ap, subst, inl, inr, arith}
 use Rattle.std.specs.Prelude.{ℤ, pos, negsuc, neg_ℤ}
-use Rattle.std.specs.List.{list_any, list_all, range_with_len}
-use Rattle.std.proofs.lemmas.Bool.{or_cases, or_left, or_right, cases_Bool, false≢true, and_parts, and_from, eq-eqb, eqb-true, eqb-false, cond-true, cond-false}
+use Rattle.std.proofs.lemmas.Bool.{or_cases, or_left, or_right, cases_Bool, false≢true, and_from, eq-eqb, eqb-false, cond-true, cond-false}
 use Rattle.std.proofs.lemmas.List.{length-take, take-append-drop, get_or_append_left, get_or-append-add}
 use Rattle.std.proofs.lemmas.List.FromFn.{get_or-map-range_with_len}
 use Rattle.std.proofs.lemmas.List.Folds.{list_any-append}
 use Rattle.gm_base.specs.declared.clause.Clause.{Clause}
 use Rattle.sat_base.specs.Members.{In}
 use Rattle.sat_base.specs.Literals.{var_of, IsLiteral, AreLiterals, literal_true, clause_true}
-use Rattle.gm_base.specs.Sets.{has, IsSubset, all_groups}
+use Rattle.gm_base.specs.Sets.{has, all_groups}
 use Rattle.gm_base.specs.Problem.{Problem, IsClause, IsProblem, is_present, satisfies}
 use Rattle.gm_base.specs.Evidence.{with_selector, selector_form, is_witness}
 use Rattle.sat_base.proofs.Members.{In-map, In-from_map, In-append_cases, all_at, all_from}

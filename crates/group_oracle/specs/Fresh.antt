@@ -1,5 +1,5 @@
 -- A new oracle.
-use Rattle.std.specs.Prelude.{◌≡◌, ℕ, None}
+use Rattle.std.specs.Prelude.{◌≡◌, None}
 use Rattle.gm_base.specs.Problem.{Problem}
 use Rattle.lrat_steps.specs.Log.{learned_count}
 use Rattle.evidence_rec.specs.Asking.{OracleState, IsHonestOver}

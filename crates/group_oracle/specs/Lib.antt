@@ -1,3 +1,4 @@
 pub mod Fresh
 pub mod Selectors
+pub mod Late
 pub mod Inside

@@ -14,12 +14,14 @@
 //! `evidence_rec::Oracle`.
 //!
 //! Start with `oracle.rt`, whose head says why the answers are right, and `specs/Inside.antt`, which says what an oracle
-//! keeps. `selectors.rt` makes clauses with selectors, and `cores.rt` reads the groups off a clause.
+//! keeps. `selectors.rt` makes clauses with selectors, `cores.rt` reads the groups off a clause, and `late_solver.rt` has the
+//! solver, which is made at the first question.
 //!
 //! Not said here: how many units a question costs, that a core is minimal, and that memory suffices.
 #![tactic(auto)]
 
 mod cores;
+mod late_solver;
 mod oracle;
 mod selectors;
 #[cfg(test)]

@@ -14,8 +14,9 @@ ghost use Rattle.evidence_rec.specs.Asking.{OracleState, TellsAsked, IsSpent, Is
 ghost use Rattle.group_oracle.specs.Fresh.{IsFresh};
 
 use crate::cores::groups_off;
-use crate::selectors::{add_clauses, selectors_of};
-use cdcl_core::{Solved, Solver};
+use crate::late_solver::LateSolver;
+use crate::selectors::{given_log, selectors_of};
+use cdcl_core::Solved;
 use evidence_rec::{Asked, Oracle};
 use gm_base::{Derivation, GroupSet, Problem, Purse};
 use lrat_steps::Log;
@@ -25,7 +26,7 @@ use std::marker::Model;
 /// Answers questions about a problem by the learning solver.
 #[derive(Drop)]
 pub struct GroupOracle {
-    solver: Solver,
+    solver: LateSolver,
     vars: u32,
     groups: u32,
     // The id of the step whose clause says that the last set is unsatisfiable: its literals are the set.
@@ -46,16 +47,16 @@ impl Model for GroupOracle {
 }
 
 impl GroupOracle {
-    /// An oracle for the problem, which is not needed from then on. Each clause is copied once, with its selector.
+    /// An oracle for the problem, which is not needed from then on. Each clause is copied once, with its selector, and once
+    /// more at the first question.
     pub fn new(alloc: Global, problem: &Problem) -> Result<GroupOracle, AllocError>
         ensures { IfOk result (λ oracle. IsFresh problem.now oracle) }
     {
         let vars = problem.vars();
         let groups = problem.groups();
-        let mut solver = Solver::new(alloc, vars + groups)?;
-        add_clauses(alloc, problem, &mut solver)?;
+        let given = given_log(alloc, problem)?;
         Ok(GroupOracle {
-            solver,
+            solver: LateSolver::over(vars + groups, given),
             vars,
             groups,
             refuted: None,

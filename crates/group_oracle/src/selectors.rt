@@ -2,14 +2,14 @@
 //!
 //! The solver keeps each clause with its selector, so that assuming the selectors of some groups switches on the clauses of
 //! those groups alone, and a clause that was learnt from them says itself which groups it needed.
-ghost use Rattle.std.specs.Prelude.{◌≡◌, ℕ, ◌+◌, ◌<◌, ◌^◌, [], true, map, IfOk, OnOk};
+ghost use Rattle.std.specs.Prelude.{◌≡◌, ℕ, ◌+◌, ◌<◌, ◌^◌, true, map, IfOk};
 ghost use Rattle.gm_base.specs.Sets.{has};
 ghost use Rattle.gm_base.specs.Evidence.{selector_form};
 ghost use Rattle.lrat_steps.specs.Log.{Input};
 ghost use Rattle.group_oracle.specs.Selectors.{on};
 
-use cdcl_core::Solver;
 use gm_base::{GroupSet, Lit, Problem, selector, write_with_selector};
+use lrat_steps::{Log, LogStep};
 use std::alloc::{AllocError, Global};
 
 /// The literals that switch on the groups of a set, ascending.
@@ -24,17 +24,15 @@ pub fn selectors_of(alloc: Global, vars: u32, set: &GroupSet) -> Result<Vec<Lit>
     Ok(lits)
 }
 
-/// Adds the clauses of the problem, each with its selector, to a solver that has none.
-pub fn add_clauses(alloc: Global, problem: &Problem, solver: &mut Solver) -> Result<(), AllocError>
-    requires none { solver.old.log ≡ [] }
-    requires vars { solver.old.vars ≡ problem.now.vars + problem.now.groups }
-    ensures log { OnOk result (solver.new.log ≡ map Input (selector_form problem.now)) }
-    ensures vars { solver.new.vars ≡ solver.old.vars }
+/// The log of a solver that was given the clauses of the problem, each with its selector.
+pub fn given_log(alloc: Global, problem: &Problem) -> Result<Log, AllocError>
+    ensures { IfOk result (λ log. log ≡ map Input (selector_form problem.now)) }
 {
+    let mut log = Log::new(alloc);
     let mut lits = Vec::new(alloc);
     for at in 0..problem.len() {
         write_with_selector(&mut lits, problem, problem.clause(at))?;
-        solver.add(alloc, &lits)?;
+        log.push(LogStep::Input(&lits))?;
     }
-    Ok(())
+    Ok(log)
 }

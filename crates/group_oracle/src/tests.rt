@@ -189,3 +189,15 @@ fn an_empty_purse_ends_a_question_and_what_was_learnt_stays(rt: HostRuntime) -> 
     assert_eq!(rt; log.learned(), 1);
     Ok(())
 }
+
+#[test]
+fn an_oracle_that_was_asked_nothing_has_a_log_of_all_clauses(rt: HostRuntime) -> Result<(), Fail> {
+    let alloc = rt.alloc();
+    let problem = problem_of(alloc, 2, 4, &FOUR)?;
+    let oracle = GroupOracle::new(alloc, &problem)?;
+    assert_eq!(rt; oracle.asks(), 0);
+    let log = oracle.into_log();
+    assert_eq!(rt; log.inputs(), 4);
+    assert_eq!(rt; log.learned(), 0);
+    Ok(())
+}

@@ -1,5 +1,5 @@
 use Rattle.group_oracle.proofs.GroupLemmas.{off_high}
-use Rattle.std.proofs.Common.{◌≡◌, ◌≤◌, arith}
+use Rattle.std.proofs.Common.{◌≤◌, arith}
 use Rattle.sat_base.specs.Literals.{var_of}
 use Rattle.group_oracle.proofs.cores.group_numbers.Goals as goal
 

@@ -1,9 +1,8 @@
-use Rattle.std.proofs.Common.{◌≡◌, ◌<◌, ℕ, List, map, sym, ◌∙◌, ap, subst}
+use Rattle.std.proofs.Common.{◌<◌, ℕ, List, sym, subst}
 use Rattle.std.specs.Prelude.{All}
 use Rattle.std.specs.List.Sorted.{IsNonDecreasingBy}
 use Rattle.std.proofs.lemmas.List.Sorted.{IsNonDecreasingBy-from_sort, All-permutation}
 use Rattle.std.proofs.lemmas.Result.{IfOk-weaker}
-use Rattle.sat_base.specs.Literals.{var_of}
 use Rattle.group_oracle.specs.Selectors.{AreGroupsOf, IsSetOf}
 use Rattle.group_oracle.proofs.GroupLemmas.{numbers_some, groups_from}
 use Rattle.group_oracle.proofs.cores.groups_off.Goals as goal

@@ -1,5 +1,5 @@
-use Rattle.std.proofs.Common.{◌≡◌, get_or, refl, sym, ◌∙◌, ap, subst, arith}
-use Rattle.group_oracle.proofs.GroupLemmas.{IsSetSoFar, ascends_push, so_far_push, so_far_skip}
+use Rattle.std.proofs.Common.{get_or, refl, arith}
+use Rattle.group_oracle.proofs.GroupLemmas.{ascends_push, so_far_push, so_far_skip}
 use Rattle.group_oracle.proofs.cores.set_of.Goals as goal
 use Rattle.group_oracle.proofs.cores.set_of.Goals.{then-group-last+in_ok-push, else-group-last}
 

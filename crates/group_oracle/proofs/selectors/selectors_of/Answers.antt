@@ -1,4 +1,4 @@
-use Rattle.std.proofs.Common.{◌≡◌, ◌<◌, true, get_or, sym, subst, arith}
+use Rattle.std.proofs.Common.{◌≡◌, true, get_or, sym, subst}
 use Rattle.gm_base.specs.Sets.{has, IsGroupSet}
 use Rattle.gm_base.proofs.SetLemmas.{AscendsAbove-at}
 use Rattle.sat_base.proofs.DatabaseLemmas.{get_in}

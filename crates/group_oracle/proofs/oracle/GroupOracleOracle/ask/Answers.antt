@@ -1,7 +1,6 @@
-use Rattle.std.proofs.Common.{◌≡◌, ◌∙◌, ◌+◌, ◌<◌, ℕ, List, map, Some, sym, ap, subst, arith}
+use Rattle.std.proofs.Common.{◌≡◌, ◌∙◌, ℕ, List, Some, sym, ap, subst, arith}
 use Rattle.gm_base.specs.Sets.{IsSubset, all_groups}
-use Rattle.cdcl_core.specs.Answers.{IsModel, IsRefuted, Tells}
-use Rattle.cdcl_core.specs.declared.solved.Solved.{Solved}
+use Rattle.cdcl_core.specs.Answers.{IsModel, IsRefuted}
 use Rattle.evidence_rec.specs.Asking.{OracleState}
 use Rattle.group_oracle.specs.declared.oracle.GroupOracle.TheInside.{Inside}
 use Rattle.group_oracle.specs.Inside.{view_of}
