@@ -1,6 +1,5 @@
 -- Lemmas on how sets are laid out.
-use Rattle.std.proofs.Common.{◌≡◌, ℕ, suc, ◌≤◌, List, [], ◌∷◌, ◌++◌, map, length, All, refl, ◌∙◌, ap₂, arith}
-use Rattle.std.specs.Prelude.{slice_range}
+use Rattle.std.proofs.Common.{◌≡◌, ℕ, suc, List, [], ◌∷◌, ◌++◌, map, length, All, refl, ◌∙◌, ap₂, arith}
 use Rattle.std.proofs.lemmas.List.{map_push}
 use Rattle.sat_base.proofs.SpanLemmas.{range_before, range_at_end}
 use Rattle.known_sets.specs.declared.arena.Span.{Span}

@@ -18,7 +18,8 @@ IsSatisfied p e = is_witness p (complement p.groups e.set) e.evidence ≡ true
 
 -- all that is remembered is right for the problem
 pub record IsRightFor (p : Problem) (m : Memory) : Type 0 where
-  pub problem : m.flips ≡ p
+  pub problem : m.problem ≡ p
+  pub flips : IfSome m.flips (λ q. q ≡ p)
   pub groups : p.groups ≡ m.groups
   pub refuted : All (IsRefuted p) m.refuted
   pub held : IfSome m.held (IsRefuted p)

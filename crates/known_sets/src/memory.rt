@@ -60,13 +60,16 @@ const LARGE: usize = 4_000;
 /// Sets that were refuted, and sets that were satisfied.
 #[derive(Drop)]
 pub struct Memory {
+    problem: Problem,
     groups: u32,
+    // How many literals the problem has.
+    literals: usize,
     refuted: SetIndex<Derivation>,
     held: Option<Refuted>,
     // Each by its complement.
     satisfied: SatisfiedSets,
-    flips: Flips,
-    // Made when it is needed first.
+    // Both are made when they are needed first.
+    flips: Option<Flips>,
     rotation: Option<Rotation>,
     // What was looked at for turns and for repairs, in clauses and in words of assignments.
     turns: u64,
@@ -90,11 +93,13 @@ impl Memory {
     {
         let groups = problem.groups();
         Ok(Memory {
+            problem: problem.copy()?,
             groups,
+            literals: literals_of(problem),
             refuted: SetIndex::new(alloc, groups, most / 2)?,
             held: None,
             satisfied: SatisfiedSets::new(alloc, groups, most / 2)?,
-            flips: Flips::new(alloc, problem)?,
+            flips: None,
             rotation: None,
             turns: 0,
             repairs: 0,
@@ -114,17 +119,16 @@ impl Memory {
         ensures within { IfSome result (λ entry. IsSubset entry.set set.now) }
         ensures refuted { (p : Problem) → IsRightFor p self.old → IfSome result (IsRefuted p) }
     {
-        let entry = match more_than(&self.last_satisfied, set) {
-            Some(group) => refuted_by(
-                alloc,
-                &self.held,
-                &mut self.refuted,
-                &mut self.marks,
-                set,
-                group,
-            )?,
-            None => held_in_seed(alloc, &self.held, &self.last_refuted, set)?,
-        };
+        let group = more_than(&self.last_satisfied, set);
+        let entry = refuted_near(
+            alloc,
+            &self.held,
+            &self.last_refuted,
+            &mut self.refuted,
+            &mut self.marks,
+            set,
+            group,
+        )?;
         let copy = entry.set.copy(alloc).ok();
         mark_last(&mut self.last_refuted, &mut self.shrinking, copy);
         Some(entry)
@@ -200,16 +204,16 @@ impl Memory {
         ensures right { (p : Problem) → IsRightFor p self.old → IsRightFor p self.new }
         ensures found { (p : Problem) → IsRightFor p self.old → IfOk result (λ found. IfSome found (λ turned. Satisfies p turned.out turned.assign)) }
     {
-        let most = looks_of(self.answers, self.flips.size());
-        if self.flips.size() < LARGE || self.repairs > most {
+        let most = looks_of(self.answers, self.literals);
+        if self.literals < LARGE || self.repairs > most {
             return Ok(None);
         }
-        let rotation = taken(alloc, &mut self.rotation, self.flips.problem())?;
+        let rotation = taken(alloc, &mut self.rotation, &self.problem)?;
         mark_all(&mut self.marks, set.as_slice(), true);
         let found = repair_last(
             alloc,
             &rotation,
-            self.flips.problem(),
+            &self.problem,
             &self.satisfied,
             &self.marks,
             &mut self.repairs,
@@ -265,19 +269,22 @@ impl Memory {
     fn keep_grown(&mut self, alloc: Global, assign: &Assign) -> Result<(), AllocError>
         ensures { (p : Problem) → IsRightFor p self.old → IsRightFor p self.new }
     {
-        if self.flips.work() > looks_of(self.answers, self.flips.size()) {
-            return Ok(());
+        let most = looks_of(self.answers, self.literals);
+        let mut flips = lent(alloc, &mut self.flips, &self.problem)?;
+        let grown = grown_by(
+            alloc,
+            &mut flips,
+            most,
+            &mut self.refuted,
+            &self.held,
+            &self.satisfied,
+            assign,
+        );
+        self.flips = Some(flips);
+        match grown? {
+            Some(Turned { out, assign }) => self.keep_turning(alloc, &out, assign),
+            None => Ok(()),
         }
-        self.flips.begin(assign);
-        grow(&mut self.flips, &mut self.refuted, &self.held, self.groups);
-        let out = self.flips.left_out(alloc)?;
-        if self.satisfied.has(&out) {
-            return Ok(());
-        }
-        let Some(grown) = self.flips.shown(alloc, &out)? else {
-            return Ok(());
-        };
-        self.keep_turning(alloc, &out, grown)
     }
 
     // Remembers an assignment that satisfies all groups but some, and what comes of turning it.
@@ -299,12 +306,12 @@ impl Memory {
     fn turn_from(&mut self, alloc: Global, first: usize) -> Result<(), AllocError>
         ensures { (p : Problem) → IsRightFor p self.old → IsRightFor p self.new }
     {
-        let rotation = taken(alloc, &mut self.rotation, self.flips.problem())?;
-        let most = looks_of(self.answers, self.flips.size());
+        let rotation = taken(alloc, &mut self.rotation, &self.problem)?;
+        let most = looks_of(self.answers, self.literals);
         let turned = turn_all(
             alloc,
             &rotation,
-            self.flips.problem(),
+            &self.problem,
             &self.shrinking,
             &mut self.satisfied,
             first,
@@ -410,12 +417,62 @@ fn taken(
     }
 }
 
+// The flips that are kept, or new ones.
+fn lent(alloc: Global, kept: &mut Option<Flips>, problem: &Problem) -> Result<Flips, AllocError>
+    ensures same { IfSome kept.old (λ before. before ≡ problem.now) → IfOk result (λ flips. flips ≡ problem.now) }
+    ensures none { kept.new ≡ None }
+{
+    match kept.take() {
+        Some(flips) => Ok(flips),
+        None => Flips::new(alloc, problem),
+    }
+}
+
+fn literals_of(problem: &Problem) -> usize {
+    let mut count = 0usize;
+    for at in 0..problem.len() {
+        count = count.saturating_add(problem.clause(at).lits.len());
+    }
+    count
+}
+
 // What so many questions about a problem of so many literals cost at least.
 fn looks_of(questions: u64, literals: usize) -> u64 {
     let each = LOOKS_A_LITERAL
         .saturating_mul(literals as u64)
         .saturating_add(LOOKS_A_QUESTION);
     questions.saturating_mul(each)
+}
+
+// Makes an assignment satisfy more groups, and says which ones it leaves out then. Nothing where so much was looked at
+// before, or where an assignment is known that leaves out the same ones.
+fn grown_by(
+    alloc: Global,
+    flips: &mut Flips,
+    most: u64,
+    refuted: &mut SetIndex<Derivation>,
+    held: &Option<Refuted>,
+    satisfied: &SatisfiedSets,
+    assign: &Assign,
+) -> Result<Option<Turned>, AllocError>
+    ensures flips { flips.new ≡ flips.old }
+    ensures refuted { refuted.new ≡ refuted.old }
+    ensures grown { IfOk result (λ found. IfSome found (λ turned. Satisfies flips.old turned.out turned.assign)) }
+{
+    if flips.work() > most {
+        return Ok(None);
+    }
+    flips.begin(assign);
+    let groups = flips.problem().groups();
+    grow(flips, refuted, held, groups);
+    let out = flips.left_out(alloc)?;
+    if satisfied.has(&out) {
+        return Ok(None);
+    }
+    let Some(shown) = flips.shown(alloc, &out)? else {
+        return Ok(None);
+    };
+    Ok(Some(Turned { out, assign: shown }))
 }
 
 // Tries each group that the assignment makes false.
@@ -496,6 +553,27 @@ fn mark_all(marks: &mut [bool], groups: &[u32], mark: bool) {
         if at < marks.len() {
             marks[at] = mark;
         }
+    }
+}
+
+// A set that is known to be refuted and lies within this one, by a group of it where one is named, or the one that was
+// refuted last.
+fn refuted_near(
+    alloc: Global,
+    held: &Option<Refuted>,
+    last: &Option<GroupSet>,
+    index: &mut SetIndex<Derivation>,
+    marks: &mut [bool],
+    set: &GroupSet,
+    group: Option<u32>,
+) -> Option<Refuted>
+    ensures same { index.new ≡ index.old }
+    ensures within { IfSome result (λ entry. IsSubset entry.set set.now) }
+    ensures refuted { (p : Problem) → IfSome held.now (IsRefuted p) → All (IsRefuted p) index.old → IfSome result (IsRefuted p) }
+{
+    match group {
+        Some(group) => refuted_by(alloc, held, index, marks, set, group),
+        None => held_in_seed(alloc, held, last, set),
     }
 }
 

@@ -125,7 +125,7 @@ impl<O: Oracle> KnownSets<O> {
 }
 
 impl<O: Oracle + Drop> KnownSets<O> {
-    /// An oracle that knows nothing yet, around one that is fresh or has an honest log. The problem is copied. It remembers
+    /// An oracle that knows nothing yet, around one that is fresh or has an honest log. It remembers
     /// up to [`MOST_BYTES`].
     pub fn new(alloc: Global, problem: &Problem, oracle: O) -> Result<KnownSets<O>, AllocError>
         requires problem { (O.state oracle).problem ≡ problem.now }

@@ -79,11 +79,6 @@ impl Flips {
         &self.problem
     }
 
-    /// How many literals the problem has.
-    pub fn size(&self) -> usize {
-        self.occurrences.total()
-    }
-
     /// What was looked at since the beginning, counted in literals.
     pub fn work(&self) -> u64 {
         self.work

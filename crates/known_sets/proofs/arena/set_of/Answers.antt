@@ -1,4 +1,4 @@
-use Rattle.std.proofs.Common.{get_or, sym, subst, arith, ap, ◌∙◌, ◌++◌, ◌∷◌, [], List, ℕ}
+use Rattle.std.proofs.Common.{get_or, sym, subst, arith}
 use Rattle.std.proofs.lemmas.Grind.{common_steps}
 use Rattle.model_flips.proofs.AscentLemmas.{AscendsTo, AscendsTo-push, AscendsTo-ascends}
 use Rattle.known_sets.proofs.arena.set_of.Goals as goal

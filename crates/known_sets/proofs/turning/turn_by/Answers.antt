@@ -1,5 +1,5 @@
 use Rattle.std.proofs.Common.{◌≡◌, ◌∷◌, ◌++◌, [], List, Bool, Option, subst}
-use Rattle.std.specs.Prelude.{All, IfSome, OnOk, OnErr}
+use Rattle.std.specs.Prelude.{IfSome, OnOk, OnErr}
 use Rattle.model_flips.specs.declared.rotation.Turned.{Turned}
 use Rattle.model_flips.specs.Rotation.{IsTurned}
 use Rattle.known_sets.specs.declared.entry.Entry.{Entry}

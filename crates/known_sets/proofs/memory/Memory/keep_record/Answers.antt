@@ -13,6 +13,7 @@ returns-in-Ok-copy c = λ p right h.
     let witness = c.in-Ok-copy.witness in
     record {
       problem = right.problem;
+      flips = right.flips;
       groups = right.groups;
       refuted = right.refuted;
       held = right.held;

@@ -9,6 +9,7 @@ pub returns : goal.returns
 returns c = λ p right shown.
     record {
       problem = right.problem;
+      flips = right.flips;
       groups = right.groups;
       refuted = right.refuted;
       held = right.held;

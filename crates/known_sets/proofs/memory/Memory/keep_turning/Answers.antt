@@ -8,6 +8,7 @@ returns c = λ p right shown.
     c.turn_from.ensures p
     (record {
       problem = right.problem;
+      flips = right.flips;
       groups = right.groups;
       refuted = right.refuted;
       held = right.held;

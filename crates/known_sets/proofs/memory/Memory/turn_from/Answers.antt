@@ -1,4 +1,4 @@
-use Rattle.std.proofs.Common.{◌≡◌, ◌∙◌, sym, ap, subst}
+use Rattle.std.proofs.Common.{sym, subst}
 use Rattle.std.specs.Prelude.{All, IfSome}
 use Rattle.gm_base.specs.Problem.{Problem}
 use Rattle.model_flips.specs.Rotation.{IsListing}
@@ -10,18 +10,18 @@ pub returns : goal.returns
 returns c = λ p right.
     let kept = c.args.self.now.rotation in
     let rotation = c.in_ok-rotation.rotation in
-    let before = c.problem.ensures ∙ right.problem in
-    let now = c.problem-2.ensures ∙ right.problem in
+    let same = right.problem in
     let listing =
-    subst (λ (q : Problem). IsListing q.clauses rotation) before
-    (c.in_ok-rotation.ensures.whole (subst (λ (q : Problem). IfSome kept (IsListing q.clauses)) (sym before) right.rotation)) in
+    subst (λ (q : Problem). IsListing q.clauses rotation) same
+    (c.in_ok-rotation.ensures.whole (subst (λ (q : Problem). IfSome kept (IsListing q.clauses)) (sym same) right.rotation)) in
     record {
       problem = right.problem;
+      flips = right.flips;
       groups = right.groups;
       refuted = right.refuted;
       held = right.held;
       satisfied =
-          subst (λ (q : Problem). All (IsSatisfied q) c.turn_all-turned.new.satisfied) now
-          (c.turn_all-turned.ensures (subst (λ (q : Problem). IsListing q.clauses rotation) (sym now) listing) (subst (λ (q : Problem). All (IsSatisfied q) c.args.self.now.satisfied) (sym now) right.satisfied));
+          subst (λ (q : Problem). All (IsSatisfied q) c.turn_all-turned.new.satisfied) same
+          (c.turn_all-turned.ensures (subst (λ (q : Problem). IsListing q.clauses rotation) (sym same) listing) (subst (λ (q : Problem). All (IsSatisfied q) c.args.self.now.satisfied) (sym same) right.satisfied));
       rotation = listing;
     }

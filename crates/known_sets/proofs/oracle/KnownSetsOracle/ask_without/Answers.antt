@@ -1,4 +1,4 @@
-use Rattle.std.proofs.Common.{◌≡◌, true, subst, sym, ap, ◌∙◌}
+use Rattle.std.proofs.Common.{◌≡◌, subst, sym, ap, ◌∙◌}
 use Rattle.gm_base.specs.Sets.{has, all_groups, IsSubset}
 use Rattle.gm_base.specs.Problem.{Problem}
 use Rattle.evidence_rec.specs.Asking.{OracleState}
