@@ -28,14 +28,10 @@ mod evidence_file;
 mod file_report;
 mod input;
 mod judging;
-#[cfg(test)]
-mod plain;
 mod program;
 mod record_ids;
 mod records_report;
 mod refusal;
-#[cfg(test)]
-mod tests;
 
 pub use ending::Finish;
 pub use program::run;

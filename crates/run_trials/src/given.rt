@@ -1,11 +1,15 @@
-//! A run over files and sinks in memory.
+//! A run of the program, over files and sinks that are handed in, or over those that one value tells.
+//!
+//! Each run of this crate is made by one function, [`run_over`], which is proved against all that the top call promises. It
+//! promises less itself, so what stands above it is proved against a few short clauses.
 ghost use Rattle.std.specs.Prelude.{◌≡◌, ◌⊎◌, ℕ, ◌<◌, [], None, IfOk, map};
 ghost use Rattle.std.specs.String.{string_bytes};
+ghost use Rattle.gm_ports.specs.Faults.{Rose};
 ghost use Rattle.gm_words.specs.Reading.{words_read};
 ghost use Rattle.gm_tool.specs.Run.{IsFaultless, IsSilent};
 
-use gm_ports::{Calls, MemFiles, MemSink, OpenGate, Rooms, Texts};
-use gm_tool::run;
+use gm_ports::{Calls, Files, Gate, MemFiles, MemSink, OpenGate, Rooms, Texts};
+use gm_tool::{Finish, run};
 use std::alloc::{AllocError, Global};
 use std::sync::Wait;
 use std::thread::Threads;
@@ -59,6 +63,30 @@ fn files_of(alloc: Global, given: Given<'_>) -> Result<MemFiles, AllocError>
     MemFiles::new(alloc, held, rooms, moved, moved, reads, writes)
 }
 
+/// Runs the program on these words, over any files and at any gate. What it answers and leaves is as the top call promises
+/// of every run.
+pub fn run_over<R: Threads + Wait + Sync, F: Files, G: Gate>(
+    rt: &R,
+    alloc: Global,
+    words: &[&str],
+    files: &mut F,
+    out: &mut MemSink,
+    err: &mut MemSink,
+    gate: &G,
+) -> Result<Finish, AllocError>
+    ensures bad_words { IfOk result (λ finish. finish.status ≡ 2 → words_read (map (λ word. word.now) words.now) ≡ None) }
+    ensures silent { IfOk result (λ finish. IsSilent finish.status → out.new.got ≡ out.old.got) }
+    ensures reads { IfOk result (λ finish. IsFaultless finish.status → (F.state files.new).read_faults ≡ (F.state files.old).read_faults) }
+    ensures writes { IfOk result (λ finish. IsFaultless finish.status → (F.state files.new).write_faults ≡ (F.state files.old).write_faults) }
+    ensures report { IfOk result (λ finish. IsFaultless finish.status → out.new.writes.faults ≡ out.old.writes.faults) }
+    ensures read_fault { IfOk result (λ finish. finish.status ≡ 6 → Rose (F.state files.old).read_faults (F.state files.new).read_faults) }
+    ensures write_fault { IfOk result (λ finish. finish.status ≡ 7 →
+        Rose out.old.writes.faults out.new.writes.faults ⊎ Rose (F.state files.old).write_faults (F.state files.new).write_faults) }
+{
+    let words = words_of(alloc, words)?;
+    Ok(run(rt, alloc, words.as_slice(), files, out, err, gate))
+}
+
 /// Runs the program. What it answers and leaves is as the top call promises of every run.
 pub fn run_given<R: Threads + Wait + Sync>(
     rt: &R,
@@ -72,21 +100,20 @@ pub fn run_given<R: Threads + Wait + Sync>(
     ensures read_fault { IfOk result (λ ended. ended.status ≡ 6 → 0 < ended.faults) }
     ensures write_fault { IfOk result (λ ended. ended.status ≡ 7 → (0 < ended.faults) ⊎ (0 < ended.out.writes.faults)) }
 {
-    let words = words_of(alloc, given.words)?;
     let mut files = files_of(alloc, given)?;
     let reports = Calls::from_slice(alloc, given.failing_reports)?;
     let mut out = MemSink::new(alloc, given.per_report.max(1), 1_000_000, reports)?;
     let errors = Calls::from_slice(alloc, given.failing_errors)?;
     let mut err = MemSink::new(alloc, 100, 1000, errors)?;
-    let finish = run(
+    let finish = run_over(
         rt,
         alloc,
-        words.as_slice(),
+        given.words,
         &mut files,
         &mut out,
         &mut err,
         &OpenGate,
-    );
+    )?;
     let faults = files.read_faults().saturating_add(files.write_faults());
     Ok(Ended {
         status: finish.status,

@@ -1,43 +1,9 @@
 //! Evidence of the four clauses, with one line changed.
-use super::{FIRST, Wanted, listing_of, try_both};
+use super::worked::{ALL, FIRST};
+use super::{Wanted, joined, listing_of, try_both};
 use crate::Given;
-use std::alloc::{AllocError, Global};
+use std::alloc::Global;
 use std::test::Fail;
-
-// The evidence's lines.
-const LINES: [&str; 31] = [
-    "p gmev 1 2 4 4\n",
-    "u 1 2 0\n",
-    "d 5 -3 -4 0 1 2 0\n",
-    "r 0 5\n",
-    "w 1 0\n",
-    "w 2 1 0\n",
-    "u 1 3 4 0\n",
-    "d 5 -3 -5 -6 0 1 3 4 0\n",
-    "r 0 5\n",
-    "w 1 0\n",
-    "w 3 1 0\n",
-    "w 4 1 2 0\n",
-    "m 1 0\n",
-    "w 0 0\n",
-    "d 5 -3 -4 0 1 2 0\n",
-    "r 1 5\n",
-    "m 2 3 0\n",
-    "w 0 1 0\n",
-    "d 5 -3 -4 0 1 2 0\n",
-    "r 2 5\n",
-    "d 5 -3 -5 -6 0 1 3 4 0\n",
-    "r 3 5\n",
-    "m 2 4 0\n",
-    "w 0 1 2 0\n",
-    "d 5 -3 -4 0 1 2 0\n",
-    "r 2 5\n",
-    "d 5 -3 -5 -6 0 1 3 4 0\n",
-    "r 4 5\n",
-    "d 6 0 3 1 4 5 2 0\n",
-    "x 6\n",
-    "e complete\n",
-];
 
 // So many lines are kept, then stands this, then so many lines are left out, and the rest is kept; and its refusal.
 const CHANGES: [(usize, &str, usize, &str); 19] = [
@@ -62,21 +28,24 @@ const CHANGES: [(usize, &str, usize, &str); 19] = [
     (0, "", 31, "line 1: 3 Truncated"),
 ];
 
-fn changed(
-    alloc: Global,
-    kept: usize,
-    middle: &str,
-    left_out: usize,
-) -> Result<String, AllocError> {
-    let mut text = String::new(alloc);
-    'front: for line in LINES.iter().take(kept) {
-        text.push_str(line)?;
+fn push_line(text: &mut String, line: &str) -> Result<(), Fail> {
+    text.push_str(line)?;
+    text.push_str("\n")?;
+    Ok(())
+}
+
+fn changed(alloc: Global, kept: usize, middle: &str, left_out: usize) -> Result<String, Fail> {
+    let whole = joined(alloc, &ALL)?;
+    let mut front = String::new(alloc);
+    let mut behind = String::new(alloc);
+    for (at, line) in whole.split_terminator('\n').enumerate() {
+        if at < kept {
+            push_line(&mut front, line)?;
+        } else if at >= kept.saturating_add(left_out) {
+            push_line(&mut behind, line)?;
+        }
     }
-    text.push_str(middle)?;
-    'behind: for line in LINES.iter().skip(kept.saturating_add(left_out)) {
-        text.push_str(line)?;
-    }
-    Ok(text)
+    joined(alloc, &[front.as_str(), middle, behind.as_str()])
 }
 
 #[test]
@@ -92,7 +61,7 @@ fn changed_evidence_is_refused_at_its_line(rt: HostRuntime) -> Result<(), Fail> 
         };
         let wanted = Wanted {
             status: 9,
-            out: "",
+            out: &[],
             err: line.as_str(),
         };
         try_both(&rt, alloc, given, &wanted)?;

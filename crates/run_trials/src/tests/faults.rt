@@ -1,5 +1,9 @@
 //! Each call of the files, and each write of the report, fails in turn.
-use super::{FIRST, REPORT, Wanted, expect, listing_of, try_both, try_silenced};
+use super::worked::{FIRST, FIRST_SETS};
+use super::{
+    Outside, Row, Wanted, check_over, expect, files_of, holding, listing_of, sink_with, try_both,
+    try_silenced,
+};
 use crate::{Given, run_given};
 use std::test::Fail;
 
@@ -9,7 +13,7 @@ const MANY: u64 = 10_000;
 // The whole report, with no line on standard error.
 const WELL: Wanted<'static> = Wanted {
     status: 0,
-    out: REPORT,
+    out: &["p gmus 4\ns COMPLETE\n", FIRST_SETS],
     err: "",
 };
 
@@ -27,7 +31,7 @@ fn listing_by_eight<'a>() -> Given<'a> {
 fn each_read_fails_in_turn(rt: HostRuntime) -> Result<(), Fail> {
     let wanted = Wanted {
         status: 6,
-        out: "",
+        out: &[],
         err: "gmus: read fault on input\n",
     };
     for call in 1..10 {
@@ -53,7 +57,7 @@ fn each_read_fails_in_turn(rt: HostRuntime) -> Result<(), Fail> {
 fn each_write_of_evidence_fails_in_turn(rt: HostRuntime) -> Result<(), Fail> {
     let wanted = Wanted {
         status: 7,
-        out: "",
+        out: &[],
         err: "gmus: write fault on evidence\n",
     };
     for call in 1..MANY {
@@ -65,12 +69,12 @@ fn each_write_of_evidence_fails_in_turn(rt: HostRuntime) -> Result<(), Fail> {
         };
         let ended = run_given(&rt, alloc, given)?;
         if ended.faults == 0 {
-            expect(&rt, &ended, &WELL);
+            expect(&rt, alloc, &ended, &WELL)?;
             // The opening, some writes, and the end.
             assert!(rt; call > 10);
             return Ok(());
         }
-        expect(&rt, &ended, &wanted);
+        expect(&rt, alloc, &ended, &wanted)?;
         try_silenced(&rt, alloc, given, &wanted)?;
     }
     Err(Fail::from("no run meets no failing call"))
@@ -104,12 +108,56 @@ fn each_write_of_the_report_fails_in_turn(rt: HostRuntime) -> Result<(), Fail> {
         let failing = [call];
         let wanted = Wanted {
             status: 7,
-            out: written.as_str(),
+            out: &[written.as_str()],
             err: "gmus: write fault on report\n",
         };
         try_both(&rt, alloc, listing_in_pieces(&failing), &wanted)?;
         written.push_str(piece)?;
     }
     try_both(&rt, alloc, listing_in_pieces(&[8]), &WELL)?;
+    Ok(())
+}
+
+#[test]
+fn fault_of_a_read_has_its_line(rt: HostRuntime) -> Result<(), Fail> {
+    let third_read = Outside {
+        per_read: 8,
+        failing_reads: &[3],
+        ..holding(FIRST)
+    };
+    for (line, outside) in [
+        ("list f", third_read),
+        ("list g", holding(FIRST)),
+        ("list  ", holding(FIRST)),
+        ("list -", holding(FIRST)),
+    ] {
+        let alloc = rt.alloc();
+        let row = Row {
+            line,
+            text: FIRST,
+            status: 6,
+            out: &[],
+            err: "gmus: read fault on input\n",
+        };
+        let mut files = files_of(alloc, outside)?;
+        let out = sink_with(alloc, 1000, &[])?;
+        check_over(&rt, alloc, &row, &mut files, out)?;
+    }
+    Ok(())
+}
+
+#[test]
+fn fault_of_a_write_has_its_line(rt: HostRuntime) -> Result<(), Fail> {
+    let alloc = rt.alloc();
+    let row = Row {
+        line: "list f",
+        text: FIRST,
+        status: 7,
+        out: &["p gmus 4\ns"],
+        err: "gmus: write fault on report\n",
+    };
+    let mut files = files_of(alloc, holding(FIRST))?;
+    let second_write = sink_with(alloc, 10, &[2])?;
+    check_over(&rt, alloc, &row, &mut files, second_write)?;
     Ok(())
 }

@@ -1,12 +1,10 @@
 //! Several workers.
-use super::{FIRST, FIRST_SETS, Outcome, Row, check_run, files_with, run_on, sink_with, words_of};
-use crate::run;
+use super::worked::{FIRST, FIRST_SETS, PAIRS, PAIRS_SETS};
+use super::{Row, check_run, files_of, holding, run_line, run_on, sink_with};
 use gm_ports::Gate;
-use std::alloc::Global;
-use std::sync::Wait;
 use std::sync::atomic::{AtomicU64, Ordering};
 use std::test::Fail;
-use std::thread::{self, Threads};
+use std::thread;
 
 const LINES: [&str; 4] = [
     "list f --jobs 1",
@@ -25,7 +23,7 @@ fn report_is_the_same_for_each_number_of_workers(rt: HostRuntime) -> Result<(), 
             out: &["p gmus 4\ns COMPLETE\n", FIRST_SETS],
             err: "",
         };
-        check_run(&rt, rt.alloc(), &row, super::plain(FIRST))?;
+        check_run(&rt, rt.alloc(), &row)?;
     }
     Ok(())
 }
@@ -86,57 +84,20 @@ impl Gate for Meeting {
     }
 }
 
-fn run_at_gate<R: Threads + Wait + Sync, G: Gate>(
-    rt: &R,
-    alloc: Global,
-    line: &str,
-    gate: &G,
-) -> Result<Outcome, Fail> {
-    let words = words_of(alloc, line)?;
-    let mut files = files_with(alloc, super::plain(FIRST))?;
-    let mut out = sink_with(alloc, 1000, &[])?;
-    let mut err = sink_with(alloc, 7, &[])?;
-    let finish = run(
-        rt,
-        alloc,
-        words.as_slice(),
-        &mut files,
-        &mut out,
-        &mut err,
-        gate,
-    );
-    Ok(Outcome { finish, out, err })
-}
-
 // A lock round a whole job would keep the second worker from the gate while the first one is held there.
 #[test]
 fn two_workers_have_jobs_at_the_same_time(rt: HostRuntime) -> Result<(), Fail> {
+    let alloc = rt.alloc();
     let gate = Meeting::new();
-    let outcome = run_at_gate(&rt, rt.alloc(), "list f --jobs 2", &gate)?;
+    let mut files = files_of(alloc, holding(FIRST))?;
+    let out = sink_with(alloc, 1000, &[])?;
+    let outcome = run_line(&rt, alloc, "list f --jobs 2", &mut files, out, &gate)?;
     assert_eq!(rt; outcome.finish.status, 0);
     assert!(rt; gate.others.load(Ordering::SeqCst) > 0);
     assert_eq!(rt; gate.missed.load(Ordering::SeqCst), 0);
     assert!(rt; outcome.out.got().ends_with(FIRST_SETS.as_bytes()));
     Ok(())
 }
-
-// Three clashing pairs of groups, of which each group is one clause.
-const PAIRS: &str = "p gcnf 3 6 6\n{1} 1 0\n{2} -1 0\n{3} 2 0\n{4} -2 0\n{5} 3 0\n{6} -3 0\n";
-
-// All lines of sets that their report can have.
-const PAIRS_SETS: [&str; 11] = [
-    "u 1 2 0\n",
-    "u 3 4 0\n",
-    "u 5 6 0\n",
-    "m 1 3 5 0\n",
-    "m 1 3 6 0\n",
-    "m 1 4 5 0\n",
-    "m 1 4 6 0\n",
-    "m 2 3 5 0\n",
-    "m 2 3 6 0\n",
-    "m 2 4 5 0\n",
-    "m 2 4 6 0\n",
-];
 
 // The bytes behind the line, where the text begins with it.
 fn behind<'a>(text: &'a [u8], line: &str) -> Option<&'a [u8]> {
@@ -145,12 +106,7 @@ fn behind<'a>(text: &'a [u8], line: &str) -> Option<&'a [u8]> {
 
 #[test]
 fn three_workers_stop_at_a_limit_of_four_sets(rt: HostRuntime) -> Result<(), Fail> {
-    let outcome = run_on(
-        &rt,
-        rt.alloc(),
-        "list f --limit 4 --jobs 3",
-        super::plain(PAIRS),
-    )?;
+    let outcome = run_on(&rt, rt.alloc(), "list f --limit 4 --jobs 3", PAIRS)?;
     assert_eq!(rt; outcome.finish.status, 4);
     let Some(mut rest) = behind(outcome.out.got(), "p gmus 6\ns PARTIAL\n") else {
         assert!(rt; false);

@@ -1,8 +1,7 @@
 //! What `list --evidence` writes, and what `check` answers to it.
-use super::{FIRST, FIRST_SETS, FOUR, ONE_SETS, sink_with, words_of};
-use crate::plain::draw_problem;
-use crate::run;
-use gm_ports::{Calls, Files, MemFiles, MemSink, OpenGate, Rooms, SureFiles, Texts};
+use super::worked::{FIRST, FIRST_SETS, FOUR, ONE_SETS};
+use super::{Outside, Row, check_over, files_of, holding, sink_with};
+use gm_ports::{Rooms, SureFiles, Texts};
 use std::alloc::Global;
 use std::process::Abort;
 use std::sync::Wait;
@@ -19,47 +18,25 @@ fn sure_files(alloc: Global, text: &str) -> Result<SureFiles, Fail> {
     Ok(files)
 }
 
-// The status, what the report's sink got, and what standard error got.
-#[derive(Drop)]
-struct Ended {
-    status: u8,
-    out: MemSink,
-    err: MemSink,
-}
-
-fn run_with<R: Threads + Wait + Sync, F: Files>(
+// Lists with evidence, and then checks it: both give this report.
+pub(super) fn list_and_check<R: Threads + Wait + Sync + Abort>(
     rt: &R,
     alloc: Global,
-    line: &str,
-    files: &mut F,
-    failing: &[u64],
-) -> Result<Ended, Fail> {
-    let words = words_of(alloc, line)?;
-    let mut out = sink_with(alloc, 10, failing)?;
-    let mut err = sink_with(alloc, 7, &[])?;
-    let finish = run(
-        rt,
-        alloc,
-        words.as_slice(),
-        files,
-        &mut out,
-        &mut err,
-        &OpenGate,
-    );
-    Ok(Ended {
-        status: finish.status,
-        out,
-        err,
-    })
-}
-
-// A listing with evidence, the problem, the status, and the report.
-#[derive(Clone, Copy)]
-struct Row<'a> {
-    line: &'a str,
-    text: &'a str,
-    status: u8,
-    out: [&'a str; 2],
+    row: &Row<'_>,
+) -> Result<(), Fail> {
+    let mut files = sure_files(alloc, row.text)?;
+    let listed = sink_with(alloc, 10, &[])?;
+    check_over(rt, alloc, row, &mut files, listed)?;
+    let accepted = Row {
+        line: "check f a ",
+        status: 0,
+        err: "",
+        ..*row
+    };
+    let checked = sink_with(alloc, 10, &[])?;
+    check_over(rt, alloc, &accepted, &mut files, checked)?;
+    assert!(rt; files.tells(), "{} {}", row.line, row.text);
+    Ok(())
 }
 
 const ROWS: [Row<'static>; 6] = [
@@ -67,80 +44,50 @@ const ROWS: [Row<'static>; 6] = [
         line: "list f --evidence a ",
         text: FIRST,
         status: 0,
-        out: ["p gmus 4\ns COMPLETE\n", FIRST_SETS],
+        out: &["p gmus 4\ns COMPLETE\n", FIRST_SETS],
+        err: "",
     },
     Row {
         line: "list --evidence=a f --limit 5 ",
         text: FIRST,
         status: 4,
-        out: ["p gmus 4\ns PARTIAL\n", FIRST_SETS],
+        out: &["p gmus 4\ns PARTIAL\n", FIRST_SETS],
+        err: "gmus: limit of 5 records reached\n",
     },
     Row {
         line: "list f --evidence a ",
         text: FOUR,
         status: 0,
-        out: ["p gmus 1\ns COMPLETE\n", ONE_SETS],
+        out: &["p gmus 1\ns COMPLETE\n", ONE_SETS],
+        err: "",
     },
     Row {
         line: "list f --evidence a --conflicts 0 ",
         text: FOUR,
         status: 3,
-        out: ["p gmus 1\ns PARTIAL\n", "e 0 0\n"],
+        out: &["p gmus 1\ns PARTIAL\n", "e 0 0\n"],
+        err: "gmus: budget of 0 conflicts spent\n",
     },
     Row {
         line: "list f --evidence a ",
         text: "p gcnf 0 0 0\n",
         status: 0,
-        out: ["p gmus 0\ns COMPLETE\n", "m 0\ne 0 1\n"],
+        out: &["p gmus 0\ns COMPLETE\n", "m 0\ne 0 1\n"],
+        err: "",
     },
     Row {
         line: "list f --evidence a ",
         text: "p gcnf 1 2 1\n{0} 1 0\n{0} -1 0\n",
         status: 0,
-        out: ["p gmus 1\ns COMPLETE\n", "u 0\ne 1 0\n"],
+        out: &["p gmus 1\ns COMPLETE\n", "u 0\ne 1 0\n"],
+        err: "",
     },
 ];
-
-// Lists with evidence, and then checks it: both give this report.
-fn list_and_check<R: Threads + Wait + Sync + Abort>(
-    rt: &R,
-    alloc: Global,
-    line: &str,
-    text: &str,
-    status: u8,
-    report: &str,
-) -> Result<(), Fail> {
-    let mut files = sure_files(alloc, text)?;
-    let listed = run_with(rt, alloc, line, &mut files, &[])?;
-    assert_eq!(rt; listed.status, status, "{line} {text}");
-    assert_eq!(rt; listed.out.got(), report.as_bytes(), "{line} {text}");
-    let checked = run_with(rt, alloc, "check f a ", &mut files, &[])?;
-    assert_eq!(rt; checked.status, 0, "{line} {text}");
-    assert_eq!(rt; checked.out.got(), report.as_bytes(), "{line} {text}");
-    assert!(rt; files.tells(), "{line} {text}");
-    Ok(())
-}
 
 #[test]
 fn evidence_is_accepted_with_the_same_report(rt: HostRuntime) -> Result<(), Fail> {
     for row in &ROWS {
-        let alloc = rt.alloc();
-        let report = format!(in alloc; "{}{}", row.out[0], row.out[1])?;
-        list_and_check(&rt, alloc, row.line, row.text, row.status, report.as_str())?;
-    }
-    Ok(())
-}
-
-#[test]
-fn evidence_of_small_problems_is_accepted(rt: HostRuntime) -> Result<(), Fail> {
-    let mut state = 20_261_128;
-    for _ in 0..200 {
-        let alloc = rt.alloc();
-        let small = draw_problem(alloc, &mut state)?;
-        let text = small.text(alloc)?;
-        let report = small.report(alloc)?;
-        let line = "list f --evidence a ";
-        list_and_check(&rt, alloc, line, text.as_str(), 0, report.as_str())?;
+        list_and_check(&rt, rt.alloc(), row)?;
     }
     Ok(())
 }
@@ -237,17 +184,23 @@ fn check_fault<R: Threads + Wait + Sync + Abort>(
     alloc: Global,
     fault: &Fault<'_>,
 ) -> Result<(), Fail> {
-    let mut held = Texts::new(alloc);
-    held.push(alloc, "f", b"p gcnf 0 0 0\n")?;
-    let mut rooms = Rooms::new(alloc);
-    rooms.push(alloc, "a", fault.room)?;
-    let failing = Calls::from_slice(alloc, fault.writes)?;
-    let mut files = MemFiles::new(alloc, held, rooms, 1000, 10, Calls::new(alloc), failing)?;
+    let outside = Outside {
+        room: Some(fault.room),
+        per_write: 10,
+        failing_writes: fault.writes,
+        ..holding("p gcnf 0 0 0\n")
+    };
     let line = format!(in alloc; "list f --limit 1 --evidence={} ", fault.name)?;
-    let ended = run_with(rt, alloc, line.as_str(), &mut files, fault.out_writes)?;
-    assert_eq!(rt; ended.status, 7, "{} {}", fault.name, fault.err);
-    assert_eq!(rt; ended.out.got(), fault.out.as_bytes(), "{}", fault.err);
-    assert_eq!(rt; ended.err.got(), fault.err.as_bytes(), "{}", fault.err);
+    let row = Row {
+        line: line.as_str(),
+        text: outside.file,
+        status: 7,
+        out: &[fault.out],
+        err: fault.err,
+    };
+    let mut files = files_of(alloc, outside)?;
+    let out = sink_with(alloc, 10, fault.out_writes)?;
+    check_over(rt, alloc, &row, &mut files, out)?;
     match (files.held("a"), fault.held) {
         (None, None) => {}
         (Some(text), Some(wanted)) => assert_eq!(rt; text, wanted.as_bytes(), "{}", fault.err),
