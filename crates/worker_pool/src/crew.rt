@@ -4,9 +4,9 @@ ghost use Rattle.evidence_rec.specs.Asking.{IsHonestOver};
 ghost use Rattle.map_core.specs.Sound.{IsOpening};
 ghost use Rattle.worker_pool.specs.Workers.{IsNew, HasWorked, oracle_of, seat_of, log_of};
 
-use crate::bell::Bell;
 use crate::marco::work_beside;
 use crate::pace::Pace;
+use crate::signs::Signs;
 use crate::worker::Worker;
 use board::{Board, Seat};
 use evidence_rec::{MapEngine, Oracle};
@@ -84,7 +84,7 @@ pub fn work_all<O: Oracle + Send, M: MapEngine + Send, G: Gate, R: Threads + Wai
 {
     let threads = threads_for(rt, workers.len());
     let leader = leader_of(workers.len(), threads);
-    let bell = Bell::new();
+    let signs = Signs::new();
     thread::for_each_mut(
         rt,
         workers,
@@ -93,8 +93,8 @@ pub fn work_all<O: Oracle + Send, M: MapEngine + Send, G: Gate, R: Threads + Wai
             requires { (board.now.opening.problem ≡ problem.now) × IsOpening board.now.opening × IsNew board.now problem.now (O.state worker.old.oracle) worker.old.seat }
             ensures { HasWorked board.entry.now problem.entry.now O.state worker.old worker.new }
         {
-            let pace = Pace::new(place == leader);
-            work_beside(rt, alloc, board, problem, worker, gate, pace, &bell)
+            let pace = Pace::new(place == leader, problem.len());
+            work_beside(rt, alloc, board, problem, worker, gate, pace, &signs)
         },
     );
 }

@@ -11,19 +11,19 @@
 //! There is a worker for each oracle, in one list that is made before any thread is. They share a
 //! [`Board`](board::Board), and each takes a seed of it, asks its own oracle about it, shrinks or grows it, and posts the
 //! record. Only the board's calls wait for one another. Where there are more workers than processors, a thread has several,
-//! one after the other. Where no thread can be had, all run so in the caller's. A worker that had to wait long for its turns
-//! sleeps before it takes again (`src/pace.rt`), unless one has ended (`src/bell.rt`).
+//! one after the other. Where no thread can be had, all run so in the caller's. One worker leads, and the
+//! others rest while the board is busy (`src/pace.rt`), until one has ended (`src/signs.rt`).
 //!
 //! Start reading at `src/marco.rt`, which has the loop, and at `specs/Outcomes.antt`, which says what is left.
 //!
 //! Nothing is promised of who finds which set, of speed, nor that two workers are ever at work at the same time.
 #![tactic(auto)]
 
-mod bell;
 mod crew;
 mod marco;
 mod pace;
 mod pool;
+mod signs;
 mod worker;
 
 pub use marco::work;

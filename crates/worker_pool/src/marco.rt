@@ -17,8 +17,8 @@ ghost use Rattle.worker_pool.specs.Course.{Free, At, IsGiven};
 ghost use Rattle.worker_pool.specs.Exploring.{TellsExplored};
 ghost use Rattle.worker_pool.specs.Workers.{IsNew, IsAt, IsOver};
 
-use crate::bell::Bell;
 use crate::pace::Pace;
+use crate::signs::Signs;
 use crate::worker::Worker;
 use board::Board;
 use evidence_rec::{Asked, MapEngine, Oracle, Record};
@@ -81,6 +81,7 @@ fn work_on<O: Oracle, M: MapEngine, R: Wait>(
     turn: u64,
     seed: &GroupSet,
     grant: u64,
+    signs: &Signs,
 ) -> bool
     requires board { board.now.opening.problem ≡ problem.now }
     requires given { IsGiven problem.now board.now.opening.tops seed.now }
@@ -99,7 +100,9 @@ fn work_on<O: Oracle, M: MapEngine, R: Wait>(
         let used = granted - purse.left;
         match explored {
             Ok(Explored::Found(record)) => {
+                signs.come();
                 let posted = board.post(rt, &mut worker.seat, used, record);
+                signs.go();
                 return matches!(posted, Posted::New | Posted::Already);
             }
             Ok(Explored::Dry(asked)) => {
@@ -120,7 +123,7 @@ fn work_on<O: Oracle, M: MapEngine, R: Wait>(
 
 /// Explores one seed after the other, until the board has no more work for this worker.
 ///
-/// The gate is passed before each job. Want of memory ends the worker. Behind a job it may sleep (`pace.rt`).
+/// The gate is passed before each job. Want of memory ends the worker. Before and between jobs it may rest (`pace.rt`).
 pub fn work<O: Oracle, M: MapEngine, G: Gate, R: Wait>(
     rt: &R,
     alloc: Global,
@@ -142,12 +145,12 @@ pub fn work<O: Oracle, M: MapEngine, G: Gate, R: Wait>(
         problem,
         worker,
         gate,
-        Pace::new(true),
-        &Bell::new(),
+        Pace::new(true, problem.len()),
+        &Signs::new(),
     )
 }
 
-/// Works as `work` does, at this pace, beside others that share the bell: whoever ends wakes those that sleep.
+/// Works as `work` does, at this pace, beside others that see the same signs: whoever ends wakes those that sleep.
 pub fn work_beside<O: Oracle, M: MapEngine, G: Gate, R: Wait>(
     rt: &R,
     alloc: Global,
@@ -156,7 +159,7 @@ pub fn work_beside<O: Oracle, M: MapEngine, G: Gate, R: Wait>(
     worker: &mut Worker<O>,
     gate: &G,
     mut pace: Pace,
-    bell: &Bell,
+    signs: &Signs,
 )
     requires board { board.now.opening.problem ≡ problem.now }
     requires opening { IsOpening board.now.opening }
@@ -164,13 +167,17 @@ pub fn work_beside<O: Oracle, M: MapEngine, G: Gate, R: Wait>(
     ensures same { IsSameSeat worker.old.seat worker.new.seat }
     ensures over { IsOver board.now problem.now (O.state worker.new.oracle) worker.new.seat }
 {
+    pace.begin(rt, signs);
+    signs.come();
     while let Taken::Job { turn, seed, grant } = board.take(rt, &mut worker.seat, 0) {
+        signs.go();
         gate.pass(worker.seat.number(), turn);
-        if !work_on(rt, alloc, board, problem, worker, turn, &seed, grant) {
-            bell.ring();
+        if !work_on(rt, alloc, board, problem, worker, turn, &seed, grant, signs) {
+            signs.end();
             return;
         }
-        pace.rest(rt, bell, worker.seat.looks());
+        pace.rest(rt, signs, worker.seat.looks());
+        signs.come();
     }
-    bell.ring();
+    signs.end();
 }

@@ -1,59 +1,133 @@
-//! How long a worker leaves the board to others.
+//! When a worker leaves the board to others.
 //!
-//! Where the map is most of the work, the workers do little but wait for one another's turns, and the more of them take, the
-//! longer the turns are: a seed is found in a few steps where the block of the last one came before it is asked for, and
-//! nearly anew where another worker is still at that. So a worker that had to look long for its turns sleeps before it takes
-//! again, four times as long each time, up to two seconds, and half as long where it did not. One worker leads and never sleeps.
-//! Where the oracles are most of the work, seldom anybody waits, and all are at work. Nobody sleeps past the end of the
-//! enumeration, since a bell is rung there (`bell.rt`).
-use crate::bell::Bell;
+//! Where the map is most of the work, more workers do little but wait for one another's turns, and the turns get longer: a
+//! seed is found in a few steps where the block of the last one came before it is asked for, and nearly anew where another
+//! worker is still at that. So one worker leads, and the others watch before they join: they sleep, and look at times whether
+//! somebody is at the board. Of a leader that is alone that may be so a sixteenth of the time, since the turns of several are
+//! much longer than its own; of several, a quarter for each. A worker that had to wait long for its turns in most of its jobs
+//! parts and watches again.
+//!
+//! Who watches does so for some times as long as it takes to make a solver of the problem, and twice as long where that was in
+//! vain. Nobody sleeps past the end of the enumeration (`signs.rt`).
+use crate::signs::Signs;
 use std::sync::Wait;
 use std::time::Duration;
 
-// So many looks that came too early are a long wait (measured, see docs/DECISIONS.md).
-const LONG: u64 = 20;
+// So often the board is looked at, before a worker joins or watches on. The bounds were measured (see docs/DECISIONS.md).
+const GLANCES: u64 = 64;
 
-// The first sleep, and the longest one, in microseconds.
+// So many of them may find a leader at the board that works alone.
+const ALONE: u64 = 4;
+
+// So many may find somebody there for each that is at work, where several are.
+const EACH: u64 = 16;
+
+// The shortest time between two glances, and the longest one, in microseconds.
 const LEAST: u64 = 500;
 
-const MOST: u64 = 2_000_000;
+const MOST: u64 = 16_000;
 
-// A sleep gets so many times as long behind a long wait, and so many times shorter without.
-const LONGER: u64 = 4;
+// For so many clauses a microsecond more passes between two glances.
+const CLAUSES: u64 = 32;
 
-const SHORTER: u64 = 2;
+// So often a worker watches in a row at most; that takes a quarter of an hour.
+const WATCHES: u64 = 1000;
 
-/// How long a worker sleeps before it takes.
+// So many looks that came too early are a long wait.
+const LONG: u64 = 20;
+
+// So many more jobs with a long wait than without make a worker part.
+const TRIES: u64 = 8;
+
+/// When a worker rests.
 #[derive(Drop)]
 pub struct Pace {
-    // In microseconds.
-    most: u64,
-    sleep: u64,
+    leads: bool,
+    // The shortest time between two glances for this problem, and that for the next ones, in microseconds.
+    least: u64,
+    interval: u64,
     // The looks of its seat before its last job.
     looks: u64,
+    // By how many the jobs with a long wait exceed those without, since it joined.
+    long: u64,
 }
 
 impl Pace {
-    /// That of the worker that leads, who never sleeps, or of another one.
-    pub fn new(leads: bool) -> Pace {
+    /// That of the worker that leads, who never rests, or of another one, for a problem of so many clauses.
+    pub fn new(leads: bool, clauses: usize) -> Pace {
+        let least = (clauses as u64 / CLAUSES).clamp(LEAST, MOST);
         Pace {
-            most: if leads { 0 } else { MOST },
-            sleep: 0,
+            leads,
+            least,
+            interval: least,
             looks: 0,
+            long: 0,
         }
     }
 
-    /// Rests behind a job, where its seat has looked so often in all.
-    pub fn rest<R: Wait>(&mut self, rt: &R, bell: &Bell, looks: u64) {
+    /// Watches before the first job.
+    pub fn begin<R: Wait>(&mut self, rt: &R, signs: &Signs) {
+        if !self.leads {
+            self.watch(rt, signs);
+            signs.join();
+        }
+    }
+
+    /// Rests behind a job, where that is called for. Its seat has looked so often in all.
+    pub fn rest<R: Wait>(&mut self, rt: &R, signs: &Signs, looks: u64) {
         let waited = looks.saturating_sub(self.looks);
         self.looks = looks;
-        self.sleep = if waited > LONG {
-            self.sleep.saturating_mul(LONGER).max(LEAST).min(self.most)
-        } else {
-            self.sleep / SHORTER
-        };
-        if self.sleep >= LEAST {
-            bell.await_ring(rt, Duration::from_micros(self.sleep));
+        if self.leads {
+            return;
         }
+        if waited <= LONG {
+            if self.long == 0 {
+                self.interval = (self.interval - self.interval / 16).max(self.least);
+            }
+            self.long = self.long.saturating_sub(1);
+            return;
+        }
+        self.long = self.long.saturating_add(1);
+        if self.long >= TRIES {
+            self.long = 0;
+            self.slow();
+            signs.part();
+            self.watch(rt, signs);
+            signs.join();
+        }
+    }
+
+    // Watches until there is room at the board for one more, or the enumeration ends.
+    fn watch<R: Wait>(&mut self, rt: &R, signs: &Signs) {
+        for _ in 0..WATCHES {
+            let mut busy = 0u64;
+            for _ in 0..GLANCES {
+                signs.sleep(rt, Duration::from_micros(self.interval));
+                if signs.is_end() {
+                    return;
+                }
+                if signs.is_busy() {
+                    busy = busy.saturating_add(1);
+                }
+            }
+            if busy <= room_beside(signs.at_work()) {
+                return;
+            }
+            self.slow();
+        }
+    }
+
+    // The next glances come half as often.
+    fn slow(&mut self) {
+        self.interval = self.interval.saturating_mul(2).min(MOST);
+    }
+}
+
+// How many glances may find somebody at the board, where so many are at work.
+fn room_beside(workers: u64) -> u64 {
+    if workers <= 1 {
+        ALONE
+    } else {
+        EACH.saturating_mul(workers)
     }
 }
