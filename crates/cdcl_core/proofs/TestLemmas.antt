@@ -40,7 +40,3 @@ consistent_push n lits l old up is m i j = elim (In-append_cases m lits (l ∷ [
     never (pos zero) e h = absurd (omega (arith, h))
     never (pos (suc v)) e h = cc
     never (negsuc v) e h = cc
-
-pub literals_more : (n vars : ℕ) (lits : List ℤ) → n ≤ vars → AreLiterals n lits → AreLiterals vars lits
-literals_more n vars [] h a = tt
-literals_more n vars (x ∷ xs) h a = let first = a.0 in (record { not_zero = omega (arith, first); in_range = omega (arith, first, h) }, literals_more n vars xs h a.1)

@@ -1,9 +1,11 @@
-ghost use Rattle.std.specs.Prelude.{◌≡◌, ◌<◌, ◌^◌, IfOk};
+ghost use Rattle.std.specs.Prelude.{◌≡◌, ◌<◌, ◌≤◌, ◌^◌, length, IfOk};
 ghost use Rattle.sat_base.specs.Literals.{var_of, AreLiterals};
+ghost use Rattle.lrat_steps.specs.Honest.{IsHonest};
 ghost use Rattle.cdcl_core.specs.Answers.{IsConsistent};
 
 use super::*;
-use sat_base::{Lit, Purse};
+use lrat_steps::Log;
+use sat_base::{Assign, Derivation, Lit, Purse};
 use std::alloc::{AllocError, Global};
 use std::test::Fail;
 
@@ -13,6 +15,21 @@ fn word(answer: &Solved) -> &'static str {
         Solved::Unsat(_) => "unsat",
         Solved::Dry => "dry",
     }
+}
+
+// What a search gave: plain values, so that a test that has them has no solver.
+#[derive(Drop)]
+struct Reply {
+    word: &'static str,
+    // whether each variable is true in the model, if it found one
+    values: Vec<bool>,
+    // the units that are left
+    left: u64,
+    // how many clauses are learnt, and how many steps logged
+    learned: u64,
+    steps: u64,
+    // the clauses of the steps that the last step needs, each ended by a 0
+    needed: Vec<i32>,
 }
 
 // Adds the clauses of these numbers, each ended by a 0. A number beyond the variables is left out.
@@ -42,33 +59,110 @@ fn signed(var: u32, is_negative: bool) -> Lit
 }
 
 // The literals of the first variables, so many; bit i of `signs` negates that of variable i + 1.
-fn assume(alloc: Global, count: u32, signs: u32) -> Result<Vec<Lit>, AllocError>
-    requires { count < 2 ^ 31 }
-    ensures literals { IfOk result (λ lits. AreLiterals count lits.items) }
+fn assume(alloc: Global, vars: u32, count: u32, signs: u32) -> Result<Vec<Lit>, AllocError>
+    requires { vars < 2 ^ 31 }
+    ensures literals { IfOk result (λ lits. AreLiterals vars lits.items) }
     ensures consistent { IfOk result (λ lits. IsConsistent lits.items) }
 {
     let mut lits = Vec::new(alloc);
     let mut rest = signs;
-    for i in 0..count {
+    for i in 0..count.min(vars) {
         lits.push(signed(i + 1, rest % 2 == 1))?;
         rest /= 2;
     }
     Ok(lits)
 }
 
-// A search under the literals of `assume`.
-fn solve_under(
+fn values_of(alloc: Global, vars: u32, assign: &Assign) -> Result<Vec<bool>, AllocError>
+    requires small { vars < 2 ^ 31 }
+    requires has_them { vars ≤ length assign.now }
+{
+    let mut values = Vec::new(alloc);
+    for i in 0..vars {
+        values.push(assign.makes_true(signed(i + 1, false)))?;
+    }
+    Ok(values)
+}
+
+fn clauses_of(alloc: Global, derivation: &Derivation) -> Result<Vec<i32>, AllocError> {
+    let mut numbers = Vec::new(alloc);
+    for at in 0..derivation.len() {
+        for lit in derivation.step(at).lits {
+            numbers.push(lit.number())?;
+        }
+        numbers.push(0)?;
+    }
+    Ok(numbers)
+}
+
+fn needed_by_last(alloc: Global, log: &Log) -> Result<Vec<i32>, AllocError>
+    requires { IsHonest log.now }
+{
+    let last = log.len();
+    if last == 0 {
+        return Ok(Vec::new(alloc));
+    }
+    let derivation = log.trim(alloc, last)?;
+    clauses_of(alloc, &derivation)
+}
+
+// Adds the clauses of these numbers, and searches under these literals.
+fn ask(
     alloc: Global,
     solver: &mut Solver,
-    count: u32,
-    signs: u32,
+    numbers: &[i32],
+    assumed: &[Lit],
     turn: u64,
-    purse: &mut Purse,
-) -> Result<Solved, AllocError> {
+    left: u64,
+) -> Result<Reply, AllocError>
+    requires literals { AreLiterals solver.old.vars assumed.now }
+    requires consistent { IsConsistent assumed.now }
+    ensures { solver.new.vars ≡ solver.old.vars }
+{
+    add_all(alloc, solver, numbers)?;
     let vars = solver.vars();
-    let assumed = assume(alloc, count.min(vars), signs)?;
-    let answer = solver.solve(alloc, &assumed, turn, purse)?;
-    Ok(answer)
+    let mut purse = Purse { left };
+    let answer = solver.solve(alloc, assumed, turn, &mut purse)?;
+    let values = match &answer {
+        Solved::Sat(assign) => values_of(alloc, vars, assign)?,
+        _ => Vec::new(alloc),
+    };
+    let log = solver.log();
+    Ok(Reply {
+        word: word(&answer),
+        values,
+        left: purse.left,
+        learned: log.learned(),
+        steps: log.len(),
+        needed: needed_by_last(alloc, log)?,
+    })
+}
+
+// Has a new solver of these clauses search under these literals. Of all tests this function, `search_true` and `words_of`
+// alone own a solver, and each ends in one place once it has it: what owns one is proved to drop it wherever it may
+// end, and that takes long.
+fn search(
+    alloc: Global,
+    vars: u32,
+    numbers: &[i32],
+    assumed: &[Lit],
+    turn: u64,
+    left: u64,
+) -> Result<Reply, AllocError>
+    requires small { vars < 2 ^ 31 }
+    requires literals { AreLiterals vars assumed.now }
+    requires consistent { IsConsistent assumed.now }
+{
+    let mut solver = Solver::new(alloc, vars)?;
+    ask(alloc, &mut solver, numbers, assumed, turn, left)
+}
+
+// The same, under no literals, where positive literals are decided only.
+fn search_true(alloc: Global, vars: u32, numbers: &[i32]) -> Result<Reply, AllocError>
+    requires { vars < 2 ^ 31 }
+{
+    let mut solver = Solver::new_true(alloc, vars)?;
+    ask(alloc, &mut solver, numbers, &[], 0, 0)
 }
 
 // Whether bit i of an assignment, for variable i + 1, makes a literal true.
@@ -148,29 +242,68 @@ fn random_clause(alloc: Global, random: &mut Random) -> Result<Vec<i32>, AllocEr
     Ok(numbers)
 }
 
+// What is added before a search, and what it assumes: the literals of `assume`.
+#[derive(Drop)]
+struct Round {
+    clause: Vec<i32>,
+    count: u32,
+    signs: u32,
+    turn: u64,
+}
+
+fn random_rounds(alloc: Global, random: &mut Random) -> Result<Vec<Round>, AllocError> {
+    let mut rounds = Vec::new(alloc);
+    for _ in 0..16 {
+        let clause = random_clause(alloc, random)?;
+        rounds.push(Round {
+            clause,
+            count: random.below(5),
+            signs: random.below(16),
+            turn: random.below(4) as u64,
+        })?;
+    }
+    Ok(rounds)
+}
+
+fn ask_each(
+    alloc: Global,
+    solver: &mut Solver,
+    rounds: &[Round],
+) -> Result<Vec<&'static str>, AllocError> {
+    let mut words = Vec::new(alloc);
+    for round in rounds {
+        let assumed = assume(alloc, solver.vars(), round.count, round.signs)?;
+        let reply = ask(alloc, solver, &round.clause, &assumed, round.turn, 100)?;
+        words.push(reply.word)?;
+    }
+    Ok(words)
+}
+
+// Has one solver search in each of these rounds.
+fn words_of(alloc: Global, rounds: &[Round]) -> Result<Vec<&'static str>, AllocError> {
+    let mut solver = Solver::new(alloc, 4)?;
+    ask_each(alloc, &mut solver, rounds)
+}
+
 #[test]
 fn answers_agree_with_a_search_over_assignments(rt: HostRuntime) -> Result<(), Fail> {
     let alloc = rt.alloc();
     let mut random = Random { state: 1 };
     for shape in 0..250 {
-        let mut solver = Solver::new(alloc, 4)?;
+        let rounds = random_rounds(alloc, &mut random)?;
+        let words = words_of(alloc, &rounds)?;
+        assert_eq!(rt; words.len(), 16, "shape {shape}");
         let mut numbers = Vec::new(alloc);
-        for _ in 0..16 {
-            let clause = random_clause(alloc, &mut random)?;
-            add_all(alloc, &mut solver, &clause)?;
-            numbers.extend_from_slice(&clause)?;
-            let count = random.below(5);
-            let signs = random.below(16);
-            let wanted = if is_satisfiable(&numbers, &assume(alloc, count, signs)?) {
+        for (round, word) in rounds.iter().zip(words) {
+            let (count, signs) = (round.count, round.signs);
+            numbers.extend_from_slice(&round.clause)?;
+            let wanted = if is_satisfiable(&numbers, &assume(alloc, 4, count, signs)?) {
                 "sat"
             } else {
                 "unsat"
             };
-            let mut purse = Purse { left: 100 };
-            let turn = random.below(4) as u64;
-            let answer = solve_under(alloc, &mut solver, count, signs, turn, &mut purse)?;
             assert_eq!(rt;
-                word(&answer),
+                word,
                 wanted,
                 "shape {shape}: {numbers:?} under {count} of signs {signs}"
             );
@@ -191,15 +324,10 @@ fn a_unit_is_paid_for_each_learnt_clause(rt: HostRuntime) -> Result<(), Fail> {
         (&[0], 0, "unsat", 0, 0),
     ];
     for (numbers, before, wanted, after, learned) in rows {
-        let mut solver = Solver::new(alloc, 3)?;
-        add_all(alloc, &mut solver, numbers)?;
-        let mut purse = Purse { left: before };
-        let answer = solver.solve(alloc, &[], 0, &mut purse)?;
-        assert_eq!(rt; word(&answer), wanted, "{numbers:?} with {before}");
-        assert_eq!(rt; purse.left, after, "{numbers:?} with {before}");
+        let reply = search(alloc, 3, numbers, &[], 0, before)?;
         assert_eq!(rt;
-            solver.log().learned(),
-            learned,
+            (reply.word, reply.left, reply.learned),
+            (wanted, after, learned),
             "{numbers:?} with {before}"
         );
     }
@@ -208,17 +336,9 @@ fn a_unit_is_paid_for_each_learnt_clause(rt: HostRuntime) -> Result<(), Fail> {
 
 #[test]
 fn nothing_is_logged_where_nothing_is_derived(rt: HostRuntime) -> Result<(), Fail> {
-    let alloc = rt.alloc();
-    let mut solver = Solver::new(alloc, 2)?;
-    add_all(
-        alloc,
-        &mut solver,
-        &[1, 2, 0, 1, -2, 0, -1, 2, 0, -1, -2, 0],
-    )?;
-    let mut purse = Purse { left: 0 };
-    let answer = solver.solve(alloc, &[], 0, &mut purse)?;
-    assert_eq!(rt; word(&answer), "dry");
-    assert_eq!(rt; solver.log().len(), 4);
+    let numbers = [1, 2, 0, 1, -2, 0, -1, 2, 0, -1, -2, 0];
+    let reply = search(rt.alloc(), 2, &numbers, &[], 0, 0)?;
+    assert_eq!(rt; (reply.word, reply.steps), ("dry", 4));
     Ok(())
 }
 
@@ -253,12 +373,10 @@ fn assumed_literals_may_fail(rt: HostRuntime) -> Result<(), Fail> {
         ),
     ];
     for (numbers, count, signs, left, wanted) in rows {
-        let mut solver = Solver::new(alloc, 3)?;
-        add_all(alloc, &mut solver, numbers)?;
-        let mut purse = Purse { left };
-        let answer = solve_under(alloc, &mut solver, count, signs, 0, &mut purse)?;
+        let assumed = assume(alloc, 3, count, signs)?;
+        let reply = search(alloc, 3, numbers, &assumed, 0, left)?;
         assert_eq!(rt;
-            word(&answer),
+            reply.word,
             wanted,
             "{numbers:?} under {count} of signs {signs}"
         );
@@ -268,54 +386,32 @@ fn assumed_literals_may_fail(rt: HostRuntime) -> Result<(), Fail> {
 
 #[test]
 fn a_core_has_negated_assumed_literals_only(rt: HostRuntime) -> Result<(), Fail> {
-    let alloc = rt.alloc();
-    let mut solver = Solver::new(alloc, 3)?;
-    add_all(alloc, &mut solver, &[-1, 2, 0, 3, 0])?;
-    let mut purse = Purse { left: 0 };
     let assumed = [Lit::new(3), Lit::new(1), Lit::new(-2)];
-    let answer = solver.solve(alloc, &assumed, 0, &mut purse)?;
-    assert_eq!(rt; word(&answer), "unsat");
-    let log = solver.log();
-    let last = log.len();
-    assert!(rt; last > 0);
-    let derivation = log.trim(alloc, last)?;
-    assert_eq!(rt; derivation.len(), 1);
-    let step = derivation.step(0);
-    assert_eq!(rt; step.lits.len(), 2);
-    for lit in step.lits {
-        assert!(rt; lit.number() == -1 || lit.number() == 2);
-    }
+    let reply = search(rt.alloc(), 3, &[-1, 2, 0, 3, 0], &assumed, 0, 0)?;
+    assert_eq!(rt; reply.word, "unsat");
+    let needed = reply.needed.as_slice();
+    assert!(rt; needed == [-1, 2, 0].as_slice() || needed == [2, -1, 0].as_slice());
     Ok(())
 }
 
 #[test]
 fn the_turn_begins_the_order_of_decisions(rt: HostRuntime) -> Result<(), Fail> {
-    let alloc = rt.alloc();
     for (turn, first) in [(0, true), (1, false)] {
-        let mut solver = Solver::new(alloc, 2)?;
-        add_all(alloc, &mut solver, &[-1, -2, 0])?;
-        let mut purse = Purse { left: 0 };
-        let Solved::Sat(assign) = solver.solve(alloc, &[], turn, &mut purse)? else {
-            assert!(rt; false, "turn {turn}");
-            return Ok(());
-        };
-        assert_eq!(rt; assign.len(), 2);
-        assert_eq!(rt; assign.makes_true(Lit::new(1)), first, "turn {turn}");
-        assert_eq!(rt; assign.makes_true(Lit::new(2)), !first, "turn {turn}");
+        let reply = search(rt.alloc(), 2, &[-1, -2, 0], &[], turn, 0)?;
+        assert_eq!(rt;
+            (reply.word, reply.values.as_slice()),
+            ("sat", [first, !first].as_slice()),
+            "turn {turn}"
+        );
     }
     Ok(())
 }
 
 #[test]
 fn true_first_finds_a_greatest_model(rt: HostRuntime) -> Result<(), Fail> {
-    let alloc = rt.alloc();
-    let mut solver = Solver::new_true(alloc, 2)?;
-    add_all(alloc, &mut solver, &[-1, -2, 0])?;
-    let mut purse = Purse { left: 0 };
-    let Solved::Sat(assign) = solver.solve(alloc, &[], 0, &mut purse)? else {
-        assert!(rt; false);
-        return Ok(());
-    };
-    assert!(rt; assign.makes_true(Lit::new(1)) != assign.makes_true(Lit::new(2)));
+    let reply = search_true(rt.alloc(), 2, &[-1, -2, 0])?;
+    assert_eq!(rt; reply.word, "sat");
+    assert_eq!(rt; reply.values.len(), 2);
+    assert!(rt; reply.values[0] != reply.values[1]);
     Ok(())
 }

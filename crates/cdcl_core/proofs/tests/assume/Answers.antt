@@ -12,8 +12,8 @@ loop-i-preserved c =
     let inv = c.loop-i.invariant in
     let is = c.in_ok-push.ensures.items in
     record {
-      literals = subst (AreLiterals c.args.count) (sym is)
-          (literals_push c.args.count lits lit inv.literals (record { not_zero = omega (arith, c.signed.ensures); in_range = omega (arith, c.signed.ensures, c.loop-i-test.true) }));
+      literals = subst (AreLiterals c.args.vars) (sym is)
+          (literals_push c.args.vars lits lit inv.literals (record { not_zero = omega (arith, c.signed.ensures); in_range = omega (arith, c.signed.ensures, c.loop-i-test.true, c.min-i-end.ensures) }));
       up_to = subst (AreUpTo (i + 1)) (sym is) (up_to_push i lits lit inv.up_to c.signed.ensures);
       consistent = subst IsConsistent (sym is) (consistent_push i lits lit inv.consistent inv.up_to c.signed.ensures);
     }
