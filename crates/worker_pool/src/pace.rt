@@ -4,8 +4,8 @@
 //! seed is found in a few steps where the block of the last one came before it is asked for, and nearly anew where another
 //! worker is still at that. So one worker leads, and the others watch before they join: they sleep, and look at times whether
 //! somebody is at the board. Of a leader that is alone that may be so a sixteenth of the time, since the turns of several are
-//! much longer than its own; of several, a quarter for each. A worker that had to wait long for its turns in most of its jobs
-//! parts and watches again.
+//! much longer than its own; of several, a quarter for each, and three quarters at most. A worker that had to wait long for
+//! its turns in several more of its jobs than it had not parts and watches again.
 //!
 //! Who watches does so for some times as long as it takes to make a solver of the problem, and twice as long where that was in
 //! vain. Nobody sleeps past the end of the enumeration (`signs.rt`).
@@ -22,6 +22,9 @@ const ALONE: u64 = 4;
 // So many may find somebody there for each that is at work, where several are.
 const EACH: u64 = 16;
 
+// So many may, however many are at work: above, the board is all but taken up.
+const FULL: u64 = 48;
+
 // The shortest time between two glances, and the longest one, in microseconds.
 const LEAST: u64 = 500;
 
@@ -30,7 +33,7 @@ const MOST: u64 = 16_000;
 // For so many clauses a microsecond more passes between two glances.
 const CLAUSES: u64 = 32;
 
-// So often a worker watches in a row at most; that takes a quarter of an hour.
+// So often a worker watches in a row at most, which takes a quarter of an hour. Then it joins.
 const WATCHES: u64 = 1000;
 
 // So many looks that came too early are a long wait.
@@ -38,6 +41,9 @@ const LONG: u64 = 20;
 
 // So many more jobs with a long wait than without make a worker part.
 const TRIES: u64 = 8;
+
+// By such a part the time between two glances gets shorter behind a job, where long waits are seldom.
+const SHORTER: u64 = 16;
 
 /// When a worker rests.
 #[derive(Drop)]
@@ -82,7 +88,7 @@ impl Pace {
         }
         if waited <= LONG {
             if self.long == 0 {
-                self.interval = (self.interval - self.interval / 16).max(self.least);
+                self.interval = (self.interval - self.interval / SHORTER).max(self.least);
             }
             self.long = self.long.saturating_sub(1);
             return;
@@ -128,6 +134,6 @@ fn room_beside(workers: u64) -> u64 {
     if workers <= 1 {
         ALONE
     } else {
-        EACH.saturating_mul(workers)
+        EACH.saturating_mul(workers).min(FULL)
     }
 }
