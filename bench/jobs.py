@@ -10,8 +10,8 @@ first, the same of the medians, and the quickest of the last number by that of t
 Of a problem without a limit all reports have to be equal; where they aren't, or where a run fails, the last line says so,
 and the run ends with 1. With a limit the sets that are found first depend on how the workers meet.
 
-The problems are in three lists: `map`, in which the map is most of one worker's time or a large part of it; `oracle`, in
-which it is little; and `small`, the short ones of run.py, for comparing reports. WORD names a list or a family; without it
+The problems are in three lists: `map`, in which turns at the map take a tenth of one worker's time to most of it; `oracle`,
+in which they take less, or questions are hard; and `small`, the short ones of run.py, for comparing reports. WORD names a list or a family; without it
 `map` and `oracle` run.
 """
 import argparse
