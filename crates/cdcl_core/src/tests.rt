@@ -21,7 +21,7 @@ fn word(answer: &Solved) -> &'static str {
 #[derive(Drop)]
 struct Reply {
     word: &'static str,
-    // whether each variable is true in the model, if it found one
+    // whether each variable is true in the model, if it found one that has as many
     values: Vec<bool>,
     // the units that are left
     left: u64,
@@ -124,7 +124,7 @@ fn ask(
     let mut purse = Purse { left };
     let answer = solver.solve(alloc, assumed, turn, &mut purse)?;
     let values = match &answer {
-        Solved::Sat(assign) => values_of(alloc, vars, assign)?,
+        Solved::Sat(assign) if assign.len() == vars as usize => values_of(alloc, vars, assign)?,
         _ => Vec::new(alloc),
     };
     let log = solver.log();
