@@ -9,13 +9,13 @@ import unittest
 
 TOP = os.path.dirname(os.path.dirname(os.path.abspath(__file__)))
 
-# It proves the crates low and gmus, makes the program, and runs it as it is told to; or it fails.
+# It proves a library; or it makes the program and runs it as it is told to; or it fails.
 RT = """#!/bin/sh
-echo build >>"$ROOM/builds"
-echo "fn low::first: proved"
-echo "fn low::second: proved"
-echo "struct gmus::files::RealFiles: proved"
+crate=$(basename "$PWD")
+echo "$crate" >>"$ROOM/builds"
+echo "fn $crate::first: proved"
 [ ! -e "$ROOM/fails" ] || exit 1
+[ "$1" = run ] || exit 0
 mkdir -p out && cp "$ROOM/program" out/gmus && shift 2 && out/gmus "$@"
 """
 
@@ -35,6 +35,9 @@ class Launcher(unittest.TestCase):
         self.room = tempfile.mkdtemp()
         self.addCleanup(shutil.rmtree, self.room)
         shutil.copy(os.path.join(TOP, "gmus"), self.room)
+        os.mkdir(os.path.join(self.room, "tools"))
+        for name in ("build.py", "crates.py"):
+            shutil.copy(os.path.join(TOP, "tools", name), os.path.join(self.room, "tools"))
         self.write("crates.txt", "# NAME: libraries\nlow:\nother: low  # nothing of gmus\ngmus tests_may=Wait: low std\n")
         for crate in ("low", "other", "gmus"):
             self.write(f"crates/{crate}/src/lib.rt", "")
@@ -58,9 +61,9 @@ class Launcher(unittest.TestCase):
     def builds(self):
         try:
             with open(self.room + "/builds") as builds:
-                return len(builds.readlines())
+                return builds.read().split()
         except FileNotFoundError:
-            return 0
+            return []
 
     def age(self, name, seconds):
         """Sets when a file was changed, from the time of the program."""
@@ -70,7 +73,7 @@ class Launcher(unittest.TestCase):
     def test_the_first_call_builds_and_the_next_does_not(self):
         self.assertEqual(self.run_it("list", "a b"), (5, "to output: list a b", SAID + "to errors\n"))
         self.assertEqual(self.run_it("x"), (5, "to output: x", "to errors\n"))
-        self.assertEqual(self.builds(), 1)
+        self.assertEqual(self.builds(), ["low", "gmus"])
 
     def test_a_newer_source_of_a_crate_below_builds_again(self):
         self.run_it("x")
@@ -79,7 +82,7 @@ class Launcher(unittest.TestCase):
             before = self.builds()
             self.age(name, 5)
             self.run_it("x")
-            self.assertEqual(self.builds() - before, again, name)
+            self.assertEqual(self.builds()[len(before):], ["low", "gmus"] * again, name)
             self.age(name, -5)
 
     def test_where_the_build_fails_nothing_is_run(self):
@@ -90,7 +93,8 @@ class Launcher(unittest.TestCase):
         self.assertEqual((status, output), (127, ""))
         self.assertTrue(said.endswith(f"gmus: the build failed: see the end of {self.room}/build.log, and CONTRIBUTING.md\n"))
         with open(self.room + "/build.log") as log:
-            self.assertTrue(log.read().endswith("struct gmus::files::RealFiles: proved\nstatus 1\n"))
+            self.assertEqual(log.read(), "fn low::first: proved\nlow: status 1\n")
+        self.assertEqual(self.builds(), ["low", "gmus", "low"])
 
     def test_without_the_toolchain_it_says_so(self):
         folders = [it for it in os.environ["PATH"].split(":") if not os.path.exists(it + "/rt")]

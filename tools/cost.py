@@ -1,0 +1,204 @@
+#!/usr/bin/env python3
+"""Says what the gate costs: the processor seconds of each crate's library, tests and wrong bodies, and the longest chain.
+
+    tools/cost.py                runs `rt ci --anew` at the top of the repository, and prints the table
+    tools/cost.py WORDS          runs `rt ci WORDS`, as tools/cost.py --anew propagate
+    tools/cost.py --edits ..     also a line for each wrong body, the dearest first
+
+`rt ci` tells no times, so its processes are looked at ten times a second, and what each had used when it was last seen
+is counted: some hundredths of each are missed, and less than a tenth of a second at its end. The last line says how much
+of the whole was not seen. What `rt ci` says goes to standard error.
+
+A piece is what the gate doesn't split: a crate's library, its tests with a second proof of the library, what the tries
+of wrong bodies begin with (a third proof of it, the base), and each try. A library waits for those below it, tests for
+the libraries below, a base for its crate's library and tests, and a try for its base. The longest chain is the one whose
+pieces take most, each as if it had one processor.
+"""
+import os
+import re
+import resource
+import subprocess
+import sys
+import time
+
+from crates import TOP, below_in, text_of
+
+TICKS = os.sysconf("SC_CLK_TCK")
+EVERY = 0.1
+
+
+def piece_of(words, folder):
+    """The crate and the piece that a command of the gate works at, or None: its words, and the folder that it stands in."""
+    if "--crate-name" not in words[:-1]:
+        return None
+    crate = words[words.index("--crate-name") + 1]
+    if "/rt-edit-" in folder:
+        begun = words[words.index("--incremental") + 1] if "--incremental" in words[:-1] else ""
+        last = os.path.basename(begun)
+        if last == "seed":
+            return crate, "base"
+        return crate, int(last) if last.isdigit() else "alone"
+    return crate, "tests" if "--test" in words else "library"
+
+
+class Watch:
+    """What the processes below one process had used when they were last seen, by crate and piece."""
+
+    def __init__(self, root):
+        self.root = root
+        self.known = {}
+        self.used = {}
+
+    def look(self):
+        parents, times = {}, {}
+        for name in os.listdir("/proc"):
+            if name.isdigit():
+                told = read(f"/proc/{name}/stat")
+                if told:
+                    fields = told.rpartition(")")[2].split()
+                    parents[int(name)] = int(fields[1])
+                    # The start tells two processes with one number apart.
+                    times[int(name)] = (fields[19], (int(fields[11]) + int(fields[12])) / TICKS)
+        for pid in parents:
+            if self.is_below(pid, parents):
+                start, seconds = times[pid]
+                self.count(pid, start, seconds)
+
+    def is_below(self, pid, parents):
+        for _ in range(64):
+            if pid == self.root:
+                return True
+            pid = parents.get(pid, 0)
+            if pid <= 1:
+                return False
+        return False
+
+    def count(self, pid, start, seconds):
+        if (pid, start) not in self.known:
+            piece = piece_at(pid)
+            if piece is None:
+                # Its parent may not have become the command yet.
+                return
+            self.known[pid, start] = piece
+        self.used[pid, start] = seconds
+
+    def pieces(self):
+        """The seconds of each piece."""
+        sums = {}
+        for process, seconds in self.used.items():
+            piece = self.known[process]
+            sums[piece] = sums.get(piece, 0) + seconds
+        return sums
+
+
+def read(path):
+    try:
+        with open(path, encoding="utf-8", errors="replace") as file:
+            return file.read()
+    except OSError:
+        return ""
+
+
+def piece_at(pid):
+    words = read(f"/proc/{pid}/cmdline").split("\0")
+    try:
+        return piece_of(words, os.readlink(f"/proc/{pid}/cwd"))
+    except OSError:
+        return None
+
+
+def edit_names(crate):
+    """The names of a crate's wrong bodies, in the order in which the gate numbers them."""
+    folder = os.path.join(TOP, "crates", crate, "must-fail")
+    names = os.listdir(folder) if os.path.isdir(folder) else []
+    return sorted(name[:-len(".edit")] for name in names if name.endswith(".edit"))
+
+
+def longest_chain(below, pieces):
+    """The pieces that wait for each other and take most together, the first one first, and their seconds."""
+    chains = {}
+
+    def library(crate):
+        if crate not in chains:
+            front = longest([library(it) for it in below[crate]])
+            chains[crate] = grown(front, crate, "library")
+        return chains[crate]
+
+    def grown(chain, crate, *names):
+        for name in names:
+            seconds = pieces.get((crate, name), 0)
+            if seconds:
+                chain = (chain[0] + seconds, chain[1] + [(crate, name, seconds)])
+        return chain
+
+    ends = []
+    for crate in below:
+        tests = grown(longest([library(it) for it in below[crate]]), crate, "tests")
+        tries = [(seconds, name) for (of, name), seconds in pieces.items() if of == crate and name not in ("library", "tests", "base")]
+        dearest = [max(tries)[1]] if tries else []
+        ends += [library(crate), tests, grown(longest([library(crate), tests]), crate, "base", *dearest)]
+    return longest(ends)
+
+
+def longest(chains):
+    return max(chains, key=lambda it: it[0], default=(0, []))
+
+
+def name_of(crate, piece):
+    if isinstance(piece, int):
+        names = edit_names(crate)
+        return f"try {names[piece] if piece < len(names) else piece}"
+    return {"alone": "try from nothing"}.get(piece, piece)
+
+
+def table(below, pieces):
+    """A line for each crate, the dearest first."""
+    rows = []
+    for crate in below:
+        tries = [seconds for (of, name), seconds in pieces.items() if of == crate and name not in ("library", "tests", "base")]
+        library, tests, base = (pieces.get((crate, name), 0) for name in ("library", "tests", "base"))
+        rows.append((library + tests + base + sum(tries), crate, library, tests, base, len(tries), sum(tries), max(tries, default=0)))
+    rows.sort(reverse=True)
+    sums = [sum(row[at] for row in rows) for at in (0, 2, 3, 4, 5, 6)]
+    lines = ["| Crate | Library | Tests | Base | Tries | Of them | Dearest | Together |", "|---|---|---|---|---|---|---|---|"]
+    for whole, crate, library, tests, base, count, tried, dearest in rows:
+        lines.append(f"| {crate} | {library:.0f} | {tests:.0f} | {base:.0f} | {count} | {tried:.0f} | {dearest:.0f} | {whole:.0f} |")
+    whole, library, tests, base, count, tried = sums
+    lines.append(f"| all | {library:.0f} | {tests:.0f} | {base:.0f} | {count} | {tried:.0f} | | {whole:.0f} |")
+    return "\n".join(lines)
+
+
+def said(below, pieces, all_seconds, wall, with_edits):
+    seconds, chain = longest_chain(below, pieces)
+    lines = [table(below, pieces), ""]
+    lines.append(f"Longest chain: {seconds:.0f} s, " + ", ".join(f"{crate} {name_of(crate, it)} {took:.0f}" for crate, it, took in chain))
+    (crate, piece), took = max(pieces.items(), key=lambda it: it[1], default=((None, ""), 0))
+    lines.append(f"Longest piece: {took:.0f} s, {crate} {name_of(crate, piece)}")
+    if with_edits:
+        for (of, name), took in sorted(pieces.items(), key=lambda it: -it[1]):
+            if name not in ("library", "tests", "base"):
+                lines.append(f"{took:7.1f} {of}/{name_of(of, name)}")
+    seen = sum(pieces.values())
+    lines.append(f"Processor: {all_seconds / 60:.1f} minutes, of which {(all_seconds - seen) / 60:.1f} are no piece's "
+                 f"or were not seen; {wall / 60:.1f} minutes passed, with {len(os.sched_getaffinity(0))} processors")
+    return "\n".join(lines)
+
+
+def main(words):
+    with_edits = "--edits" in words
+    words = [word for word in words if word != "--edits"] or ["--anew"]
+    began = time.monotonic()
+    gate = subprocess.Popen(["rt", "ci", *words], cwd=TOP, stdin=subprocess.DEVNULL, stdout=sys.stderr)
+    watch = Watch(gate.pid)
+    while gate.poll() is None:
+        watch.look()
+        time.sleep(EVERY)
+    wall = time.monotonic() - began
+    used = resource.getrusage(resource.RUSAGE_CHILDREN)
+    below = below_in(text_of("crates.txt"))
+    print(said(below, watch.pieces(), used.ru_utime + used.ru_stime, wall, with_edits))
+    return gate.returncode
+
+
+if __name__ == "__main__":
+    sys.exit(main(sys.argv[1:]))
