@@ -63,12 +63,17 @@ def command(crate, jobs):
 
 
 class Build:
-    def __init__(self, below, log):
+    """Crates with what each waits for, the command that proves one, and the file to which all goes that is said."""
+
+    def __init__(self, below, log, words=command, name=PROGRAM):
         self.below = below
         self.log = log
+        self.words = words
+        self.name = name
         self.alone = threading.Lock()
         self.began = time.monotonic()
         self.begun = 0
+        self.failed = []
 
     def prove(self, crate, jobs):
         """Proves a crate, and answers whether that went well."""
@@ -76,14 +81,16 @@ class Build:
             self.begun += 1
             minutes = int(time.monotonic() - self.began) // 60
             so_far = f", {minutes} min so far" if minutes else ""
-            print(f"gmus: proving {crate}, {self.begun} of {len(self.below)}{so_far}", file=sys.stderr, flush=True)
+            print(f"{self.name}: proving {crate}, {self.begun} of {len(self.below)}{so_far}", file=sys.stderr, flush=True)
         with tempfile.TemporaryFile("w+", errors="replace") as said:
-            ended = subprocess.run(command(crate, jobs), cwd=os.path.join(TOP, "crates", crate),
+            ended = subprocess.run(self.words(crate, jobs), cwd=os.path.join(TOP, "crates", crate),
                                    stdin=subprocess.DEVNULL, stdout=said, stderr=subprocess.STDOUT, check=False)
             said.seek(0)
             with self.alone:
                 self.log.write(said.read() + f"{crate}: status {ended.returncode}\n")
                 self.log.flush()
+                if ended.returncode:
+                    self.failed.append(crate)
         return ended.returncode == 0
 
     def all(self, most):
