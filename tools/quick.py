@@ -1,0 +1,128 @@
+#!/usr/bin/env python3
+"""What a change of some crates breaks, in minutes: for the day, and no part of the gate.
+
+    tools/quick.py             what differs from the last commit
+    tools/quick.py BASE        what differs from the commit BASE
+
+The crates that differ are laid out by `rt fmt` and proved, and so are the crates above them, as many at a time as there
+are processors and memory, over what earlier checks kept. The programs of trials that stand on one of them play their
+scripts unproved, tests are run unproved, and the tools are tested. What was said goes to quick.log at the top of the
+repository. At the end it says what it left out: `rt ci` alone is the gate.
+"""
+import os
+import subprocess
+import sys
+import time
+
+from build import Build, lanes
+from crates import TOP, above, areas_in, below_in, text_of
+
+PARTS = ("src", "specs", "proofs")
+
+
+def git(*words):
+    return subprocess.run(["git", *words], cwd=TOP, stdout=subprocess.PIPE, universal_newlines=True, check=True).stdout
+
+
+def changed_files(base):
+    """The files that differ from a commit, those among them that git doesn't know yet."""
+    named = git("diff", "--name-only", "-z", base) + git("ls-files", "--others", "--exclude-standard", "-z")
+    return [name for name in named.split("\0") if name]
+
+
+def changed_crates(files, below, parts=PARTS):
+    """The crates of which one of these parts differs."""
+    found = [name.split("/")[1] for name in files if name.startswith("crates/") and name.split("/")[2] in parts]
+    return [crate for crate in below if crate in found]
+
+
+def is_program(crate):
+    return os.path.isfile(os.path.join(TOP, "crates", crate, "src", "main.rt"))
+
+
+def has_tests(crate):
+    folder = os.path.join(TOP, "crates", crate, "src")
+    for at, _, names in os.walk(folder):
+        for name in names:
+            with open(os.path.join(at, name), encoding="utf-8") as file:
+                if "#[test]" in file.read():
+                    return True
+    return False
+
+
+def command(crate, jobs):
+    return ["rt", "check" if is_program(crate) else "lib", "--jobs", str(jobs)]
+
+
+def prove(crates, below, log):
+    """Proves these crates, lowest first, and gives those that failed."""
+    among = {crate: [it for it in below[crate] if it in crates] for crate in crates}
+    build = Build(among, log, command, "quick")
+    build.all(lanes())
+    return build.failed
+
+
+def said_of(crate, words, log):
+    """What a command in a crate's folder wrote to standard output."""
+    ended = subprocess.run(words, cwd=os.path.join(TOP, "crates", crate), stdin=subprocess.DEVNULL,
+                           stdout=subprocess.PIPE, stderr=log, check=False)
+    return ended.returncode, ended.stdout
+
+
+def play(crate, log):
+    """Plays the scripts of a program of trials unproved, and answers whether it printed what it has to."""
+    with open(os.path.join(TOP, "crates", crate, "args"), encoding="utf-8") as file:
+        args = file.read().split()
+    given = [word for name in args for word in ("--data", f"{name}=data/{name}")]
+    status, printed = said_of(crate, ["rt", "try", *given, "--", *args], log)
+    with open(os.path.join(TOP, "crates", crate, "stdout"), "rb") as file:
+        wanted = file.read()
+    log.write(f"{crate}: played, status {status}\n")
+    return status == 0 and printed == wanted
+
+
+def try_tests(crate, log):
+    return said_of(crate, ["rt", "try", "--test"], log)[0] == 0
+
+
+def main(words):
+    began = time.monotonic()
+    below = below_in(text_of("crates.txt"))
+    trials = dict(areas_in(text_of("crates.txt")))["trials"]
+    files = changed_files(*(words or ["HEAD"]))
+    changed = changed_crates(files, below)
+    moved = above(below, changed)
+    proved = [crate for crate in moved if crate in changed or crate not in trials]
+    scripts = changed_crates(files, below, ("data", "stdout", "args"))
+    played = [crate for crate in trials if is_program(crate) and crate in moved + scripts]
+    tested = [crate for crate in moved if has_tests(crate)]
+    bad = []
+    with open(os.path.join(TOP, "quick.log"), "w", encoding="utf-8") as log:
+        for crate in changed:
+            if said_of(crate, ["rt", "fmt"], log)[0]:
+                bad.append(f"{crate} can't be laid out")
+        bad += [f"{crate} is not proved" for crate in prove(proved, below, log)]
+        bad += [f"{crate} prints something else" for crate in played if not play(crate, log)]
+        bad += [f"a test of {crate} fails" for crate in tested if not try_tests(crate, log)]
+        tools = subprocess.run([sys.executable, "-m", "unittest", "discover", "-s", "tools"], cwd=TOP, stdout=log, stderr=log,
+                               check=False)
+        if tools.returncode:
+            bad.append("a test of the tools fails")
+    minutes = (time.monotonic() - began) / 60
+    print("\n".join([f"quick: {it}" for it in bad + ["see quick.log"] * bool(bad)] + said(proved, played, tested, moved, minutes)))
+    return 1 if bad else 0
+
+
+def said(proved, played, tested, moved, minutes):
+    """What was done, and what was left out."""
+    left = [crate for crate in moved if crate not in proved]
+    return [
+        f"quick: {minutes:.1f} minutes; proved {' '.join(proved) or 'nothing'}; played {' '.join(played) or 'nothing'}; "
+        f"tested {' '.join(tested) or 'nothing'}",
+        f"quick: left out: wrong bodies; proofs of tests; proofs of {' '.join(left) or 'no trials'}; the program and the "
+        "trials as two compilers build them; examples/check.sh. `rt ci` is the gate.",
+    ]
+
+
+if __name__ == "__main__":
+    sys.exit(main(sys.argv[1:]))

@@ -1,0 +1,104 @@
+#!/usr/bin/env python3
+"""Tests of what the tools make of crates.txt, of what the gate's processes are taken for, and of the order of a build."""
+import io
+import threading
+import unittest
+
+import build
+import cost
+import crates
+import quick
+
+TEXT = """# NAME: libraries
+
+# == low things
+a:
+b tests_may=Wait: a std
+# == high things
+c: a b  # a comment: with a colon
+d:
+"""
+BELOW = {"a": [], "b": ["a"], "c": ["a", "b"], "d": []}
+
+
+class Crates(unittest.TestCase):
+    def test_crates_stand_on_those_of_their_lines(self):
+        self.assertEqual(crates.named_in(TEXT)["b"], ["a", "std"])
+        self.assertEqual(crates.below_in(TEXT), BELOW)
+
+    def test_areas_have_their_crates_in_order(self):
+        self.assertEqual(crates.areas_in(TEXT), [("low things", ["a", "b"]), ("high things", ["c", "d"])])
+
+    def test_lowest_come_first(self):
+        self.assertEqual(crates.lowest_first(BELOW, "c"), ["a", "b", "c"])
+        self.assertEqual(crates.above(BELOW, ["b"]), ["b", "c"])
+        self.assertEqual(crates.above(BELOW, ["a", "d"]), ["a", "b", "c", "d"])
+
+
+class Pieces(unittest.TestCase):
+    def test_a_command_belongs_to_a_piece(self):
+        words = ["rattle", "check", "--crate-name", "low", "src/lib.rt"]
+        begun = ["--incremental", "/tmp/rt-edits-7-x/12"]
+        seed = ["--incremental", "/tmp/rt-edits-7-x/seed"]
+        for given, folder, wanted in (
+                (words, "/work/crates/low", ("low", "library")),
+                (words + ["--test"], "/work/crates/low", ("low", "tests")),
+                (words + begun, "/tmp/rt-edit-7-y", ("low", 12)),
+                (words + seed, "/tmp/rt-edit-7-y", ("low", "base")),
+                (words, "/tmp/rt-edit-7-y", ("low", "alone")),
+                (["python3", "rt", "ci"], "/work", None)):
+            self.assertEqual(cost.piece_of(given, folder), wanted)
+
+    def test_the_longest_chain_waits_for_libraries_and_tests(self):
+        pieces = {("a", "library"): 5, ("a", "tests"): 30, ("a", "base"): 4, ("a", 0): 2, ("a", 1): 3,
+                  ("b", "library"): 7, ("c", "library"): 9, ("c", "tests"): 11, ("d", "library"): 20}
+        self.assertEqual(cost.longest_chain(BELOW, pieces), (37, [("a", "tests", 30), ("a", "base", 4), ("a", 1, 3)]))
+        self.assertEqual(cost.longest_chain(BELOW, {**pieces, ("a", "tests"): 0})[0], 5 + 7 + 11)
+
+    def test_the_table_has_the_dearest_first(self):
+        rows = cost.table(BELOW, {("a", "library"): 1, ("b", "library"): 2, ("b", 0): 3}).split("\n")
+        self.assertEqual(rows[2:4], ["| b | 2 | 0 | 0 | 1 | 3 | 3 | 5 |", "| a | 1 | 0 | 0 | 0 | 0 | 0 | 1 |"])
+        self.assertEqual(rows[-1], "| all | 3 | 0 | 0 | 1 | 3 | | 6 |")
+
+
+class Builds(unittest.TestCase):
+    def setUp(self):
+        self.order, self.alone = [], threading.Lock()
+
+    def build(self, failing, most):
+        def prove(crate, jobs):
+            with self.alone:
+                self.order.append(crate)
+            return crate not in failing
+
+        one = build.Build(BELOW, io.StringIO())
+        one.prove = prove
+        return one.all(most)
+
+    def test_a_crate_is_begun_behind_those_below_it(self):
+        for most in (1, 2, 4):
+            self.order = []
+            self.assertTrue(self.build([], most))
+            self.assertEqual(sorted(self.order), ["a", "b", "c", "d"])
+            self.assertLess(self.order.index("a"), self.order.index("b"))
+            self.assertLess(self.order.index("b"), self.order.index("c"))
+
+    def test_nothing_is_begun_behind_one_that_fails(self):
+        self.assertFalse(self.build(["b"], 1))
+        self.assertNotIn("c", self.order)
+
+
+class Quick(unittest.TestCase):
+    def test_a_crate_differs_by_its_sources(self):
+        files = ["crates/b/src/lib.rt", "crates/c/must-fail/x.edit", "crates/d/data/cases", "README.md", "crates/b/proofs/x/Lib.antt"]
+        self.assertEqual(quick.changed_crates(files, BELOW), ["b"])
+        self.assertEqual(quick.changed_crates(files, BELOW, ("data", "stdout")), ["d"])
+
+    def test_what_was_left_out_is_said(self):
+        told = "\n".join(quick.said(["a"], ["t"], [], ["a", "t"], 1.5))
+        self.assertIn("proved a; played t; tested nothing", told)
+        self.assertIn("proofs of t;", told)
+
+
+if __name__ == "__main__":
+    unittest.main()
