@@ -10,11 +10,11 @@ class Trials(unittest.TestCase):
     def test_what_has_to_be_printed_is_what_the_script_says(self):
         for crate in trials.crates():
             stored = trials.text_of(os.path.join(trials.TOP, "crates", crate, "stdout"))
-            self.assertEqual(stored, trials.wanted(trials.text_of(trials.script_of(crate))), crate)
+            self.assertEqual(stored, trials.wanted(trials.script_of(crate)), crate)
 
     def test_each_case_has_a_name_of_its_own(self):
         for crate in trials.crates():
-            names = trials.cases_in(trials.text_of(trials.script_of(crate)))
+            names = trials.cases_in(trials.script_of(crate))
             self.assertEqual(sorted(set(names)), sorted(names), crate)
 
     def test_lines_of_a_script(self):

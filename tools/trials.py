@@ -1,8 +1,10 @@
 #!/usr/bin/env python3
 """Makes what each program of trials has to print, from the lines that people wrote below its calls.
 
-    tools/trials.py            writes crates/NAME/stdout of each crate with a script, crates/NAME/data/cases
+    tools/trials.py            writes crates/NAME/stdout of each crate with scripts
     tools/trials.py NAME ..    of these crates
+
+The scripts of a crate are the files in crates/NAME/data that crates/NAME/args names, in that order.
 
 In a script '== NAME' begins a case and is printed as it stands, and '= TEXT' below a call is TEXT, a line that has to be
 printed there. No line of it comes from the program's own output: each was written by hand, or by another program that
@@ -28,13 +30,23 @@ def wanted(script):
     return "".join(line + "\n" for line in printed)
 
 
-def script_of(crate):
-    return os.path.join(TOP, "crates", crate, "data", "cases")
-
-
 def crates():
-    """The crates that have a script."""
-    return sorted(name for name in os.listdir(os.path.join(TOP, "crates")) if os.path.isfile(script_of(name)))
+    """The crates that have scripts."""
+    return sorted(name for name in os.listdir(os.path.join(TOP, "crates")) if scripts_of(name))
+
+
+def scripts_of(crate):
+    """The scripts of a crate, in the order in which they are played; none where a word of its args is no file of it."""
+    folder = os.path.join(TOP, "crates", crate)
+    if not os.path.isfile(os.path.join(folder, "args")):
+        return []
+    scripts = [os.path.join(folder, "data", word) for word in text_of(os.path.join(folder, "args")).split()]
+    return scripts if all(os.path.isfile(script) for script in scripts) else []
+
+
+def script_of(crate):
+    """All its scripts, as one text."""
+    return "".join(text_of(script) for script in scripts_of(crate))
 
 
 def text_of(path):
@@ -50,7 +62,7 @@ def cases_in(script):
 def main(words):
     for crate in words or crates():
         with open(os.path.join(TOP, "crates", crate, "stdout"), "w", encoding="utf-8", newline="") as file:
-            file.write(wanted(text_of(script_of(crate))))
+            file.write(wanted(script_of(crate)))
 
 
 if __name__ == "__main__":
