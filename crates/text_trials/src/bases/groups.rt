@@ -1,0 +1,140 @@
+//! Sets of groups, and problems.
+use crate::numbers::{count, set_from};
+use crate::problems::{problem_of, push_clause};
+use crate::shown::show;
+use gm_base::{Assign, GroupSet, Problem};
+use std::alloc::{AllocError, Global};
+use std::cmp::Ordering;
+use trial_script::Step;
+
+/// The set, and another one.
+#[derive(Drop)]
+pub struct SetPair {
+    set: GroupSet,
+    other: GroupSet,
+}
+
+impl SetPair {
+    pub fn new(alloc: Global) -> SetPair {
+        SetPair {
+            set: GroupSet::new(alloc),
+            other: GroupSet::new(alloc),
+        }
+    }
+}
+
+/// Makes a call of sets.
+pub fn call_sets(
+    sets: &mut SetPair,
+    alloc: Global,
+    step: &Step<'_>,
+    out: &mut String,
+) -> Result<bool, AllocError> {
+    match step.word(0) {
+        "groups" => put_set(&mut sets.set, set_from(alloc, step, 1)?, out),
+        "other" => put_set(&mut sets.other, set_from(alloc, step, 1)?, out),
+        "without" | "complement" | "copy" => {
+            let made = made_of(&sets.set, alloc, step)?;
+            put_set(&mut sets.other, made, out)
+        }
+        "contains" => show_contains(&sets.set, count(step, 1), out),
+        "subset" => {
+            let within = sets.other.is_subset(&sets.set);
+            let around = sets.set.is_subset(&sets.other);
+            writeln!(out, "{within} {around}")?;
+            Ok(true)
+        }
+        "compare" => show(name_of(sets.set.cmp(&sets.other)), out),
+        _ => Ok(false),
+    }
+}
+
+/// Puts a set in place of another and tells it, if there is one.
+fn put_set(
+    place: &mut GroupSet,
+    set: Option<GroupSet>,
+    out: &mut String,
+) -> Result<bool, AllocError> {
+    let Some(set) = set else {
+        return Ok(false);
+    };
+    out.push_str("{")?;
+    for group in set.as_slice() {
+        write!(out, " {group}")?;
+    }
+    *place = set;
+    show(" }", out)
+}
+
+/// What the call makes of the set.
+fn made_of(set: &GroupSet, alloc: Global, step: &Step<'_>) -> Result<Option<GroupSet>, AllocError> {
+    if step.word(0) == "copy" {
+        return Ok(Some(set.copy(alloc)?));
+    }
+    let Some(number) = count(step, 1) else {
+        return Ok(None);
+    };
+    if step.word(0) == "without" {
+        return Ok(Some(set.without(alloc, number)?));
+    }
+    Ok(Some(set.complement(alloc, number)?))
+}
+
+fn show_contains(set: &GroupSet, group: Option<u32>, out: &mut String) -> Result<bool, AllocError> {
+    match group {
+        Some(group) => show(if set.contains(group) { "true" } else { "false" }, out),
+        None => Ok(false),
+    }
+}
+
+fn name_of(order: Ordering) -> &'static str {
+    match order {
+        Ordering::Less => "less",
+        Ordering::Equal => "equal",
+        Ordering::Greater => "greater",
+    }
+}
+
+/// The problem of the call's text and a copy of it, if it is one.
+pub fn problem_pair(
+    alloc: Global,
+    step: &Step<'_>,
+) -> Result<Option<(Problem, Problem)>, AllocError> {
+    let Some(problem) = problem_of(alloc, step.text())? else {
+        return Ok(None);
+    };
+    let copy = problem.copy()?;
+    Ok(Some((problem, copy)))
+}
+
+/// Tells whether the assignment satisfies the call's groups of the problem, and those of the copy.
+pub fn show_holds(
+    problem: &Problem,
+    copy: &Problem,
+    assign: &Assign,
+    alloc: Global,
+    step: &Step<'_>,
+    out: &mut String,
+) -> Result<bool, AllocError> {
+    let Some(set) = set_from(alloc, step, 1)? else {
+        return Ok(false);
+    };
+    let len = assign.len();
+    if len != problem.vars() as usize || len != copy.vars() as usize {
+        return Ok(false);
+    }
+    let (first, second) = (problem.holds(&set, assign), copy.holds(&set, assign));
+    writeln!(out, "{first} {second}")?;
+    Ok(true)
+}
+
+/// Tells each clause, and how many its group has.
+pub fn show_clauses(problem: &Problem, out: &mut String) -> Result<bool, AllocError> {
+    for at in 0..problem.len() {
+        let clause = problem.clause(at);
+        push_clause(clause, out)?;
+        let count = problem.places(clause.group).len();
+        writeln!(out, ", {count} of its group")?;
+    }
+    Ok(true)
+}

@@ -1,0 +1,226 @@
+//! Assignments, work lists and derivations.
+ghost use Rattle.std.specs.Prelude.{◌<◌, length};
+
+use crate::derivations::{id_at, lit_at, push_step};
+use crate::numbers::{amount, count, positive};
+use crate::shown::show;
+use sat_base::{Assign, AssignBuilder, Derivation, DerivationBuilder, Lit, WorkList};
+use std::alloc::{AllocError, Global};
+use trial_script::Step;
+
+/// One of each kind.
+#[derive(Drop)]
+pub struct Pieces {
+    builder: Option<AssignBuilder>,
+    pub assign: Option<Assign>,
+    copy: Option<Assign>,
+    work: WorkList,
+    proof: Option<DerivationBuilder>,
+}
+
+impl Pieces {
+    pub fn new(alloc: Global) -> Pieces {
+        Pieces {
+            builder: None,
+            assign: None,
+            copy: None,
+            work: WorkList::new(alloc),
+            proof: None,
+        }
+    }
+}
+
+/// Makes a call of one of them.
+pub fn call_pieces(
+    pieces: &mut Pieces,
+    alloc: Global,
+    step: &Step<'_>,
+    out: &mut String,
+) -> Result<bool, AllocError> {
+    match step.word(0) {
+        "variables" | "true" | "false" => build(&mut pieces.builder, alloc, step, out),
+        "finish" | "prefix" | "flipped" => copy_values(pieces, alloc, step, out),
+        "told" => show_told(pieces.assign.as_ref(), pieces.copy.as_ref(), step, out),
+        "insert" => insert(&mut pieces.work, step),
+        "greatest" => show_number(pieces.work.greatest(), out),
+        "take" => show_number(pieces.work.take_greatest(), out),
+        "proof" | "step" | "steps" => call_proof(&mut pieces.proof, alloc, step, out),
+        _ => Ok(false),
+    }
+}
+
+/// Begins an assignment and tells how many variables it has, or gives variables their values.
+fn build(
+    place: &mut Option<AssignBuilder>,
+    alloc: Global,
+    step: &Step<'_>,
+    out: &mut String,
+) -> Result<bool, AllocError> {
+    if step.word(0) != "variables" {
+        return match place {
+            Some(builder) => Ok(set_values(builder, step.word(0) == "true", step)),
+            None => Ok(false),
+        };
+    }
+    let Some(vars) = count(step, 1) else {
+        return Ok(false);
+    };
+    let builder = AssignBuilder::all_false(alloc, vars)?;
+    show_number(Some(builder.len() as u64), out)?;
+    *place = Some(builder);
+    Ok(true)
+}
+
+/// Gives the variables their value, up to the first word that is none of them; whether all were.
+fn set_values(builder: &mut AssignBuilder, value: bool, step: &Step<'_>) -> bool {
+    for at in 1..step.words().len() {
+        let Some(var) = positive(step, at) else {
+            return false;
+        };
+        if var as usize > builder.len() {
+            return false;
+        }
+        builder.set(var, value);
+    }
+    true
+}
+
+/// Makes the assignment or its copy, and tells how many variables it has.
+fn copy_values(
+    pieces: &mut Pieces,
+    alloc: Global,
+    step: &Step<'_>,
+    out: &mut String,
+) -> Result<bool, AllocError> {
+    if step.word(0) == "finish" {
+        let Some(builder) = pieces.builder.take() else {
+            return Ok(false);
+        };
+        let assign = builder.finish(alloc)?;
+        show_number(Some(assign.len() as u64), out)?;
+        pieces.assign = Some(assign);
+        return Ok(true);
+    }
+    let Some(copy) = copy_of(pieces.assign.as_ref(), alloc, step)? else {
+        return Ok(false);
+    };
+    show_number(Some(copy.len() as u64), out)?;
+    pieces.copy = Some(copy);
+    Ok(true)
+}
+
+/// The copy that the call wants, if there is one.
+fn copy_of(
+    assign: Option<&Assign>,
+    alloc: Global,
+    step: &Step<'_>,
+) -> Result<Option<Assign>, AllocError> {
+    let (Some(assign), Some(number)) = (assign, count(step, 1)) else {
+        return Ok(None);
+    };
+    if step.word(0) == "prefix" {
+        return Ok(Some(assign.copy()?.prefix(number)));
+    }
+    if number == 0 || number as usize > assign.len() {
+        return Ok(None);
+    }
+    Ok(Some(assign.flipped(alloc, number)?))
+}
+
+/// Tells what the assignment says of a literal, and what the copy says.
+fn show_told(
+    assign: Option<&Assign>,
+    copy: Option<&Assign>,
+    step: &Step<'_>,
+    out: &mut String,
+) -> Result<bool, AllocError> {
+    let Some(lit) = lit_at(step, 1) else {
+        return Ok(false);
+    };
+    push_told(assign, lit, out)?;
+    out.push_str(", of the copy ")?;
+    push_told(copy, lit, out)?;
+    show("", out)
+}
+
+/// Adds whether the literal is true and whether its negation is, or that the assignment has no such variable.
+fn push_told(assign: Option<&Assign>, lit: Lit, out: &mut String) -> Result<(), AllocError> {
+    match assign {
+        Some(assign) if lit.var() as usize <= assign.len() => {
+            let (same, other) = (assign.makes_true(lit), assign.makes_true(lit.negated()));
+            write!(out, "{same} {other}")
+        }
+        _ => out.push_str("none"),
+    }
+}
+
+/// Puts the numbers of the call in, if each is one.
+fn insert(work: &mut WorkList, step: &Step<'_>) -> Result<bool, AllocError> {
+    for at in 1..step.words().len() {
+        let Some(number) = amount(step, at) else {
+            return Ok(false);
+        };
+        work.insert(number)?;
+    }
+    Ok(true)
+}
+
+fn show_number(number: Option<u64>, out: &mut String) -> Result<bool, AllocError> {
+    let Some(number) = number else {
+        return show("none", out);
+    };
+    writeln!(out, "{number}")?;
+    Ok(true)
+}
+
+/// Begins a derivation, adds a step, or tells a copy.
+fn call_proof(
+    proof: &mut Option<DerivationBuilder>,
+    alloc: Global,
+    step: &Step<'_>,
+    out: &mut String,
+) -> Result<bool, AllocError> {
+    if step.word(0) == "proof" {
+        let Some(goal) = id_at(step, 1) else {
+            return Ok(false);
+        };
+        *proof = Some(DerivationBuilder::new(alloc, goal));
+        return Ok(true);
+    }
+    if step.word(0) == "step" {
+        return match proof {
+            Some(proof) => push_step(proof, alloc, step),
+            None => Ok(false),
+        };
+    }
+    let Some(proof) = proof.take() else {
+        return Ok(false);
+    };
+    show_steps(&proof.finish(alloc)?.copy()?, out)
+}
+
+fn show_steps(derivation: &Derivation, out: &mut String) -> Result<bool, AllocError> {
+    let (goal, steps) = (derivation.goal(), derivation.len());
+    writeln!(out, "goal {goal} steps {steps}")?;
+    for at in 0..derivation.len() {
+        show_step(derivation, at, out)?;
+    }
+    Ok(true)
+}
+
+fn show_step(derivation: &Derivation, at: usize, out: &mut String) -> Result<bool, AllocError>
+    requires { at < length derivation.now.steps }
+{
+    let step = derivation.step(at);
+    let id = step.id;
+    write!(out, "step {id}")?;
+    for lit in step.lits {
+        let number = lit.number();
+        write!(out, " {number}")?;
+    }
+    out.push_str(" 0")?;
+    for hint in step.hints {
+        write!(out, " {hint}")?;
+    }
+    show("", out)
+}

@@ -1,0 +1,83 @@
+//! Steps of derivations, by the words of a call.
+ghost use Rattle.std.specs.Prelude.{◌≤◌, All, IfSome, IsTrue};
+ghost use Rattle.sat_base.specs.Derivation.{max_id};
+
+use crate::numbers::amount;
+use sat_base::{DerivationBuilder, Lit, Lits};
+use std::alloc::{AllocError, Global};
+use trial_script::Step;
+
+/// The greatest id.
+const MAX_ID: u64 = 9_223_372_036_854_775_807;
+
+/// The id at this place, if there is one.
+pub fn id_at(step: &Step<'_>, at: usize) -> Option<u64>
+    ensures { IfSome result (λ id. id ≤ max_id) }
+{
+    let id = amount(step, at)?;
+    if id <= MAX_ID { Some(id) } else { None }
+}
+
+/// Adds the step of the call, an id, literals, 0 and hints, if each is one.
+pub fn push_step(
+    proof: &mut DerivationBuilder,
+    alloc: Global,
+    step: &Step<'_>,
+) -> Result<bool, AllocError> {
+    let lits = lits_from(alloc, step, 2)?;
+    let end = lits.len().saturating_add(2);
+    let hints = amounts_from(alloc, step, end.saturating_add(1))?;
+    let Some(id) = id_at(step, 1) else {
+        return Ok(false);
+    };
+    if step.word(end) != "0" || !are_ids(hints.as_slice()) {
+        return Ok(false);
+    }
+    proof.push(id, lits.as_slice(), hints.as_slice())?;
+    Ok(true)
+}
+
+/// The literals from this place on, up to the first word that is none.
+fn lits_from(alloc: Global, step: &Step<'_>, from: usize) -> Result<Lits, AllocError> {
+    let mut lits = Lits::new(alloc);
+    for at in from..step.words().len() {
+        let Some(lit) = lit_at(step, at) else {
+            break;
+        };
+        lits.push(lit)?;
+    }
+    Ok(lits)
+}
+
+/// The literal at this place, if there is one.
+pub fn lit_at(step: &Step<'_>, at: usize) -> Option<Lit> {
+    let number = i32::try_from(step.number(at)?).ok()?;
+    if number == 0 || number == i32::MIN {
+        return None;
+    }
+    Some(Lit::new(number))
+}
+
+/// The numbers from this place on, up to the first word that is none.
+fn amounts_from(alloc: Global, step: &Step<'_>, from: usize) -> Result<Vec<u64>, AllocError> {
+    let mut amounts = Vec::new(alloc);
+    for at in from..step.words().len() {
+        let Some(number) = amount(step, at) else {
+            break;
+        };
+        amounts.push(number)?;
+    }
+    Ok(amounts)
+}
+
+/// Whether all of these can be ids.
+fn are_ids(numbers: &[u64]) -> bool
+    ensures { IsTrue result → All (λ n. n ≤ max_id) numbers.now }
+{
+    for number in numbers {
+        if *number > MAX_ID {
+            return false;
+        }
+    }
+    true
+}

@@ -1,0 +1,113 @@
+//! The player of evidence: read, written and audited as a text, and checked record by record.
+//!
+//! ```text
+//! problem            the problem of the GCNF text below, which all that follows is about
+//! evidence           evidence that later calls change, below
+//! read               the text below is read and written again; `read 8 9` is of the evidence, with these lines of it
+//!                    replaced by those below
+//! head               its head is asked for twice
+//! audit              the text below is audited; `audit 8 9` likewise
+//! conflict 1 2       a record begins, with its set; `correction` likewise
+//! proof 5            a derivation for the clause of this id begins
+//! step 5 -3 -4 0 1 2 its next step: an id, literals, 0 and hints
+//! witness 2          an assignment, by its true variables
+//! check              the record is checked
+//! keep               the record is kept, and `check_kept` has one checker check all that were, in their order
+//! ```
+//!
+//! What is refused is told by the number of its reason and its line: of the text, counted from 1, or of the record, from 0.
+mod drafting;
+mod reading;
+mod records;
+mod text;
+
+use crate::problems::problem_of;
+use drafting::{Draft, call_draft};
+use evidence_rec::Records;
+use gm_base::Problem;
+use records::{check_kept, check_one};
+use std::alloc::{AllocError, Global};
+use std::mem;
+use text::call_text;
+use trial_script::{Player, Step};
+
+/// Has a problem, evidence about it, and records.
+#[derive(Drop)]
+pub struct EvidencePlayer {
+    problem: Option<Problem>,
+    evidence: Vec<u8>,
+    draft: Draft,
+    kept: Records,
+}
+
+impl EvidencePlayer {
+    pub fn new(alloc: Global) -> EvidencePlayer {
+        EvidencePlayer {
+            problem: None,
+            evidence: Vec::new(alloc),
+            draft: Draft::new(alloc),
+            kept: Records::new(alloc),
+        }
+    }
+}
+
+impl Player for EvidencePlayer {
+    fn begin(&mut self, alloc: Global) -> Result<(), AllocError> {
+        *self = EvidencePlayer::new(alloc);
+        Ok(())
+    }
+
+    fn call(
+        &mut self,
+        alloc: Global,
+        step: &Step<'_>,
+        out: &mut String,
+    ) -> Result<bool, AllocError> {
+        match step.word(0) {
+            "problem" => {
+                self.problem = problem_of(alloc, step.text())?;
+                Ok(self.problem.is_some())
+            }
+            "evidence" => {
+                self.evidence = Vec::from_slice(alloc, step.text())?;
+                Ok(true)
+            }
+            _ => {
+                let Some(problem) = &self.problem else {
+                    return Ok(false);
+                };
+                let evidence = self.evidence.as_slice();
+                if call_text(problem, evidence, alloc, step, out)? {
+                    return Ok(true);
+                }
+                call_records(problem, &mut self.draft, &mut self.kept, alloc, step, out)
+            }
+        }
+    }
+}
+
+/// Makes a call that is about records.
+fn call_records(
+    problem: &Problem,
+    draft: &mut Draft,
+    kept: &mut Records,
+    alloc: Global,
+    step: &Step<'_>,
+    out: &mut String,
+) -> Result<bool, AllocError> {
+    match step.word(0) {
+        "check" | "keep" => {
+            let whole = mem::replace(draft, Draft::new(alloc));
+            let Some(record) = whole.finish(alloc)? else {
+                return Ok(false);
+            };
+            if step.word(0) == "check" {
+                return check_one(problem, &record, alloc, out);
+            }
+            kept.push(record)?;
+            Ok(true)
+        }
+        "check_kept" => check_kept(problem, kept, alloc, out),
+        _ => call_draft(draft, problem, alloc, step),
+    }
+}

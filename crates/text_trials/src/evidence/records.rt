@@ -1,0 +1,94 @@
+//! Records are checked.
+ghost use Rattle.std.specs.Prelude.{◌≡◌, All, IsTrue, List, Bool, length};
+ghost use Rattle.evidence_rec.specs.Basis.{basis_of};
+ghost use Rattle.evidence_rec.specs.Records.{IsShaped};
+
+use crate::shown::show;
+use evidence_rec::{Record, RecordChecker, Records, Verdict, Witnesses, check_record};
+use gm_base::Problem;
+use std::alloc::{AllocError, Global};
+
+/// Checks a record by a checker of its own, and tells the verdict.
+pub fn check_one(
+    problem: &Problem,
+    record: &Record,
+    alloc: Global,
+    out: &mut String,
+) -> Result<bool, AllocError> {
+    if !is_shaped(problem, record) {
+        return show("has another shape", out);
+    }
+    match check_record(alloc, problem, record)? {
+        Verdict::Ok => show("accepted", out),
+        Verdict::Refused { part, why } => {
+            let number = why.number();
+            writeln!(out, "refused {number} at its line {part}")?;
+            Ok(true)
+        }
+    }
+}
+
+/// Checks all records by one checker, in their order, and tells which are accepted.
+pub fn check_kept(
+    problem: &Problem,
+    kept: &Records,
+    alloc: Global,
+    out: &mut String,
+) -> Result<bool, AllocError> {
+    let mut checker = RecordChecker::new(alloc, problem)?;
+    for record in kept.as_slice() {
+        check_next(&mut checker, problem, record, alloc, out)?;
+    }
+    Ok(true)
+}
+
+fn check_next(
+    checker: &mut RecordChecker,
+    problem: &Problem,
+    record: &Record,
+    alloc: Global,
+    out: &mut String,
+) -> Result<bool, AllocError>
+    requires { checker.old ≡ basis_of problem.now }
+    ensures { checker.new ≡ checker.old }
+{
+    if !is_shaped(problem, record) {
+        return show("has another shape", out);
+    }
+    let verdict = checker.check(alloc, problem, record)?;
+    show(
+        if verdict.is_ok() {
+            "accepted"
+        } else {
+            "refused"
+        },
+        out,
+    )
+}
+
+/// Whether the record has evidence for each of its groups, and assignments to the problem's variables.
+fn is_shaped(problem: &Problem, record: &Record) -> bool
+    ensures { IsTrue result → IsShaped problem.now «record».now }
+{
+    match record {
+        Record::Conflict { set, witnesses, .. } => {
+            witnesses.len() == set.len() && have_len(problem.vars(), witnesses)
+        }
+        Record::Correction {
+            set,
+            witness,
+            proofs,
+        } => witness.len() == problem.vars() as usize && proofs.len() == set.len(),
+    }
+}
+
+fn have_len(vars: u32, witnesses: &Witnesses) -> bool
+    ensures { IsTrue result → All (λ (w : List Bool). length w ≡ vars) witnesses.now }
+{
+    for at in 0..witnesses.len() {
+        if witnesses.at(at).len() != vars as usize {
+            return false;
+        }
+    }
+    true
+}

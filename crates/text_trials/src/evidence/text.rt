@@ -1,0 +1,132 @@
+//! Calls that are about a text of evidence.
+use crate::evidence::reading::{Outcome, read_and_write};
+use crate::numbers::amount;
+use crate::shown::show;
+use evidence_rec::Records;
+use evidence_text::{EvidenceReader, Offence};
+use gm_audit::{Audited, audit};
+use gm_base::{Kind, Problem};
+use lrat_check::{Counts, Why};
+use std::alloc::{AllocError, Global};
+use trial_script::Step;
+
+/// Makes a call that is about a text, if it is one.
+pub fn call_text(
+    problem: &Problem,
+    evidence: &[u8],
+    alloc: Global,
+    step: &Step<'_>,
+    out: &mut String,
+) -> Result<bool, AllocError> {
+    if !matches!(step.word(0), "read" | "head" | "audit") {
+        return Ok(false);
+    }
+    let text = text_of(alloc, evidence, step)?;
+    match step.word(0) {
+        "read" => show_reading(problem, alloc, text.as_slice(), out),
+        "head" => show_head(problem, text.as_slice(), out),
+        _ => show_audit(problem, alloc, text.as_slice(), out),
+    }
+}
+
+/// The text of the call; with two numbers the evidence, where that text replaces the lines from the first to the second. If
+/// the second is below the first, none is left out.
+fn text_of(alloc: Global, evidence: &[u8], step: &Step<'_>) -> Result<Vec<u8>, AllocError> {
+    let (Some(first), Some(last)) = (amount(step, 1), amount(step, 2)) else {
+        return Vec::from_slice(alloc, step.text());
+    };
+    let mut text = Vec::new(alloc);
+    let mut line: u64 = 1;
+    let mut begins = true;
+    for byte in evidence {
+        if begins && line == first {
+            text.extend_from_slice(step.text())?;
+        }
+        if line < first || line > last {
+            text.push(*byte)?;
+        }
+        begins = *byte == b'\n';
+        if begins {
+            line = line.saturating_add(1);
+        }
+    }
+    Ok(text)
+}
+
+/// Tells whether the text is written as it was read, or what is wrong with it.
+fn show_reading(
+    problem: &Problem,
+    alloc: Global,
+    text: &[u8],
+    out: &mut String,
+) -> Result<bool, AllocError> {
+    let mut written = Vec::new(alloc);
+    match read_and_write(problem, alloc, text, &mut written)? {
+        Outcome::Whole if written.as_slice() == text => show("written as it was", out),
+        Outcome::Whole => show("written otherwise", out),
+        Outcome::Refused(offence) => show_offence(offence, out),
+        Outcome::Changed => show("refused, and otherwise when it was asked again", out),
+        Outcome::Endless => show("more records than bytes", out),
+    }
+}
+
+/// Tells what the head is answered with, twice.
+fn show_head(problem: &Problem, text: &[u8], out: &mut String) -> Result<bool, AllocError> {
+    let mut reader = EvidenceReader::new(problem, text);
+    for _ in 0..2u8 {
+        match reader.head() {
+            Ok(()) => show("read", out)?,
+            Err(offence) => show_offence(offence, out)?,
+        };
+    }
+    Ok(true)
+}
+
+/// Tells how many conflicts and corrections the evidence shows, and whether it says that they are all, or what it is
+/// refused for.
+fn show_audit(
+    problem: &Problem,
+    alloc: Global,
+    text: &[u8],
+    out: &mut String,
+) -> Result<bool, AllocError> {
+    match audit(alloc, problem, text)? {
+        Audited::Yes { complete, records } => {
+            let conflicts = count_of(&records, Kind::Conflict);
+            let corrections = count_of(&records, Kind::Correction);
+            out.push_str(if complete { "complete" } else { "partial" })?;
+            writeln!(out, ", {conflicts} conflicts, {corrections} corrections")?;
+            Ok(true)
+        }
+        Audited::No { line, why } => show_offence(Offence { line, why }, out),
+    }
+}
+
+fn count_of(records: &Records, kind: Kind) -> usize {
+    records
+        .as_slice()
+        .iter()
+        .filter(|record| record.kind() == kind)
+        .count()
+}
+
+fn show_offence(offence: Offence, out: &mut String) -> Result<bool, AllocError> {
+    let (number, line) = (offence.why.number(), offence.line);
+    write!(out, "refused {number} at line {line}")?;
+    if let Why::OtherProblem(mismatch) = offence.why {
+        out.push_str(": of")?;
+        push_counts(mismatch.text, out)?;
+        out.push_str(" and not of")?;
+        push_counts(mismatch.problem, out)?;
+    }
+    show("", out)
+}
+
+fn push_counts(counts: Counts, out: &mut String) -> Result<(), AllocError> {
+    let Counts {
+        vars,
+        groups,
+        clauses,
+    } = counts;
+    write!(out, " {vars} variables {groups} groups {clauses} clauses")
+}

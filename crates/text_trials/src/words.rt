@@ -1,0 +1,77 @@
+//! The player of command lines.
+//!
+//! ```text
+//! ask list|f|--jobs|2|     the words after the program's name, each with `|` behind it, are read
+//! = list "f" jobs 2 conflicts 18446744073709551615 limit 1000000000
+//! ```
+//!
+//! A listing is told with each of its numbers, and with `evidence` and `resume` where it has them, a checking as
+//! `check "f" "e"`, and a drilling as `drill 7 12 jobs 1`. A wrong command line is told as `wrong`.
+use gm_words::{Listing, Request, read_words};
+use std::alloc::{AllocError, Global};
+use trial_script::{Player, Step};
+
+/// Reads the words of command lines.
+#[derive(Drop)]
+pub struct WordsPlayer;
+
+impl Player for WordsPlayer {
+    fn begin(&mut self, _alloc: Global) -> Result<(), AllocError> {
+        Ok(())
+    }
+
+    fn call(
+        &mut self,
+        alloc: Global,
+        step: &Step<'_>,
+        out: &mut String,
+    ) -> Result<bool, AllocError> {
+        let Some(words) = step.line().strip_prefix("ask") else {
+            return Ok(false);
+        };
+        ask(alloc, words.strip_prefix(" ").unwrap_or(""), out)?;
+        Ok(true)
+    }
+}
+
+/// Tells what the words ask for.
+fn ask(alloc: Global, line: &str, out: &mut String) -> Result<(), AllocError> {
+    let words = split(alloc, line)?;
+    match read_words(alloc, words.as_slice())? {
+        Some(Request::List(listing)) => show_listing(&listing, out),
+        Some(Request::Check(checking)) => {
+            let (file, evidence) = (checking.file, checking.evidence);
+            writeln!(out, "check \"{file}\" \"{evidence}\"")
+        }
+        Some(Request::Drill(drilling)) => {
+            let (seed, size, jobs) = (drilling.seed, drilling.size, drilling.jobs);
+            writeln!(out, "drill {seed} {size} jobs {jobs}")
+        }
+        None => out.push_str("wrong\n"),
+    }
+}
+
+/// The words of a line, each ended by `|`.
+fn split(alloc: Global, line: &str) -> Result<Vec<String>, AllocError> {
+    let mut words = Vec::new(alloc);
+    for word in line.split_terminator('|') {
+        words.push(String::from_str(alloc, word)?)?;
+    }
+    Ok(words)
+}
+
+fn show_listing(listing: &Listing<'_>, out: &mut String) -> Result<(), AllocError> {
+    let (file, jobs) = (listing.file, listing.jobs);
+    let (conflicts, limit) = (listing.conflicts, listing.limit);
+    write!(
+        out,
+        "list \"{file}\" jobs {jobs} conflicts {conflicts} limit {limit}"
+    )?;
+    if let Some(evidence) = listing.evidence {
+        write!(out, " evidence \"{evidence}\"")?;
+    }
+    if let Some(resume) = listing.resume {
+        write!(out, " resume \"{resume}\"")?;
+    }
+    out.push_str("\n")
+}
