@@ -30,8 +30,6 @@ mod oracle;
 mod record;
 mod refutation;
 mod selectors;
-#[cfg(test)]
-mod tests;
 mod witnessing;
 
 pub use blocks::block_lits;

@@ -49,8 +49,6 @@ mod proof;
 mod reader;
 mod record;
 mod scan;
-#[cfg(test)]
-mod tests;
 mod words;
 mod writing;
 

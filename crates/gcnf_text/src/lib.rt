@@ -43,6 +43,3 @@ pub use chain::make_case;
 pub use offence::{Limit, Offence};
 pub use plain::write_gcnf;
 pub use reader::{MAX_BYTES, Read, read_gcnf};
-
-#[cfg(test)]
-mod tests;

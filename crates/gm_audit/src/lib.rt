@@ -22,8 +22,6 @@ mod auditor;
 mod closing;
 pub mod laws;
 mod seen;
-#[cfg(test)]
-mod tests;
 
 pub use answer::Audited;
 pub use auditing::audit;

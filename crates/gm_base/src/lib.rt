@@ -27,8 +27,6 @@ pub mod laws;
 mod problem;
 mod selectors;
 mod sets;
-#[cfg(test)]
-mod tests;
 
 pub use clause::{Clause, Clauses};
 pub use group_set::GroupSet;

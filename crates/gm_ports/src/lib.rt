@@ -1,4 +1,4 @@
-//! What a program reads and writes through, as two traits, and the same in memory for its tests.
+//! What a program reads and writes through, as two traits, and the same in memory, to try it on.
 //!
 //! `Files` opens one named file for reading and one for writing; `Sink` takes bytes in order. Both count their faults,
 //! and a call fails only where its count rose, so a caller that answers a fault can show that there was one.
@@ -31,8 +31,6 @@ mod rooms;
 mod schedule;
 mod sink;
 mod sure_files;
-#[cfg(test)]
-mod tests;
 mod texts;
 mod whole;
 

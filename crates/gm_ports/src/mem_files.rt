@@ -1,6 +1,6 @@
 //! Files in memory.
 //!
-//! A test says what is held at first, which names may be written and how far, how many bytes a call moves at most, and
+//! A trial says what is held at first, which names may be written and how far, how many bytes a call moves at most, and
 //! which calls fail. All memory is taken when the object is made: each name that may be written has its whole room from
 //! then on, and no call moves a file. So a place in the list of files stays that file's place, and the opened input and
 //! output are places.

@@ -1,4 +1,5 @@
-use super::{Checking, Drilling, Listing, Request, read_words};
+//! Wrong lines, and that clap finds a fault in each of them. What they and others are read as is tried by the script `words`
+//! of text_trials, which has the same lines.
 use crate::command::gmus_command;
 use std::alloc::Global;
 use std::test::Fail;
@@ -10,218 +11,6 @@ fn split(alloc: Global, line: &str) -> Result<Vec<String>, Fail> {
         words.push(String::from_str(alloc, word)?)?;
     }
     Ok(words)
-}
-
-/// `list` of a file, with no option.
-fn plain(file: &str) -> Listing<'_> {
-    Listing {
-        file,
-        jobs: 1,
-        conflicts: u64::MAX,
-        limit: 1_000_000_000,
-        evidence: None,
-        resume: None,
-    }
-}
-
-#[test]
-fn a_listing_has_one_name(rt: HostRuntime) -> Result<(), Fail> {
-    let rows = [
-        ("list|f|", "f"),
-        ("list||", ""),
-        ("list|-|", "-"),
-        ("list|help|", "help"),
-        ("list|list|", "list"),
-        ("list|--|f|", "f"),
-        ("list|f|--|", "f"),
-        ("list|--|-x|", "-x"),
-        ("list|--|--|", "--"),
-        ("list|--|--help|", "--help"),
-        ("list|--|--limit|", "--limit"),
-        ("list|--|--limit=5|", "--limit=5"),
-        ("list|a b|", "a b"),
-        ("list|\u{e4}|", "\u{e4}"),
-    ];
-    for (line, file) in rows {
-        let words = split(rt.alloc(), line)?;
-        let Ok(Some(Request::List(listing))) = read_words(rt.alloc(), words.as_slice()) else {
-            return Err(Fail::from("no listing"));
-        };
-        assert!(rt; listing == plain(file), "{line}");
-    }
-    Ok(())
-}
-
-#[test]
-fn numbers_are_read_before_and_behind_the_name(rt: HostRuntime) -> Result<(), Fail> {
-    let rows = [
-        ("list|f|--conflicts|0|", 0, 1_000_000_000),
-        ("list|f|--conflicts=0|", 0, 1_000_000_000),
-        ("list|f|--conflicts|+5|", 5, 1_000_000_000),
-        ("list|f|--conflicts=+5|", 5, 1_000_000_000),
-        ("list|f|--conflicts|007|", 7, 1_000_000_000),
-        ("list|f|--limit|1|", u64::MAX, 1),
-        ("list|f|--limit=1000000000|", u64::MAX, 1_000_000_000),
-        (
-            "list|f|--limit|000000000001000000000|",
-            u64::MAX,
-            1_000_000_000,
-        ),
-        ("list|--limit|5|f|", u64::MAX, 5),
-        ("list|--limit=5|--|f|", u64::MAX, 5),
-        ("list|f|--limit|5|--|", u64::MAX, 5),
-        (
-            "list|f|--limit|5|--conflicts|18446744073709551615|",
-            u64::MAX,
-            5,
-        ),
-        ("list|--conflicts|3|f|--limit|4|", 3, 4),
-        ("list|--limit=4|--conflicts=3|f|", 3, 4),
-    ];
-    for (line, conflicts, limit) in rows {
-        let words = split(rt.alloc(), line)?;
-        let Ok(Some(Request::List(listing))) = read_words(rt.alloc(), words.as_slice()) else {
-            return Err(Fail::from("no listing"));
-        };
-        let wanted = Listing {
-            conflicts,
-            limit,
-            ..plain("f")
-        };
-        assert!(rt; listing == wanted, "{line}");
-    }
-    Ok(())
-}
-
-#[test]
-fn evidence_is_asked_for_by_a_name(rt: HostRuntime) -> Result<(), Fail> {
-    let rows = [
-        ("list|f|--evidence|e|", "e"),
-        ("list|f|--evidence=e|", "e"),
-        ("list|--evidence|e|f|", "e"),
-        ("list|--evidence=e|--|f|", "e"),
-        ("list|f|--evidence|f|", "f"),
-        ("list|f|--evidence||", ""),
-        ("list|f|--evidence=|", ""),
-        ("list|f|--evidence|-|", "-"),
-        ("list|f|--evidence=-x|", "-x"),
-        ("list|f|--evidence=--limit=5|", "--limit=5"),
-        ("list|f|--evidence==|", "="),
-        ("list|f|--evidence|list|", "list"),
-    ];
-    for (line, evidence) in rows {
-        let words = split(rt.alloc(), line)?;
-        let Ok(Some(Request::List(listing))) = read_words(rt.alloc(), words.as_slice()) else {
-            return Err(Fail::from("no listing"));
-        };
-        let wanted = Listing {
-            evidence: Some(evidence),
-            ..plain("f")
-        };
-        assert!(rt; listing == wanted, "{line}");
-    }
-    Ok(())
-}
-
-#[test]
-fn a_listing_goes_on_from_a_name(rt: HostRuntime) -> Result<(), Fail> {
-    let rows = [
-        ("list|f|--resume|a|", "a", None),
-        ("list|--resume=a|f|", "a", None),
-        ("list|f|--resume||", "", None),
-        ("list|f|--resume=-x|", "-x", None),
-        ("list|f|--resume|-|", "-", None),
-        ("list|f|--resume|a|--evidence|a|", "a", Some("a")),
-        ("list|--evidence=b|--resume|a|f|", "a", Some("b")),
-    ];
-    for (line, resume, evidence) in rows {
-        let words = split(rt.alloc(), line)?;
-        let Ok(Some(Request::List(listing))) = read_words(rt.alloc(), words.as_slice()) else {
-            return Err(Fail::from("no listing"));
-        };
-        let wanted = Listing {
-            evidence,
-            resume: Some(resume),
-            ..plain("f")
-        };
-        assert!(rt; listing == wanted, "{line}");
-    }
-    Ok(())
-}
-
-#[test]
-fn a_listing_has_workers(rt: HostRuntime) -> Result<(), Fail> {
-    let rows = [
-        ("list|f|--jobs|1|", 1),
-        ("list|f|--jobs|2|", 2),
-        ("list|--jobs=64|f|", 64),
-        ("list|f|--jobs|+04|", 4),
-    ];
-    for (line, jobs) in rows {
-        let words = split(rt.alloc(), line)?;
-        let Ok(Some(Request::List(listing))) = read_words(rt.alloc(), words.as_slice()) else {
-            return Err(Fail::from("no listing"));
-        };
-        let wanted = Listing { jobs, ..plain("f") };
-        assert!(rt; listing == wanted, "{line}");
-    }
-    Ok(())
-}
-
-#[test]
-fn a_checking_has_two_names(rt: HostRuntime) -> Result<(), Fail> {
-    let rows = [
-        ("check|f|e|", "f", "e"),
-        ("check|f|f|", "f", "f"),
-        ("check||-|", "", "-"),
-        ("check|--|-f|-e|", "-f", "-e"),
-        ("check|f|--|--limit|", "f", "--limit"),
-        ("check|list|check|", "list", "check"),
-    ];
-    for (line, file, evidence) in rows {
-        let words = split(rt.alloc(), line)?;
-        let Ok(Some(Request::Check(checking))) = read_words(rt.alloc(), words.as_slice()) else {
-            return Err(Fail::from("no checking"));
-        };
-        assert!(rt; checking == Checking { file, evidence }, "{line}");
-    }
-    Ok(())
-}
-
-#[test]
-fn a_drilling_has_two_numbers(rt: HostRuntime) -> Result<(), Fail> {
-    let rows = [
-        ("drill|7|12|", 7, 12, 1),
-        ("drill|0|1|", 0, 1, 1),
-        ("drill|18446744073709551615|1000|", u64::MAX, 1000, 1),
-        ("drill|+7|012|", 7, 12, 1),
-        ("drill|7|12|--jobs|4|", 7, 12, 4),
-        ("drill|7|--jobs=64|12|", 7, 12, 64),
-        ("drill|--jobs|2|7|12|", 7, 12, 2),
-        ("drill|--jobs=2|--|7|12|", 7, 12, 2),
-    ];
-    for (line, seed, size, jobs) in rows {
-        let words = split(rt.alloc(), line)?;
-        let Ok(Some(Request::Drill(drilling))) = read_words(rt.alloc(), words.as_slice()) else {
-            return Err(Fail::from("no drilling"));
-        };
-        assert!(rt; drilling == Drilling { seed, size, jobs }, "{line}");
-    }
-    Ok(())
-}
-
-/// The first of the lines that is not wrong.
-fn first_read<'a>(alloc: Global, lines: &[&'a str]) -> Result<Option<&'a str>, Fail> {
-    for line in lines {
-        let words = split(alloc, line)?;
-        let Ok(request) = read_words(alloc, words.as_slice()) else {
-            return Err(Fail::from("no memory"));
-        };
-        if request.is_some() {
-            return Ok(Some(*line));
-        }
-    }
-    Ok(None)
 }
 
 const OTHER: [&str; 43] = [
@@ -270,12 +59,6 @@ const OTHER: [&str; 43] = [
     "list|--limit|f|",
 ];
 
-#[test]
-fn other_lines_are_wrong(rt: HostRuntime) -> Result<(), Fail> {
-    assert_eq!(rt; first_read(rt.alloc(), &OTHER)?, None);
-    Ok(())
-}
-
 const UNKNOWN: [&str; 19] = [
     "list|f|--conflict|1|",
     "list|f|--conflict=1|",
@@ -297,12 +80,6 @@ const UNKNOWN: [&str; 19] = [
     "check|f|e|--resume|a|",
     "drill|7|12|--seed|7|",
 ];
-
-#[test]
-fn options_that_are_not_known_are_wrong(rt: HostRuntime) -> Result<(), Fail> {
-    assert_eq!(rt; first_read(rt.alloc(), &UNKNOWN)?, None);
-    Ok(())
-}
 
 const VALUES: [&str; 38] = [
     "list|f|--jobs|0|",
@@ -345,12 +122,6 @@ const VALUES: [&str; 38] = [
     "drill|7|12|--jobs|65|",
 ];
 
-#[test]
-fn values_that_are_no_number_in_the_range_are_wrong(rt: HostRuntime) -> Result<(), Fail> {
-    assert_eq!(rt; first_read(rt.alloc(), &VALUES)?, None);
-    Ok(())
-}
-
 const REPEATED: [&str; 23] = [
     "list|f|--jobs|",
     "list|f|--jobs|--|4|",
@@ -376,12 +147,6 @@ const REPEATED: [&str; 23] = [
     "drill|7|12|--jobs|",
     "drill|7|12|--jobs|2|--jobs|2|",
 ];
-
-#[test]
-fn an_option_has_one_value_and_is_given_once(rt: HostRuntime) -> Result<(), Fail> {
-    assert_eq!(rt; first_read(rt.alloc(), &REPEATED)?, None);
-    Ok(())
-}
 
 /// The first of the lines in which clap finds no fault.
 fn first_without_fault<'a>(alloc: Global, lines: &[&'a str]) -> Result<Option<&'a str>, Fail> {

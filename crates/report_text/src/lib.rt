@@ -16,8 +16,6 @@
 #![tactic(auto)]
 
 mod order;
-#[cfg(test)]
-mod tests;
 mod text;
 
 pub use text::report;

@@ -30,8 +30,6 @@ mod lit;
 mod purse;
 mod row;
 mod steps;
-#[cfg(test)]
-mod tests;
 mod worklist;
 
 pub use assign::{Assign, AssignBuilder};

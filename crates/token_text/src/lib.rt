@@ -30,6 +30,3 @@ mod tokens;
 pub use answer::{Answer, Found};
 pub use digits::put_number;
 pub use tokens::Tokens;
-
-#[cfg(test)]
-mod tests;
