@@ -8,6 +8,7 @@ pub mod SetLemmas
 pub mod ProofLemmas
 pub mod GroupLemmas
 pub mod TextLemmas
+pub mod PuttingLemmas
 pub mod WordsLemmas
 pub mod StandsLemmas
 pub mod WordsBackLemmas

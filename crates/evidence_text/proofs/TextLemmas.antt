@@ -3,7 +3,7 @@ use Rattle.std.proofs.Common.{◌≡◌, ℕ, ◌+◌, ◌<◌, Bool, true, fals
 use Rattle.std.specs.Prelude.{codes, slice_get}
 use Rattle.std.specs.List.{flat_map}
 use Rattle.std.specs.Fmt.{decimal, signed_decimal}
-use Rattle.std.proofs.lemmas.List.{take_more, length-take, map_push, append-nil}
+use Rattle.std.proofs.lemmas.List.{take_more, length-take, append-nil}
 use Rattle.std.proofs.lemmas.Bool.{cases_lt}
 use Rattle.std.proofs.lemmas.Option.{slice_get_within, get_or_from_slice_get}
 use Rattle.std.proofs.lemmas.List.Concat.{flat_map-append, flat_map-cons}
@@ -98,42 +98,16 @@ trues-step out w at h =
 pub text_of-append : (xs ys : List Line) → text_of (xs ++ ys) ≡ text_of xs ++ text_of ys
 text_of-append xs ys = flat_map-append line_text xs ys
 
--- one step further
-pub steps-further : (out old : List ℕ) (steps : List Step) (i : ℕ) (s : Step) → slice_get steps i ≡ Some s
-    → old ≡ out ++ text_of (map step_line (take i steps)) → old ++ line_text (step_line s) ≡ out ++ text_of (map step_line (take (i + 1) steps))
-steps-further out old steps i s here so_far =
-    ap (λ t. t ++ line_text (step_line s)) so_far
-    ∙ append_assoc out (text_of (map step_line (take i steps))) (line_text (step_line s))
-    ∙ ap (λ t. out ++ t) further
-  where
-    lt : i < length steps
-    lt = slice_get_within steps i s here
-
-    further : text_of (map step_line (take i steps)) ++ line_text (step_line s) ≡ text_of (map step_line (take (i + 1) steps))
-    further =
-        sym (ap (λ ss. text_of (map step_line ss)) (take_more steps i s lt ∙ ap (λ x. take i steps ++ x ∷ []) (get_or_from_slice_get steps i s s here))
-        ∙ ap text_of (map_push step_line (take i steps) s)
-        ∙ text_of-append (map step_line (take i steps)) (step_line s ∷ [])
-        ∙ ap (λ t. text_of (map step_line (take i steps)) ++ t) (append-nil (line_text (step_line s))))
-
-drop-get : {X : Type 0} (xs : List X) (i : ℕ) (x : X) → slice_get xs i ≡ Some x → drop i xs ≡ x ∷ drop (i + 1) xs
+-- what stands from a place on
+pub drop-get : {X : Type 0} (xs : List X) (i : ℕ) (x : X) → slice_get xs i ≡ Some x → drop i xs ≡ x ∷ drop (i + 1) xs
 drop-get xs i x here =
     let lt = slice_get_within xs i x here in
     rw (add-one, drop-cons xs i x) (ap (λ y. y ∷ drop (suc i) xs) (get_or_from_slice_get xs i x x here))
 
-drop-number : (groups : List ℕ) (i : ℕ) → i < length groups → drop i groups ≡ get_or groups i 0 ∷ drop (i + 1) groups
+pub drop-number : (groups : List ℕ) (i : ℕ) → i < length groups → drop i groups ≡ get_or groups i 0 ∷ drop (i + 1) groups
 drop-number groups i h = rw (add-one, drop-cons groups i 0)
 
--- one witness further
-pub witnesses-further : (old total groups : List ℕ) (ws : List (List Bool)) (i : ℕ) (w : List Bool) → i < length groups → slice_get ws i ≡ Some w
-    → old ++ text_of (witnesses_lines (drop i groups) (drop i ws)) ≡ total
-    → (old ++ line_text (witness_line (get_or groups i 0) w)) ++ text_of (witnesses_lines (drop (i + 1) groups) (drop (i + 1) ws)) ≡ total
-witnesses-further old total groups ws i w h here so_far =
-    append_assoc old (line_text (witness_line (get_or groups i 0) w)) (text_of (witnesses_lines (drop (i + 1) groups) (drop (i + 1) ws)))
-    ∙ sym (ap (λ gs. old ++ text_of (witnesses_lines gs (drop i ws))) (drop-number groups i h)
-    ∙ ap (λ vs. old ++ text_of (witnesses_lines (get_or groups i 0 ∷ drop (i + 1) groups) vs)) (drop-get ws i w here))
-    ∙ so_far
-
+-- nothing is left to write
 no_witnesses : (gs : List ℕ) (ws : List (List Bool)) → (length gs ≡ 0) ⊎ (length ws ≡ 0) → witnesses_lines gs ws ≡ []
 no_witnesses [] ws h = refl
 no_witnesses (g ∷ gs) [] h = refl
@@ -150,17 +124,6 @@ witnesses-over old total groups ws i h so_far =
       | inl lt ↦ inr (omega (arith, length-drop i ws, lt, h))
       | inr le ↦ inl (omega (arith, length-drop i groups, le))
     ]
-
--- one refutation further
-pub refutations-further : (old total groups : List ℕ) (ds : List Derivation) (i : ℕ) (d : Derivation) → i < length groups → slice_get ds i ≡ Some d
-    → old ++ text_of (refutations_lines (drop i groups) (drop i ds)) ≡ total
-    → (old ++ text_of (refutation_lines (get_or groups i 0) d)) ++ text_of (refutations_lines (drop (i + 1) groups) (drop (i + 1) ds)) ≡ total
-refutations-further old total groups ds i d h here so_far =
-    append_assoc old (text_of (refutation_lines (get_or groups i 0) d)) (text_of (refutations_lines (drop (i + 1) groups) (drop (i + 1) ds)))
-    ∙ ap (λ t. old ++ t) (sym (text_of-append (refutation_lines (get_or groups i 0) d) (refutations_lines (drop (i + 1) groups) (drop (i + 1) ds))))
-    ∙ sym (ap (λ gs. old ++ text_of (refutations_lines gs (drop i ds))) (drop-number groups i h)
-    ∙ ap (λ vs. old ++ text_of (refutations_lines (get_or groups i 0 ∷ drop (i + 1) groups) vs)) (drop-get ds i d here))
-    ∙ so_far
 
 no_refutations : (gs : List ℕ) (ds : List Derivation) → (length gs ≡ 0) ⊎ (length ds ≡ 0) → refutations_lines gs ds ≡ []
 no_refutations [] ds h = refl

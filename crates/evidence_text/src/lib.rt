@@ -16,9 +16,9 @@
 //! e complete
 //! ```
 //!
-//! [`write_head`], [`write_record`] and [`write_end`] append to a text; for who has no room for a whole record there is a
-//! call for each of its lines, as [`write_set`] and [`write_step`]. An [`EvidenceReader`] goes over a text once, and answers
-//! a record at a time:
+//! [`write_head`], [`write_record`] and [`write_end`] append to a text; who has no room for a whole record calls
+//! [`put_record`] or [`put_evidence`] with a [`LineSink`], which takes the lines out of a buffer as they come. An
+//! [`EvidenceReader`] goes over a text once, and answers a record at a time:
 //!
 //! ```text
 //! let mut reader = EvidenceReader::new(&problem, text);
@@ -43,20 +43,23 @@ mod fitting;
 mod goal;
 mod head;
 pub mod laws;
+mod line_sink;
 mod lines;
 mod offence;
 mod proof;
+mod putting;
 mod reader;
 mod record;
 mod scan;
+mod whole;
 mod words;
 mod writing;
 
 pub use answer::Answer;
 pub use fitting::{problem_fits, record_fits};
+pub use line_sink::{LineSink, PutError};
 pub use offence::Offence;
+pub use putting::{put_evidence, put_record};
 pub use reader::EvidenceReader;
-pub use writing::{
-    write_complete, write_end, write_exhaustion, write_goal, write_head, write_partial,
-    write_record, write_set, write_step, write_witness,
-};
+pub use whole::{write_end, write_record};
+pub use writing::write_head;

@@ -1,15 +1,12 @@
-//! What is written.
+//! The lines of a text, each appended to what stands before it.
 //!
-//! A record and an end can be written whole, or line by line into a buffer that is emptied between two lines: the lines of
-//! a record are those of `record_lines` in `specs/Text.antt`, and those of an end of `end_lines`.
-ghost use Rattle.std.specs.Prelude.{◌≡◌, ◌+◌, ◌<◌, [], ◌∷◌, ◌++◌, false, codes, if◌then◌else◌, length, map, slice_index_or, OnOk};
+//! What a line is made of, `specs/Text.antt` says. Where memory is wanting, a part of the line may stand there.
+ghost use Rattle.std.specs.Prelude.{◌≡◌, ◌+◌, ◌<◌, [], ◌∷◌, ◌++◌, false, codes, if◌then◌else◌, length, slice_index_or, OnOk};
 ghost use Rattle.std.specs.List.{flat_map};
 ghost use Rattle.std.specs.Fmt.{decimal, signed_decimal};
-ghost use Rattle.std.specs.Option.{option_map};
-ghost use Rattle.evidence_text.specs.Text.{line_text, head_text, record_text, end_text, set_line, step_line, goal_line, witness_line, exhaustion_line, end_line, set_letter, text_of, refutation_lines, refutations_lines, witnesses_lines, trues_from};
+ghost use Rattle.evidence_text.specs.Text.{line_text, head_text, set_line, step_line, goal_line, witness_line, exhaustion_line, end_line, set_letter, trues_from};
 
-use evidence_rec::{Proofs, Record, Witnesses};
-use gm_base::{Assign, Derivation, GroupSet, Kind, Lit, Problem, Step};
+use gm_base::{Assign, GroupSet, Kind, Lit, Problem, Step};
 use std::alloc::AllocError;
 use token_text::put_number;
 
@@ -83,6 +80,17 @@ fn push_if_true(out: &mut Vec<u8>, witness: &Assign, at: usize) -> Result<(), Al
     }
 }
 
+/// Appends the head of a text about this problem.
+pub fn write_head(problem: &Problem, out: &mut Vec<u8>) -> Result<(), AllocError>
+    ensures { OnOk result (out.new.items ≡ out.old.items ++ head_text problem.now) }
+{
+    push_text(out, "p gmev 1")?;
+    push_number(out, u64::from(problem.vars()))?;
+    push_number(out, problem.len() as u64)?;
+    push_number(out, u64::from(problem.groups()))?;
+    push_text(out, "\n")
+}
+
 /// The letter of a kind.
 fn letter_of(kind: Kind) -> &'static str
     ensures { result.now ≡ set_letter kind }
@@ -104,14 +112,14 @@ fn write_groups(letter: &str, set: &GroupSet, out: &mut Vec<u8>) -> Result<(), A
 }
 
 /// Appends the line that begins a record: its kind and its set.
-pub fn write_set(kind: Kind, set: &GroupSet, out: &mut Vec<u8>) -> Result<(), AllocError>
+pub(crate) fn write_set(kind: Kind, set: &GroupSet, out: &mut Vec<u8>) -> Result<(), AllocError>
     ensures { OnOk result (out.new.items ≡ out.old.items ++ line_text (set_line (set_letter kind) set.now)) }
 {
     write_groups(letter_of(kind), set, out)
 }
 
 /// Appends the line of a step of a derivation.
-pub fn write_step(step: Step<'_>, out: &mut Vec<u8>) -> Result<(), AllocError>
+pub(crate) fn write_step(step: Step<'_>, out: &mut Vec<u8>) -> Result<(), AllocError>
     ensures { OnOk result (out.new.items ≡ out.old.items ++ line_text (step_line (record { id = step.entry.id; lits = step.entry.lits.now; hints = step.entry.hints.now }))) }
 {
     push_text(out, "d")?;
@@ -124,7 +132,7 @@ pub fn write_step(step: Step<'_>, out: &mut Vec<u8>) -> Result<(), AllocError>
 }
 
 /// Appends the line behind the steps of a refutation: the group it is for, 0 in a conflict, and the id of its goal.
-pub fn write_goal(group: u32, goal: u64, out: &mut Vec<u8>) -> Result<(), AllocError>
+pub(crate) fn write_goal(group: u32, goal: u64, out: &mut Vec<u8>) -> Result<(), AllocError>
     ensures { OnOk result (out.new.items ≡ out.old.items ++ line_text (goal_line group goal)) }
 {
     push_text(out, "r")?;
@@ -135,7 +143,11 @@ pub fn write_goal(group: u32, goal: u64, out: &mut Vec<u8>) -> Result<(), AllocE
 }
 
 /// Appends the line of a witness: the group it is for, 0 in a correction, and the variables that it makes true.
-pub fn write_witness(group: u32, witness: &Assign, out: &mut Vec<u8>) -> Result<(), AllocError>
+pub(crate) fn write_witness(
+    group: u32,
+    witness: &Assign,
+    out: &mut Vec<u8>,
+) -> Result<(), AllocError>
     ensures { OnOk result (out.new.items ≡ out.old.items ++ line_text (witness_line group witness.now)) }
 {
     push_text(out, "w")?;
@@ -146,7 +158,7 @@ pub fn write_witness(group: u32, witness: &Assign, out: &mut Vec<u8>) -> Result<
 }
 
 /// Appends the line behind the steps of the closing part: the id of the empty clause.
-pub fn write_exhaustion(id: u64, out: &mut Vec<u8>) -> Result<(), AllocError>
+pub(crate) fn write_exhaustion(id: u64, out: &mut Vec<u8>) -> Result<(), AllocError>
     ensures { OnOk result (out.new.items ≡ out.old.items ++ line_text (exhaustion_line id)) }
 {
     push_text(out, "x")?;
@@ -156,110 +168,15 @@ pub fn write_exhaustion(id: u64, out: &mut Vec<u8>) -> Result<(), AllocError>
 }
 
 /// Appends the last line of a text whose closing part is written.
-pub fn write_complete(out: &mut Vec<u8>) -> Result<(), AllocError>
+pub(crate) fn write_complete(out: &mut Vec<u8>) -> Result<(), AllocError>
     ensures { OnOk result (out.new.items ≡ out.old.items ++ line_text (end_line (codes "complete"))) }
 {
     push_text(out, "e complete\n")
 }
 
 /// Appends the last line of a text without a closing part.
-pub fn write_partial(out: &mut Vec<u8>) -> Result<(), AllocError>
+pub(crate) fn write_partial(out: &mut Vec<u8>) -> Result<(), AllocError>
     ensures { OnOk result (out.new.items ≡ out.old.items ++ line_text (end_line (codes "partial"))) }
 {
     push_text(out, "e partial\n")
-}
-
-/// The lines of steps.
-fn write_steps(proof: &Derivation, out: &mut Vec<u8>) -> Result<(), AllocError>
-    ensures { OnOk result (out.new.items ≡ out.old.items ++ text_of (map step_line proof.now.steps)) }
-{
-    for at in 0..proof.len() {
-        write_step(proof.step(at), out)?;
-    }
-    Ok(())
-}
-
-/// The lines of the refutation of a group.
-fn write_refutation(group: u32, proof: &Derivation, out: &mut Vec<u8>) -> Result<(), AllocError>
-    ensures { OnOk result (out.new.items ≡ out.old.items ++ text_of (refutation_lines group proof.now)) }
-{
-    write_steps(proof, out)?;
-    write_goal(group, proof.goal(), out)?;
-    Ok(())
-}
-
-/// Appends the head of a text about this problem.
-pub fn write_head(problem: &Problem, out: &mut Vec<u8>) -> Result<(), AllocError>
-    ensures { OnOk result (out.new.items ≡ out.old.items ++ head_text problem.now) }
-{
-    push_text(out, "p gmev 1")?;
-    push_number(out, u64::from(problem.vars()))?;
-    push_number(out, problem.len() as u64)?;
-    push_number(out, u64::from(problem.groups()))?;
-    push_text(out, "\n")
-}
-
-/// Appends a record. One item of evidence for each group of its set is written.
-pub fn write_record(r: &Record, out: &mut Vec<u8>) -> Result<(), AllocError>
-    ensures { OnOk result (out.new.items ≡ out.old.items ++ record_text r.now) }
-{
-    match r {
-        Record::Conflict {
-            set,
-            proof,
-            witnesses,
-        } => {
-            write_set(Kind::Conflict, set, out)?;
-            write_refutation(0, proof, out)?;
-            write_witnesses(set.as_slice(), witnesses, out)?;
-            Ok(())
-        },
-        Record::Correction {
-            set,
-            witness,
-            proofs,
-        } => {
-            write_set(Kind::Correction, set, out)?;
-            write_witness(0, witness, out)?;
-            write_refutations(set.as_slice(), proofs, out)?;
-            Ok(())
-        },
-    }
-}
-
-/// Of each group its witness.
-fn write_witnesses(
-    groups: &[u32],
-    witnesses: &Witnesses,
-    out: &mut Vec<u8>,
-) -> Result<(), AllocError>
-    ensures { OnOk result (out.new.items ≡ out.old.items ++ text_of (witnesses_lines groups.now witnesses.now)) }
-{
-    for at in 0..groups.len().min(witnesses.len()) {
-        write_witness(groups[at], witnesses.at(at), out)?;
-    }
-    Ok(())
-}
-
-/// Of each group its refutation.
-fn write_refutations(groups: &[u32], proofs: &Proofs, out: &mut Vec<u8>) -> Result<(), AllocError>
-    ensures { OnOk result (out.new.items ≡ out.old.items ++ text_of (refutations_lines groups.now proofs.now)) }
-{
-    for at in 0..groups.len().min(proofs.len()) {
-        write_refutation(groups[at], proofs.at(at), out)?;
-    }
-    Ok(())
-}
-
-/// Appends the closing part and the end, or that nothing is closed.
-pub fn write_end(closing: Option<&Derivation>, out: &mut Vec<u8>) -> Result<(), AllocError>
-    ensures { OnOk result (out.new.items ≡ out.old.items ++ end_text (option_map (λ d. d.now) closing.entry)) }
-{
-    let Some(closing) = closing else {
-        return write_partial(out);
-    };
-    write_steps(closing, out)?;
-    write_exhaustion(closing.goal(), out)?;
-    write_complete(out)?;
-    Ok(())
 }

@@ -1,5 +1,6 @@
 pub mod Refusals
 pub mod Writing
+pub mod Taking
 pub mod Lines
 pub mod Closed
 pub mod Endings

@@ -4,7 +4,8 @@ use Rattle.std.proofs.Math.Seq.{take-add}
 use Rattle.std.proofs.lemmas.List.{take_rest, length-drop, take-append-drop}
 use Rattle.gm_ports.specs.Told.{ToldAppends, ToldGrowsWithin}
 use Rattle.gm_ports.proofs.ToldLemmas.{ToldAppends-append}
-use Rattle.gm_tool.proofs.WritingLemmas.{writes-then, writes-call}
+use Rattle.gm_tool.specs.Taking.{writes-then}
+use Rattle.gm_tool.proofs.WritingLemmas.{writes-call}
 use Rattle.gm_tool.proofs.evidence_file.write_piece.Goals as goal
 
 -- what came before is a front part of the piece

@@ -1,7 +1,0 @@
-use Rattle.std.proofs.Common.{◌≡◌, ◌++◌, drop}
-use Rattle.evidence_text.specs.Text.{text_of, witnesses_lines}
-use Rattle.evidence_text.proofs.writing.write_witnesses.Given as goal
-
--- those of the groups so far were written
-abbrev pub invariant-loop-at : goal.invariant-loop-at
-invariant-loop-at l = l.out.items ++ text_of (witnesses_lines (drop l.at l.groups) (drop l.at l.witnesses)) ≡ l.fn.out.items ++ text_of (witnesses_lines l.groups l.witnesses)

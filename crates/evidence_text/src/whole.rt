@@ -1,0 +1,55 @@
+//! A text that is held whole: its sink takes nothing.
+ghost use Rattle.std.specs.Prelude.{◌≡◌, ℕ, [], ◌++◌, OnOk};
+ghost use Rattle.std.specs.Option.{option_map};
+ghost use Rattle.std.proofs.Common.{refl, ap, ◌∙◌};
+ghost use Rattle.evidence_text.specs.Text.{record_text, end_text};
+
+use crate::line_sink::{LineSink, PutError};
+use crate::putting::{put_end, put_record};
+use evidence_rec::Record;
+use gm_base::Derivation;
+use std::alloc::AllocError;
+use std::convert::Infallible;
+
+/// Takes nothing.
+#[derive(Drop)]
+struct Held;
+
+impl LineSink for Held {
+    type Error = Infallible;
+
+    ghost took = { λ old new bytes. bytes ≡ [] };
+
+    ghost stopped = { λ old new why bytes. ⊥ };
+
+    fn line(&mut self, _waiting: &mut Vec<u8>) -> Result<(), Infallible> {
+        Ok(())
+    }
+
+    ghost adds_up = { record { nothing = λ s. refl; more = λ a b c x y p q. ap (λ t. t ++ y) p ∙ q; last = λ a b c why x y p never. never } };
+}
+
+/// Appends a record. One item of evidence for each group of its set is written.
+pub fn write_record(r: &Record, out: &mut Vec<u8>) -> Result<(), AllocError>
+    ensures { OnOk result (out.new.items ≡ out.old.items ++ record_text r.now) }
+{
+    whole_or_none(put_record(r, &mut Held, out))
+}
+
+/// Appends the closing part and the end, or that nothing is closed.
+pub fn write_end(closing: Option<&Derivation>, out: &mut Vec<u8>) -> Result<(), AllocError>
+    ensures { OnOk result (out.new.items ≡ out.old.items ++ end_text (option_map (λ d. d.now) closing.entry)) }
+{
+    whole_or_none(put_end(closing, &mut Held, out))
+}
+
+/// Whether there was memory for all lines.
+fn whole_or_none(put: Result<(), PutError<Infallible>>) -> Result<(), AllocError>
+    ensures { OnOk result (put ≡ Ok tt) }
+{
+    match put {
+        Ok(()) => Ok(()),
+        Err(PutError::Memory) => Err(AllocError),
+        Err(PutError::Sink(never)) => match never {},
+    }
+}
