@@ -4,4 +4,3 @@ pub mod LateLemmas
 pub mod WitnessLemmas
 pub mod RefutedLemmas
 pub mod OracleLemmas
-pub mod TestLemmas

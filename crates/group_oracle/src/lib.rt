@@ -24,7 +24,5 @@ mod cores;
 mod late_solver;
 mod oracle;
 mod selectors;
-#[cfg(test)]
-mod tests;
 
 pub use oracle::GroupOracle;

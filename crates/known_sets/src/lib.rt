@@ -28,8 +28,6 @@ mod neighbours;
 mod numbers;
 mod oracle;
 mod satisfied;
-#[cfg(test)]
-mod tests;
 mod turning;
 
 pub use oracle::{KnownSets, MOST_BYTES};

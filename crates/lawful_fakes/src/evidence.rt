@@ -1,4 +1,4 @@
-//! Records that a test wrote.
+//! Records that a trial wrote.
 ghost use Rattle.std.specs.Prelude.{◌≡◌, All, IfOk, IsTrue, List, Bool, length};
 ghost use Rattle.evidence_rec.specs.Records.{IsShaped, IsAccepted};
 

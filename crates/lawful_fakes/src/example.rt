@@ -5,9 +5,12 @@
 ghost use Rattle.std.specs.Prelude.{◌≡◌, ◌≤◌, All, IsTrue, IfOk};
 ghost use Rattle.sat_base.specs.Derivation.{max_id};
 ghost use Rattle.gm_base.specs.Sets.{IsSubset, all_groups};
+ghost use Rattle.lrat_steps.specs.Log.{learned_count};
 ghost use Rattle.evidence_rec.specs.Records.{IsAccepted};
+ghost use Rattle.evidence_rec.specs.Asking.{IsHonestOver};
 
 use crate::evidence::{Lacking, checked};
+use crate::table_oracle::TableOracle;
 use evidence_rec::{Proofs, Record, Witnesses};
 use gm_base::{
     Assign, AssignBuilder, Clause, Clauses, Derivation, DerivationBuilder, GroupSet, Lit, Lits,
@@ -42,17 +45,17 @@ pub fn four_clauses(alloc: Global) -> Result<Problem, AllocError>
     Problem::new(alloc, 2, 4, clauses)
 }
 
-/// The set of these groups, where the problem has them.
-pub fn set_of(alloc: Global, problem: &Problem, groups: &[u32]) -> Result<GroupSet, Lacking>
-    ensures { IfOk result (λ set. IsSubset set (all_groups problem.now.groups)) }
+/// The set of these groups, where there are so many.
+pub fn set_of(alloc: Global, groups: u32, wanted: &[u32]) -> Result<GroupSet, Lacking>
+    ensures { IfOk result (λ set. IsSubset set (all_groups groups)) }
 {
     let mut set = GroupSet::new(alloc);
-    for g in groups {
+    for g in wanted {
         if *g > 0 {
             set = set.with(alloc, *g)?;
         }
     }
-    let all = GroupSet::new(alloc).complement(alloc, problem.groups())?;
+    let all = GroupSet::new(alloc).complement(alloc, groups)?;
     if set.is_subset(&all) {
         Ok(set)
     } else {
@@ -130,7 +133,7 @@ pub fn conflict(alloc: Global, problem: &Problem, of_two: bool) -> Result<Record
         &[(false, false), (true, false), (true, true)]
     };
     let record = Record::Conflict {
-        set: set_of(alloc, problem, groups)?,
+        set: set_of(alloc, problem.groups(), groups)?,
         proof: refutation(alloc, of_two)?,
         witnesses: assignments(alloc, pairs)?,
     };
@@ -146,7 +149,7 @@ pub fn correction(
 ) -> Result<Record, Lacking>
     ensures { IfOk result (IsAccepted problem.now) }
 {
-    let set = set_of(alloc, problem, groups)?;
+    let set = set_of(alloc, problem.groups(), groups)?;
     let mut proofs = Proofs::new(alloc);
     let mut of_two = true;
     for _ in groups {
@@ -159,4 +162,22 @@ pub fn correction(
         proofs,
     };
     checked(alloc, problem, record)
+}
+
+/// An oracle of the problem that knows these assignments and both conflicts. With `whole` it answers with the set itself,
+/// where it could name the conflict within it.
+pub fn table_of(
+    alloc: Global,
+    problem: &Problem,
+    pairs: &[(bool, bool)],
+    whole: bool,
+) -> Result<TableOracle, Lacking>
+    ensures problem { IfOk result (λ oracle. oracle.problem ≡ problem.now) }
+    ensures honest { IfOk result (λ oracle. IsHonestOver problem.now oracle.log) }
+    ensures nothing { IfOk result (λ oracle. learned_count oracle.log ≡ 0) }
+{
+    let mut oracle = TableOracle::new(alloc, problem, assignments(alloc, pairs)?, whole)?;
+    oracle.learn(conflict(alloc, problem, true)?)?;
+    oracle.learn(conflict(alloc, problem, false)?)?;
+    Ok(oracle)
 }

@@ -1,12 +1,12 @@
-//! An oracle and a map engine without a solver, for tests of what is written for every lawful one.
+//! An oracle and a map engine without a solver, for trials of what is written for every lawful one.
 //!
 //! A [`TableOracle`] knows some assignments and some minimal conflicts of its problem, and answers by the first that fits;
 //! a [`ScriptedMap`] hands out the seeds that it was given, in their order. Both keep all that the traits `Oracle` and
 //! `MapEngine` ask for. Where the table or the script has no right answer they answer want of memory, which a caller has
-//! to expect at each call. [`checked`] tells whether the evidence of a record that a test wrote shows what it says.
+//! to expect at each call. [`checked`] tells whether the evidence of a record that a trial wrote shows what it says.
 //!
-//! The module `example` has a problem of four clauses with its records. The tests of `shrink`, `grow`, `KnownSets` and
-//! `MapCore` over the two stand here, so that no crate of the program stands on this one.
+//! The module `example` has a problem of four clauses with its records. What runs over the two is tried by `lawful_trials`
+//! and by `pool_trials`, so that no crate of the program stands on this one.
 //!
 //! A [`ShyOracle`] and a [`ShyMap`] are these two with memory wanting from one call on.
 //!
@@ -19,8 +19,6 @@ pub mod example;
 mod scripted_map;
 mod shy;
 mod table_oracle;
-#[cfg(test)]
-mod tests;
 
 pub use evidence::{Lacking, checked};
 pub use scripted_map::ScriptedMap;

@@ -25,8 +25,6 @@ mod occurrences;
 mod repair;
 mod rotation;
 mod standing;
-#[cfg(test)]
-mod tests;
 
 pub use flips::{Flips, MOST_FLIPS};
 pub use rotation::{Rotation, Turned};

@@ -1,11 +1,11 @@
-//! The board and the workers, tried over an oracle and a map engine without a solver.
+//! A test that two workers are at work at the same time, over oracles without a solver.
 //!
-//! A [`MeetingOracle`] looks in its first question for another one, which shows that workers are at work together. The
-//! tests stand apart, above the fakes, so that no crate of the program stands on these, and none is proved twice for them.
+//! A `MeetingOracle` looks in its first question for another one, which shows that workers are at work together. All else of
+//! workers over such oracles is tried by `lawful_trials`, whose program is proved once; this stays a test of its own, since it
+//! waits for two threads. So there is nothing here but the test and what it needs.
 #![tactic(auto)]
 
+#[cfg(test)]
 mod meeting;
 #[cfg(test)]
 mod tests;
-
-pub use meeting::{MOST_LOOKS, Meeting, MeetingOracle};

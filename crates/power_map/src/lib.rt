@@ -21,7 +21,5 @@
 
 mod map;
 mod sets;
-#[cfg(test)]
-mod tests;
 
 pub use map::PowerMap;

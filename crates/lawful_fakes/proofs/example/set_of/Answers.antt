@@ -6,5 +6,4 @@ use Rattle.lawful_fakes.proofs.example.set_of.Goals as goal
 pub returns-then-is_subset : goal.returns-then-is_subset
 returns-then-is_subset c = λ g h.
     let inside = c.is_subset.ensures.0 c.if-is_subset.true g h in
-    subst (λ (n : ℕ). has (all_groups n) g ≡ true) c.groups.ensures.count
-    (has-complement-parts c.groups.result c.new.result g (subst (λ (s : List ℕ). has s g ≡ true) c.in_ok-all.ensures inside)).1
+    (has-complement-parts c.args.groups c.new.result g (subst (λ (s : List ℕ). has s g ≡ true) c.in_ok-all.ensures inside)).1

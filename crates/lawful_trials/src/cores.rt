@@ -1,0 +1,190 @@
+//! The core of an enumeration over a map with a script: `core 2 10 1` opens one for so many workers, with a budget and a
+//! limit. Its text describes the map (see `scripted.rt`) and has the calls of workers, who are numbered from 0 and learn
+//! nothing:
+//!
+//! | move | what it does, and what is printed |
+//! |---|---|
+//! | `take 0` | `job 1, granted 10:` with the seed behind, or why there is none |
+//! | `post 0 conflict 1 2` | `new`, `already`, or why it isn't held |
+//! | `refill 0` | `granted 20`, or why nothing is |
+//! | `retire 0` | `retired` |
+//!
+//! A worker that has ended isn't asked any more: that is printed behind `? `. In the end the closing is printed: the verdict,
+//! how many records there are, whether the engine has shown that all sets are explored, how many entries the history has,
+//! and how many clauses the map's log was given.
+ghost use Rattle.std.specs.Prelude.{◌≡◌, ◌<◌, ◌≤◌, IfOk};
+ghost use Rattle.evidence_rec.specs.Records.{IsAccepted};
+
+use crate::scripted::{is_of_map, record_in, scripted_map};
+use crate::telling::{add_numbers, say, say_count, say_unknown};
+use crate::words::{moves_of, number_at};
+use evidence_rec::{MapEngine, Records};
+use gm_base::{GroupSet, Problem};
+use lawful_fakes::{Lacking, ScriptedMap};
+use lrat_steps::Log;
+use map_core::{Closing, MapCore, Posted, Refilled, Taken, Verdict};
+use std::alloc::{AllocError, Global};
+use trial_script::Step;
+
+pub fn play_core(
+    alloc: Global,
+    problem: &Problem,
+    step: &Step<'_>,
+    out: &mut String,
+) -> Result<(), Lacking> {
+    let workers = number_at(alloc, step, 0, 0)?;
+    let budget = u64::from(number_at(alloc, step, 0, 1)?);
+    let limit = u64::from(number_at(alloc, step, 0, 2)?);
+    if workers == 0 || workers > 64 {
+        return Err(Lacking::Evidence);
+    }
+    let mut core = core_of(alloc, problem, workers, budget, limit, moves_of(step))?;
+    let made = make_moves(alloc, &mut core, problem, moves_of(step), out);
+    let closed = close(core, out);
+    made?;
+    Ok(closed?)
+}
+
+/// A core over the map that the lines describe.
+fn core_of(
+    alloc: Global,
+    problem: &Problem,
+    workers: u32,
+    budget: u64,
+    limit: u64,
+    moves: &str,
+) -> Result<MapCore<ScriptedMap>, Lacking>
+    requires some { 0 < workers }
+    requires few { workers ≤ 64 }
+    ensures { IfOk result (λ core. core.opening.problem ≡ problem.now) }
+{
+    let _groups = problem.groups(); // The problem is well-formed.
+    let engine = scripted_map(alloc, problem, moves)?;
+    let records = Records::new(alloc);
+    let core = MapCore::start(alloc, problem, records, workers, budget, limit, engine)?;
+    Ok(core)
+}
+
+fn make_moves<M: MapEngine>(
+    alloc: Global,
+    core: &mut MapCore<M>,
+    problem: &Problem,
+    moves: &str,
+    out: &mut String,
+) -> Result<(), AllocError>
+    requires { core.old.opening.problem ≡ problem.now }
+{
+    for line in moves.split('\n') {
+        let step = Step::new(alloc, line)?;
+        match make_move(alloc, core, problem, &step, out) {
+            Ok(()) => {}
+            Err(Lacking::Evidence) => say_unknown(out, &step)?,
+            Err(Lacking::Memory) => return Err(AllocError),
+        }
+    }
+    Ok(())
+}
+
+fn make_move<M: MapEngine>(
+    alloc: Global,
+    core: &mut MapCore<M>,
+    problem: &Problem,
+    step: &Step<'_>,
+    out: &mut String,
+) -> Result<(), Lacking>
+    requires { core.old.opening.problem ≡ problem.now }
+    ensures { core.new.opening.problem ≡ problem.now }
+{
+    if is_of_map(step.word(0)) {
+        return Ok(());
+    }
+    let worker = number_at(alloc, step, 0, 0)?;
+    if !core.may_call(worker) {
+        return Err(Lacking::Evidence);
+    }
+    match step.word(0) {
+        "take" => say_taken(out, core.take(worker, 0))?,
+        "post" => {
+            let finding = record_in(alloc, problem, step)?;
+            say_posted(out, core.post(worker, 0, finding))?;
+        }
+        "refill" => say_refilled(out, core.refill(worker, 0, GroupSet::new(alloc)))?,
+        "retire" => {
+            core.retire(worker, 0);
+            say(out, "retired")?;
+        }
+        _ => return Err(Lacking::Evidence),
+    }
+    Ok(())
+}
+
+/// Adds a line on what a take was answered.
+pub fn say_taken(out: &mut String, taken: Taken) -> Result<(), AllocError> {
+    match taken {
+        Taken::Job { turn, seed, grant } => {
+            write!(out, "job {turn}, granted {grant}:")?;
+            add_numbers(out, seed.as_slice())?;
+            say(out, "")
+        }
+        Taken::Exhausted => say(out, "exhausted"),
+        Taken::Limit => say(out, "limit"),
+        Taken::Dry => say(out, "dry"),
+        Taken::Stopped => say(out, "stopped"),
+        Taken::Memory => say(out, "memory"),
+    }
+}
+
+/// Adds a line on what a post was answered.
+pub fn say_posted(out: &mut String, posted: Posted) -> Result<(), AllocError> {
+    match posted {
+        Posted::New => say(out, "new"),
+        Posted::Already => say(out, "already"),
+        Posted::Limit => say(out, "limit"),
+        Posted::Memory => say(out, "memory"),
+    }
+}
+
+/// Adds a line on what a refill was answered.
+pub fn say_refilled(out: &mut String, refilled: Refilled) -> Result<(), AllocError> {
+    match refilled {
+        Refilled::Grant(units) => say_count(out, "granted", units),
+        Refilled::Dry => say(out, "dry"),
+        Refilled::Stopped => say(out, "stopped"),
+        Refilled::Memory => say(out, "memory"),
+    }
+}
+
+fn close<M: MapEngine + Drop>(core: MapCore<M>, out: &mut String) -> Result<(), AllocError> {
+    if !core.have_ended() {
+        return say(out, "not ended");
+    }
+    let (closing, log) = core.closing();
+    say_closing(out, &closing, &log)
+}
+
+/// Adds a line on what is left.
+pub fn say_closing(out: &mut String, closing: &Closing, log: &Log) -> Result<(), AllocError> {
+    let verdict = verdict_word(closing.verdict);
+    let records = closing.records.len();
+    let shown = if closing.proof.is_some() {
+        "shown"
+    } else {
+        "not shown"
+    };
+    let entries = closing.history.len();
+    let inputs = log.inputs();
+    writeln!(
+        out,
+        "{verdict}, records {records}, {shown}, entries {entries}, inputs {inputs}"
+    )
+}
+
+/// The verdict in a word.
+pub fn verdict_word(verdict: Verdict) -> &'static str {
+    match verdict {
+        Verdict::Complete => "complete",
+        Verdict::Memory => "memory",
+        Verdict::Limit => "limit",
+        Verdict::Budget => "budget",
+    }
+}

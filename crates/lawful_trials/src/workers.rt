@@ -1,0 +1,220 @@
+//! Workers that enumerate the four clauses' records, over tables of all values and a map with a script (see `scripted.rt`).
+//!
+//! `workers 1 never : 2` has one worker for each number in front: its oracle has no memory from the question of this number
+//! on, and the map has none from the block behind the `:` on. Their budget is 100 and their limit 9. What is left is printed:
+//! the verdict, how many logs there are, and how many clauses were learnt in them; then the sets of the conflicts and of the
+//! corrections, in their order. With the line `history`, which is for one worker alone, the calls and their replies follow.
+//!
+//! `either` is for workers whose end depends on who comes first: it prints `as it may` where all five records were found, or
+//! memory was wanting and there are five at most.
+ghost use Rattle.std.specs.Prelude.{◌≡◌, ◌<◌, ◌≤◌, All, IfOk, length};
+ghost use Rattle.worker_pool.specs.Workers.{IsFresh};
+
+use crate::cores::verdict_word;
+use crate::scripted::scripted_map;
+use crate::telling::{add_numbers, say};
+use crate::words::{moves_of, part_of};
+use evidence_rec::Records;
+use gm_base::{Kind, Problem};
+use gm_ports::OpenGate;
+use lawful_fakes::example::table_of;
+use lawful_fakes::{Lacking, ShyMap, ShyOracle};
+use map_core::{Call, Closing, Entry, Reply, Verdict};
+use std::alloc::{AllocError, Global};
+use std::sync::Wait;
+use std::thread::Threads;
+use trial_script::Step;
+use worker_pool::{Outcome, enumerate};
+
+const ALL: [(bool, bool); 4] = [(false, false), (false, true), (true, false), (true, true)];
+
+// A question and a block that never come.
+const NEVER: u64 = 1000;
+
+pub fn play_workers<R: Threads + Wait + Sync>(
+    rt: &R,
+    alloc: Global,
+    problem: &Problem,
+    step: &Step<'_>,
+    out: &mut String,
+) -> Result<(), Lacking> {
+    let outcome = enumerated(rt, alloc, problem, step)?;
+    let verdict = verdict_word(outcome.verdict);
+    let logs = outcome.logs.len();
+    let spent = outcome.spent;
+    writeln!(out, "{verdict}, logs {logs}, spent {spent}")?;
+    let Some(closing) = &outcome.closing else {
+        return Ok(say(out, "nothing is closed")?);
+    };
+    say_sets(alloc, out, "conflicts", &closing.records, Kind::Conflict)?;
+    say_sets(
+        alloc,
+        out,
+        "corrections",
+        &closing.records,
+        Kind::Correction,
+    )?;
+    if moves_of(step).split('\n').any(|line| line == "history") {
+        say_history(out, closing)?;
+    }
+    Ok(())
+}
+
+pub fn play_either<R: Threads + Wait + Sync>(
+    rt: &R,
+    alloc: Global,
+    problem: &Problem,
+    step: &Step<'_>,
+    out: &mut String,
+) -> Result<(), Lacking> {
+    let outcome = enumerated(rt, alloc, problem, step)?;
+    let logs = part_of(step.words(), 0).len();
+    let fits = outcome.logs.len() == logs && outcome.spent == 0 && ends_as_it_may(&outcome);
+    say(out, if fits { "as it may" } else { "wrong" })?;
+    Ok(())
+}
+
+/// Has workers enumerate, with a map and oracles that are shy from some call on.
+fn enumerated<R: Threads + Wait + Sync>(
+    rt: &R,
+    alloc: Global,
+    problem: &Problem,
+    step: &Step<'_>,
+) -> Result<Outcome, Lacking> {
+    let _groups = problem.groups(); // The problem is well-formed.
+    let questions = numbers_of(alloc, step, 0)?;
+    let blocks = numbers_of(alloc, step, 1)?;
+    let [block] = blocks.as_slice() else {
+        return Err(Lacking::Evidence);
+    };
+    if questions.is_empty() || questions.len() > 64 {
+        return Err(Lacking::Evidence);
+    }
+    let oracles = shy_of(alloc, problem, questions.as_slice())?;
+    let map = ShyMap::new(scripted_map(alloc, problem, moves_of(step))?, *block);
+    let records = Records::new(alloc);
+    Ok(enumerate(rt, alloc, problem, records, oracles, map, 100, 9, &OpenGate))
+}
+
+/// The numbers of calls in a part.
+fn numbers_of(alloc: Global, step: &Step<'_>, part: usize) -> Result<Vec<u64>, AllocError> {
+    let mut numbers = Vec::new(alloc);
+    for word in part_of(step.words(), part) {
+        if *word == "never" {
+            numbers.push(NEVER)?;
+        } else if let Ok(number) = word.parse::<u64>() {
+            numbers.push(number)?;
+        }
+    }
+    Ok(numbers)
+}
+
+/// As many oracles as there are numbers: each is shy from its question of this number on.
+fn shy_of(alloc: Global, problem: &Problem, questions: &[u64]) -> Result<Vec<ShyOracle>, Lacking>
+    ensures count { IfOk result (λ oracles. length oracles.items ≡ length questions.now) }
+    ensures fresh { IfOk result (λ oracles. All (IsFresh problem.now) oracles.items) }
+{
+    let mut oracles = Vec::with_capacity(alloc, questions.len())?;
+    for at in questions {
+        let table = table_of(alloc, problem, &ALL, false)?;
+        oracles.push_reserved(ShyOracle::new(table, *at));
+    }
+    Ok(oracles)
+}
+
+/// Adds a line of the sets of one kind, in their order.
+fn say_sets(
+    alloc: Global,
+    out: &mut String,
+    word: &str,
+    records: &Records,
+    kind: Kind,
+) -> Result<(), AllocError> {
+    let mut sets = Vec::new(alloc);
+    for record in records.as_slice() {
+        if record.kind() == kind {
+            sets.push(record.set().copy(alloc)?)?;
+        }
+    }
+    sets.sort()?;
+    out.push_str(word)?;
+    let mut mark = "";
+    for set in sets.as_slice() {
+        out.push_str(mark)?;
+        add_numbers(out, set.as_slice())?;
+        mark = " :";
+    }
+    say(out, "")
+}
+
+/// Adds a line of the calls and their replies.
+fn say_history(out: &mut String, closing: &Closing) -> Result<(), AllocError> {
+    out.push_str("history")?;
+    for entry in closing.history.as_slice() {
+        let call = call_word(entry);
+        let reply = reply_word(entry);
+        write!(out, ", {call} {reply}")?;
+    }
+    say(out, "")
+}
+
+fn call_word(entry: &Entry) -> &'static str {
+    match &entry.call {
+        Call::Take => "take",
+        Call::Refill(_) => "refill",
+        Call::Post(_, _) => "post",
+        Call::Retire => "retire",
+    }
+}
+
+fn reply_word(entry: &Entry) -> &'static str {
+    match &entry.reply {
+        Reply::Job { .. } => "job",
+        Reply::Grant(_) => "granted",
+        Reply::Exhausted => "exhausted",
+        Reply::Limit => "limit",
+        Reply::Dry => "dry",
+        Reply::Stopped => "stopped",
+        Reply::New => "new",
+        Reply::Already => "already",
+        Reply::Retired => "retired",
+        Reply::Memory => "memory",
+    }
+}
+
+/// Whether all five records were found, or memory was wanting and there are five at most.
+fn ends_as_it_may(outcome: &Outcome) -> bool {
+    let Some(closing) = &outcome.closing else {
+        return false;
+    };
+    match outcome.verdict {
+        Verdict::Complete => closing.records.len() == 5 && has_five(&closing.records),
+        Verdict::Memory => closing.records.len() <= 5,
+        Verdict::Limit | Verdict::Budget => false,
+    }
+}
+
+const FIVE: [(Kind, &[u32]); 5] = [
+    (Kind::Conflict, &[1, 2]),
+    (Kind::Conflict, &[1, 3, 4]),
+    (Kind::Correction, &[1]),
+    (Kind::Correction, &[2, 3]),
+    (Kind::Correction, &[2, 4]),
+];
+
+fn has_five(records: &Records) -> bool {
+    for (kind, groups) in FIVE {
+        if !holds(records, kind, groups) {
+            return false;
+        }
+    }
+    true
+}
+
+fn holds(records: &Records, kind: Kind, groups: &[u32]) -> bool {
+    let mut found = false;
+    for record in records.as_slice() {
+        found |= record.kind() == kind && record.set().as_slice() == groups;
+    }
+    found
+}
