@@ -9,7 +9,11 @@ from itertools import product
 
 def read(path):
     with open(path) as lines:
-        words = " ".join(l for l in lines if not l.lstrip(" \t").startswith("c"))
+        return problem_of(lines)
+
+
+def problem_of(lines):
+    words = " ".join(l for l in lines if not l.lstrip(" \t").startswith("c"))
     words = words.replace("{", " { ").replace("}", " } ").split()
     assert words[:2] == ["p", "gcnf"]
     variables, clauses, groups = map(int, words[2:5])

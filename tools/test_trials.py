@@ -1,9 +1,50 @@
 #!/usr/bin/env python3
-"""Tests of the scripts of trials: what each program has to print is what its script says, and no case is there twice."""
+"""Tests of the scripts of trials: what each program has to print is what its script says, no case is there twice, what
+people wrote is what another program finds, and each refusal is tried."""
 import os
+import re
 import unittest
 
 import trials
+
+# What is in no script, since it takes more than two gibibytes of evidence.
+UNTRIED = {"6 TooLong"}
+
+
+def refusals():
+    """The number and the name of each refusal of an input, and of each one of evidence, that docs/FORMATS.md lists."""
+    formats = trials.text_of(os.path.join(trials.TOP, "docs", "FORMATS.md"))
+    rows = re.findall(r"(?m)^### (.*)$|^## (.*)$|^\| (\d+) \| (\w+) \|", formats)
+    found, heading = {}, ""
+    for deep, high, number, name in rows:
+        if number:
+            found.setdefault(heading, set()).add(f"{number} {name}")
+        else:
+            heading = deep or high
+    return found["Refusals"], found["What it is refused for"]
+
+
+def tried():
+    """The refusals of inputs and of evidence that have to be printed by some script."""
+    lines = "\n".join(line for crate in trials.crates() for line in trials.script_of(crate).split("\n") if line.startswith("= "))
+    return (set(re.findall(r"input refused: (\d+ \w+)", lines)), set(re.findall(r"evidence refused: line \d+: (\d+ \w+)", lines)))
+
+
+def whole_reports(text):
+    """The file `f` and the report that has to be printed, for each run that gives a report in which no set is missing."""
+    problem, printed = None, []
+    for line, more, texts in trials.walk(text + "\nend"):
+        if more and not line.startswith("== "):
+            printed += more
+        elif line and line[0] not in "#|":
+            report = [text for text in printed if text.startswith("out")]
+            if printed[:1] == ["status 0"] and "out s COMPLETE" in report and problem is not None:
+                yield problem, report
+            problem, printed = texts.files.get("f"), []
+
+
+def groups_of(problem):
+    return trials.brute_force.problem_of(problem.split("\n"))[1]
 
 
 class Trials(unittest.TestCase):
@@ -20,6 +61,29 @@ class Trials(unittest.TestCase):
     def test_lines_of_a_script(self):
         script = "# a comment\n== one\nhold f\n| p\n|. = x\nlist f\n= status 0\n=\n\n== two\n"
         self.assertEqual(trials.wanted(script), "== one\nstatus 0\n\n== two\n")
+
+    def test_lines_of_texts(self):
+        script = "text A\n| a \\x41\\t\\\\\n|\n\ntext B A\n|. b\n== one\nrun\n=out B\n=held A\n"
+        self.assertEqual(trials.wanted(script), "== one\nout a A\t\\\nout\nout. b\nheld a A\t\\\nheld\n")
+
+    def test_report_of_a_file(self):
+        script = "text P\n| {1} 1 0\n== one\nhold f\n| p gcnf 1 2 1\n| {0} -1 0\n| {1} 1 0\nrun list f\n=report f\n"
+        self.assertEqual(trials.wanted(script), "== one\nout p gmus 1\nout s COMPLETE\nout u 1 0\nout m 1 0\nout e 1 1\n")
+        with self.assertRaises(KeyError):
+            trials.wanted("== one\nhold f\nchange f 1 1\nrun list f\n=report f\n")
+
+    def test_reports_that_people_wrote_are_those_of_brute_force(self):
+        compared = 0
+        for problem, report in whole_reports(trials.script_of("run_trials")):
+            if groups_of(problem) <= 12:
+                self.assertEqual(report, trials.behind("out", trials.report_of(problem)), problem)
+                compared += 1
+        self.assertGreater(compared, 30)
+
+    def test_each_refusal_is_tried(self):
+        for listed, names in zip(refusals(), tried()):
+            self.assertLessEqual(listed - UNTRIED, names)
+            self.assertLessEqual(names, listed)
 
 
 if __name__ == "__main__":

@@ -7,27 +7,98 @@
 The scripts of a crate are the files in crates/NAME/data that crates/NAME/args names, in that order.
 
 In a script '== NAME' begins a case and is printed as it stands, and '= TEXT' below a call is TEXT, a line that has to be
-printed there. No line of it comes from the program's own output: each was written by hand, or by another program that
-the script names. Comments, calls and their texts ('| TEXT') are for the program: see crates/trial_script/src/lib.rt.
+printed there. Two forms stand for several lines:
+
+    =out TEXT ..      the lines of these texts, which the calls 'text NAME' of the script give, each behind the word 'out'
+                      (or another word, as '=held TEXT'); a last line that has no end stands behind 'out.'
+    =report FILE      the report of the problem that the call 'hold FILE' gives, by bench/brute_force.py, likewise behind
+                      'out'. It tries all sets of groups, so there are a dozen groups at most
+
+No line comes from the program's own output: each was written by hand, or is found by that other program. Comments, calls
+and their texts ('| TEXT') are for the program: see crates/trial_script/src/lib.rt.
 """
 import os
 import re
 import sys
 
 TOP = os.path.dirname(os.path.dirname(os.path.abspath(__file__)))
+sys.path.insert(0, os.path.join(TOP, "bench"))
+import brute_force  # noqa: E402
+
+ESCAPED = {"\\r": "\r", "\\t": "\t", "\\\\": "\\"}
+
+
+def text_in(line):
+    """What a line '| TEXT' or '|. TEXT' adds to the text of the call before."""
+    text, end = (line[3:], "") if line.startswith("|. ") else (line[2:], "\n")
+    return re.sub(r"\\[rt\\]|\\x([0-9a-f]{2})", lambda m: chr(int(m[1], 16)) if m[1] else ESCAPED[m[0]], text) + end
+
+
+def behind(word, text):
+    """The lines of the text as a program prints them, each behind the word."""
+    lines = text.split("\n")
+    last = lines.pop()
+    printed = [f"{word} {line}" if line else word for line in lines]
+    return printed + [f"{word}. {last}"] if last else printed
+
+
+class Texts:
+    """The texts that a script gives names to: those of all cases, and the files of a case."""
+
+    def __init__(self):
+        self.texts, self.files, self.last = {}, {}, None
+
+    def begin(self):
+        self.files, self.last = {}, None
+
+    def call(self, words):
+        named = {"text": self.texts, "hold": self.files}.get(words[0])
+        self.last = None
+        if named is not None:
+            named[words[1]] = "".join(self.texts[name] for name in words[2:])
+            self.last = named, words[1]
+        elif words[0] == "change":
+            self.files.pop(words[1], None)
+
+    def add(self, text):
+        """Adds a line of text to what the call before gave."""
+        if self.last:
+            named, name = self.last
+            named[name] += text
+
+    def lines(self, words):
+        """The lines that '=WORD NAME ..' stands for."""
+        if words[0] == "report":
+            return behind("out", report_of(self.files[words[1]]))
+        return behind(words[0], "".join(self.texts[name] for name in words[1:]))
+
+
+def report_of(problem):
+    return brute_force.report(*brute_force.problem_of(problem.split("\n")))
+
+
+def walk(script):
+    """Each line of the script, what has to be printed for it, and the texts that there are by then."""
+    texts = Texts()
+    for line in script.split("\n"):
+        printed = []
+        if line.startswith("== "):
+            printed = [line]
+            texts.begin()
+        elif line.startswith("= ") or line == "=":
+            printed = [line[2:]]
+        elif line.startswith("="):
+            printed = texts.lines(line[1:].split(" "))
+        elif line.startswith("|"):
+            texts.add(text_in(line))
+        elif line and not line.startswith("#"):
+            texts.call(line.split(" "))
+        yield line, printed, texts
 
 
 def wanted(script):
     """What a program has to print of this script."""
-    printed = []
-    for line in script.split("\n"):
-        if line.startswith("== "):
-            printed.append(line)
-        elif line.startswith("= "):
-            printed.append(line[2:])
-        elif line == "=":
-            printed.append("")
-    return "".join(line + "\n" for line in printed)
+    return "".join(text + "\n" for _, printed, _ in walk(script) for text in printed)
 
 
 def crates():

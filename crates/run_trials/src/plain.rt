@@ -11,7 +11,7 @@ struct SmallClause {
 
 /// At most eight groups and four variables.
 #[derive(Drop)]
-pub(super) struct Small {
+pub struct Small {
     vars: u32,
     groups: u32,
     clauses: Vec<SmallClause>,
@@ -36,7 +36,7 @@ fn draw_literal(state: &mut u64, vars: u32) -> i32 {
 }
 
 /// A problem that the generator makes.
-pub(super) fn draw_problem(alloc: Global, state: &mut u64) -> Result<Small, AllocError> {
+pub fn draw_problem(alloc: Global, state: &mut u64) -> Result<Small, AllocError> {
     let vars = draw(state, 4).wrapping_add(1);
     let groups = draw(state, 9);
     let count = draw(state, 14);
@@ -69,7 +69,7 @@ fn literal_true(assign: u32, literal: i32) -> bool {
 
 impl Small {
     /// The problem as a file.
-    pub(super) fn text(&self, alloc: Global) -> Result<String, AllocError> {
+    pub fn text(&self, alloc: Global) -> Result<String, AllocError> {
         let mut text = format!(in alloc;
             "p gcnf {} {} {}\n",
             self.vars,
@@ -132,7 +132,7 @@ impl Small {
     }
 
     /// The report of all minimal conflicts and minimal corrections.
-    pub(super) fn report(&self, alloc: Global) -> Result<String, AllocError> {
+    pub fn report(&self, alloc: Global) -> Result<String, AllocError> {
         let mut text = format!(in alloc; "p gmus {}\ns COMPLETE\n", self.groups)?;
         let mut conflicts = 0;
         let mut corrections = 0;

@@ -1,0 +1,99 @@
+//! Each call of a kind fails in turn.
+//!
+//! The first run in which no call fails is the last one. Runs next to each other that went alike are told once, with their
+//! number, up to ten; how many writes a text takes is its own matter.
+use crate::machine::Machine;
+use crate::run::Left;
+use crate::setting::{Kind, Setting};
+use std::alloc::{AllocError, Global};
+
+/// More calls than any run makes.
+const MANY: u64 = 10_000;
+
+/// Runs that went alike, one behind the other.
+#[derive(Drop)]
+struct Stretch {
+    count: u64,
+    text: String,
+}
+
+impl Stretch {
+    fn print(&self, alloc: Global, out: &mut String) -> Result<(), AllocError> {
+        let line = match self.count {
+            0 => return Ok(()),
+            1 => String::from_str(alloc, "1 run\n")?,
+            2..10 => format!(in alloc; "{} runs\n", self.count)?,
+            _ => String::from_str(alloc, "10 runs or more\n")?,
+        };
+        out.push_str(line.as_str())?;
+        out.push_str(self.text.as_str())
+    }
+
+    /// Counts one more run that went like this; what went otherwise is told first.
+    fn add(&mut self, alloc: Global, text: String, out: &mut String) -> Result<(), AllocError> {
+        if self.text.as_str() == text.as_str() {
+            self.count = self.count.saturating_add(1);
+            return Ok(());
+        }
+        self.print(alloc, out)?;
+        self.count = 1;
+        self.text = text;
+        Ok(())
+    }
+}
+
+/// Whether the two runs answered and wrote the same, and standard error got nothing in the second one.
+fn is_same_unheard(heard: &Left, unheard: &Left) -> bool {
+    heard.answer.status == unheard.answer.status
+        && heard.out.as_slice() == unheard.out.as_slice()
+        && unheard.err.is_empty()
+        && heard.faults.reads == unheard.faults.reads
+        && heard.faults.writes == unheard.faults.writes
+        && heard.faults.report == unheard.faults.report
+}
+
+/// Runs the words, and once more while standard error takes nothing; adds how it went. Answers whether a call failed.
+fn run_both(
+    machine: &Machine,
+    alloc: Global,
+    words: &[&str],
+    setting: &mut Setting,
+    text: &mut String,
+) -> Result<bool, AllocError> {
+    setting.fail(Kind::Errors, Vec::new(alloc));
+    let heard = machine.run_anew(alloc, words, setting)?;
+    heard.print(alloc, true, text)?;
+    setting.fail(Kind::Errors, Vec::from_slice(alloc, &[1])?);
+    let unheard = machine.run_anew(alloc, words, setting)?;
+    if !is_same_unheard(&heard, &unheard) {
+        text.push_str("and otherwise while standard error takes nothing:\n")?;
+        unheard.print(alloc, true, text)?;
+    }
+    let faults = heard.faults;
+    Ok(faults.reads > 0 || faults.writes > 0 || faults.report > 0)
+}
+
+/// Runs the words with each call of the kind failing in turn, each time twice, and adds how it went.
+pub fn sweep(
+    machine: &Machine,
+    alloc: Global,
+    words: &[&str],
+    kind: Kind,
+    setting: &mut Setting,
+    out: &mut String,
+) -> Result<(), AllocError> {
+    let mut stretch = Stretch {
+        count: 0,
+        text: String::new(alloc),
+    };
+    for call in 1..MANY {
+        setting.fail(kind, Vec::from_slice(alloc, &[call])?);
+        let mut text = String::new(alloc);
+        let failed = run_both(machine, alloc, words, setting, &mut text)?;
+        stretch.add(alloc, text, out)?;
+        if !failed {
+            return stretch.print(alloc, out);
+        }
+    }
+    out.push_str("no run in which no call fails\n")
+}
