@@ -54,7 +54,8 @@ class Texts:
     def call(self, words):
         named = {"text": self.texts, "hold": self.files}.get(words[0])
         self.last = None
-        if named is not None:
+        # (a player may use such a word for something else)
+        if named is not None and self.texts.keys() >= set(words[2:]):
             named[words[1]] = "".join(self.texts[name] for name in words[2:])
             self.last = named, words[1]
         elif words[0] == "change":
