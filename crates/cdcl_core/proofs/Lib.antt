@@ -4,7 +4,6 @@ pub mod UnitLemmas
 pub mod AssignLemmas
 pub mod RootLemmas
 pub mod RoundLemmas
-pub mod TestLemmas
 pub mod EntranceLemmas
 mod GreatestLemmas
 mod PositiveLemmas

@@ -36,8 +36,6 @@ mod search;
 mod solved;
 mod solver;
 mod steps;
-#[cfg(test)]
-mod tests;
 mod units;
 
 pub use solved::Solved;

@@ -15,8 +15,6 @@
 mod links;
 mod positions;
 mod store;
-#[cfg(test)]
-mod tests;
 mod thirds;
 mod words;
 

@@ -3,5 +3,4 @@ pub mod PlaceLemmas
 pub mod AnalysisLemmas
 pub mod CoreLemmas
 pub mod LearntLemmas
-pub mod RowLemmas
 pub mod PendingLemmas

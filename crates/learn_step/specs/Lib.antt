@@ -3,5 +3,4 @@ pub mod Learnt
 pub mod Places
 pub mod Leading
 pub mod Analysis
-pub mod Rows
 pub mod Pending

@@ -20,8 +20,6 @@ mod first_uip;
 mod learnt;
 mod origin;
 mod pending;
-#[cfg(test)]
-mod tests;
 
 pub use cores::core_of;
 pub use first_uip::learn;

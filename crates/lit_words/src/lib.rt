@@ -14,8 +14,6 @@
 #![tactic(auto)]
 
 mod lit_words;
-#[cfg(test)]
-mod tests;
 mod word;
 
 pub use lit_words::LitWords;

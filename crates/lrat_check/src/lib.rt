@@ -21,8 +21,6 @@ mod checker;
 mod clauses;
 mod follow;
 mod marks;
-#[cfg(test)]
-mod tests;
 mod why;
 
 pub use checker::{Checked, Checker};

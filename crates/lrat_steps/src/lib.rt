@@ -30,8 +30,6 @@ mod log;
 mod logs;
 mod renumber;
 mod step;
-#[cfg(test)]
-mod tests;
 
 pub use forget::may_forget;
 pub use log::Log;

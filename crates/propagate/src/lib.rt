@@ -26,8 +26,6 @@ mod parking;
 mod propagated;
 mod propagation;
 mod relisting;
-#[cfg(test)]
-mod tests;
 mod visit;
 
 pub use entrance::{enter, level_of, watch};

@@ -27,8 +27,6 @@ mod entry;
 mod heap;
 mod order;
 mod slot;
-#[cfg(test)]
-mod tests;
 mod trail;
 mod value;
 mod words;

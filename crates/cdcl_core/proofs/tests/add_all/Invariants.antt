@@ -1,6 +1,0 @@
-use Rattle.std.proofs.Common.{◌≡◌}
-use Rattle.sat_base.specs.Literals.{AreLiterals}
-use Rattle.cdcl_core.proofs.tests.add_all.Given as goal
-
-abbrev pub invariant-loop-number : goal.invariant-loop-number
-invariant-loop-number l = record { vars : l.solver.vars ≡ l.fn.solver.vars; literals : AreLiterals l.fn.solver.vars l.lits.items }

@@ -1,8 +1,0 @@
-use Rattle.std.proofs.Common.{subst, sym}
-use Rattle.lrat_steps.specs.Honest.{IsHonest}
-use Rattle.lrat_steps.specs.Rows.{worked_honest}
-use Rattle.lrat_steps.proofs.tests.trim_keeps_what_the_goal_needs_and_numbers_it_anew.Goals as goal
-
--- the worked log is honest
-pub trim-requires-clause-honest : goal.trim-requires-clause-honest
-trim-requires-clause-honest g c = subst IsHonest (sym c.in_ok-log.ensures) worked_honest

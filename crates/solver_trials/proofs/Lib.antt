@@ -1,0 +1,2 @@
+mod LitLemmas
+mod LogLemmas

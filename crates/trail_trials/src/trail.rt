@@ -1,0 +1,343 @@
+//! Trails: which literals are true, since when and why, and which is decided next.
+//!
+//! ```text
+//! trail 4                    a new trail over four variables
+//! decide 2                   2 is true at a new level
+//! assign -3 7                -3 is true by clause 7
+//! unit 3 11                  the value of 3 has unit step 11
+//! back_to 1                  the levels above 1 are taken back
+//! start_at 2                 variables of equal activity go round from this turn
+//! bump 3 3 2                 each of these is bumped, and later ones count more
+//! rounds 2000 4 1 3 2        so often, and tells whether an activity ever fell
+//! decide_all                 decides what is picked, until nothing is left
+//! pick, pick_true            the literal to be decided next
+//! show                       the level, and which literals are true, the oldest first
+//! reasons                    the clauses that forced them
+//! len, top, done, newest     how many there are, the level, how many were propagated, the last one
+//! value 3                    the value of a literal
+//! var 3, place 1             what is kept of the variable, and of the literal at the place
+//! open 2 : -1 2 64           a literal of these but 2 that is not false, by the trail's words
+//! ```
+ghost use Rattle.std.specs.Prelude.{◌≡◌, ◌<◌, ◌^◌, IfSome};
+ghost use Rattle.sat_base.specs.Literals.{IsLiteral};
+ghost use Rattle.sat_base.specs.Units.{IsUnset};
+ghost use Rattle.trail_book.specs.Trail.{trues};
+
+use crate::words::words_at;
+use sat_base::Lit;
+use std::alloc::{AllocError, Global};
+use trail_book::Trail;
+use trial_lits::{
+    add, add_id, add_lit, behind, id_at, lit_at, number_at, tell, tell_lit, tell_number, var_at,
+    vars_at,
+};
+use trial_script::{Player, Step};
+
+/// A trail, once one was made.
+#[derive(Drop)]
+pub struct TrailPlayer {
+    pub trail: Option<Trail>,
+}
+
+impl TrailPlayer {
+    fn make(&mut self, alloc: Global, step: &Step<'_>) -> Result<bool, AllocError> {
+        let Some(vars) = vars_at(step, 1) else {
+            return Ok(false);
+        };
+        self.trail = Some(Trail::new(alloc, vars)?);
+        Ok(true)
+    }
+}
+
+impl Player for TrailPlayer {
+    fn begin(&mut self, _alloc: Global) -> Result<(), AllocError> {
+        self.trail = None;
+        Ok(())
+    }
+
+    fn call(
+        &mut self,
+        alloc: Global,
+        step: &Step<'_>,
+        out: &mut String,
+    ) -> Result<bool, AllocError> {
+        if step.word(0) == "trail" {
+            return self.make(alloc, step);
+        }
+        match &mut self.trail {
+            Some(trail) => on_trail(alloc, trail, step, out),
+            None => Ok(false),
+        }
+    }
+}
+
+fn on_trail(
+    alloc: Global,
+    trail: &mut Trail,
+    step: &Step<'_>,
+    out: &mut String,
+) -> Result<bool, AllocError> {
+    match step.word(0) {
+        "open" => open(alloc, trail, step, out),
+        "bump" => bump(alloc, trail, step),
+        "rounds" => rounds(alloc, trail, step, out),
+        "decide_all" => decide_all(trail, out),
+        "pick" => tell_pick(out, trail.pick()),
+        "pick_true" => tell_pick(out, trail.pick_true()),
+        "var" => tell_var(trail, step, out),
+        "place" => tell_place(trail, step, out),
+        _ => {
+            if change(trail, step).is_some() {
+                return Ok(true);
+            }
+            read(trail, step, out)
+        }
+    }
+}
+
+/// Changes the trail, where the call says how and its condition holds.
+pub fn change(trail: &mut Trail, step: &Step<'_>) -> Option<()>
+    ensures { trail.new.vars ≡ trail.old.vars }
+{
+    match step.word(0) {
+        "decide" => decide(trail, step),
+        "assign" => assign(trail, step),
+        "unit" => set_unit(trail, step),
+        "back_to" => {
+            trail.back_to(number_at(step, 1)?);
+            Some(())
+        }
+        "start_at" => {
+            trail.start_at(id_at(step, 1)?);
+            Some(())
+        }
+        _ => None,
+    }
+}
+
+// The literal at the first place of a call, where it has no value.
+fn unset(trail: &Trail, step: &Step<'_>) -> Option<Lit>
+    ensures unset { IfSome result (λ lit. IsUnset (trues trail.now.entries) lit) }
+    ensures literal { IfSome result (λ lit. IsLiteral trail.now.vars lit) }
+{
+    let lit = lit_at(step, 1, trail.vars())?;
+    match trail.value(lit) {
+        None => Some(lit),
+        Some(_) => None,
+    }
+}
+
+fn decide(trail: &mut Trail, step: &Step<'_>) -> Option<()>
+    ensures { trail.new.vars ≡ trail.old.vars }
+{
+    let lit = unset(trail, step)?;
+    trail.decide(lit);
+    Some(())
+}
+
+fn assign(trail: &mut Trail, step: &Step<'_>) -> Option<()>
+    ensures { trail.new.vars ≡ trail.old.vars }
+{
+    let lit = unset(trail, step)?;
+    let reason = id_at(step, 2)?;
+    if reason == 0 {
+        return None;
+    }
+    trail.assign(lit, reason);
+    Some(())
+}
+
+fn set_unit(trail: &mut Trail, step: &Step<'_>) -> Option<()>
+    ensures { trail.new.vars ≡ trail.old.vars }
+{
+    let var = var_at(step, 1, trail.vars())?;
+    let id = id_at(step, 2)?;
+    let _value = trail.value(Lit::new(var as i32))?;
+    if id == 0 {
+        return None;
+    }
+    trail.set_unit(var, id);
+    Some(())
+}
+
+// Bumps the variables in their order, and after each lets later bumps count more.
+fn bump_all(trail: &mut Trail, vars: &[i128]) {
+    for number in vars {
+        let Ok(var) = u32::try_from(*number) else {
+            return;
+        };
+        if var > 0 && var <= trail.vars() {
+            trail.bump(var);
+            trail.grow();
+        }
+    }
+}
+
+fn bump(alloc: Global, trail: &mut Trail, step: &Step<'_>) -> Result<bool, AllocError> {
+    let vars = step.numbers(alloc, 1)?;
+    bump_all(trail, &vars);
+    Ok(true)
+}
+
+fn activity(trail: &Trail, var: u32) -> u64 {
+    if var == 0 || var > trail.vars() {
+        return 0;
+    }
+    trail.activity(var)
+}
+
+// Bumps the variables so often, and tells whether the activity of one fell, of each of the first four in its turn.
+fn rounds(
+    alloc: Global,
+    trail: &mut Trail,
+    step: &Step<'_>,
+    out: &mut String,
+) -> Result<bool, AllocError> {
+    let Some(count) = number_at(step, 1) else {
+        return Ok(false);
+    };
+    let vars = step.numbers(alloc, 2)?;
+    let mut fell = false;
+    for round in 0..count {
+        let before = activity(trail, round % 4 + 1);
+        bump_all(trail, &vars);
+        if activity(trail, round % 4 + 1) < before {
+            fell = true;
+        }
+    }
+    tell(
+        out,
+        if fell {
+            "activities were halved"
+        } else {
+            "activities rose"
+        },
+    )?;
+    Ok(true)
+}
+
+fn decide_all(trail: &mut Trail, out: &mut String) -> Result<bool, AllocError> {
+    out.push_str("decided")?;
+    for _ in 0..trail.vars() {
+        let Some(lit) = trail.pick() else {
+            break;
+        };
+        trail.decide(lit);
+        add_lit(out, "", Some(lit))?;
+    }
+    out.push_str("\n")?;
+    Ok(true)
+}
+
+fn tell_pick(out: &mut String, lit: Option<Lit>) -> Result<bool, AllocError> {
+    tell_lit(out, "pick", lit)?;
+    Ok(true)
+}
+
+/// Tells what is kept of the whole trail, or of a literal.
+pub fn read(trail: &Trail, step: &Step<'_>, out: &mut String) -> Result<bool, AllocError> {
+    match step.word(0) {
+        "len" => tell_number(out, "len", u64::from(trail.len()))?,
+        "top" => tell_number(out, "top", u64::from(trail.top()))?,
+        "done" => tell_number(out, "done", u64::from(trail.done()))?,
+        "show" => show(trail, out)?,
+        "reasons" => reasons(trail, out)?,
+        "newest" => tell_lit(out, "newest", newest(trail))?,
+        _ => return read_lit(trail, step, out),
+    }
+    Ok(true)
+}
+
+fn show(trail: &Trail, out: &mut String) -> Result<(), AllocError> {
+    add(out, "level", u64::from(trail.top()))?;
+    out.push_str(" :")?;
+    for place in 0..trail.len() {
+        add_lit(out, "", Some(trail.at(place)))?;
+    }
+    out.push_str("\n")
+}
+
+fn reasons(trail: &Trail, out: &mut String) -> Result<(), AllocError> {
+    out.push_str("reasons")?;
+    for place in 0..trail.len() {
+        add_id(out, "", trail.entry(place).reason)?;
+    }
+    out.push_str("\n")
+}
+
+fn newest(trail: &Trail) -> Option<Lit> {
+    let len = trail.len();
+    if len == 0 {
+        None
+    } else {
+        Some(trail.at(len - 1))
+    }
+}
+
+fn read_lit(trail: &Trail, step: &Step<'_>, out: &mut String) -> Result<bool, AllocError> {
+    if step.word(0) != "value" {
+        return Ok(false);
+    }
+    let Some(lit) = lit_at(step, 1, trail.vars()) else {
+        return Ok(false);
+    };
+    match trail.value(lit) {
+        Some(true) => tell(out, "true")?,
+        Some(false) => tell(out, "false")?,
+        None => tell(out, "no value")?,
+    }
+    Ok(true)
+}
+
+fn tell_var(trail: &Trail, step: &Step<'_>, out: &mut String) -> Result<bool, AllocError> {
+    let Some(var) = var_at(step, 1, trail.vars()) else {
+        return Ok(false);
+    };
+    let Some(value) = trail.value(Lit::new(var as i32)) else {
+        tell(out, "no value")?;
+        return Ok(true);
+    };
+    out.push_str(if value { "true" } else { "false" })?;
+    add(out, " place", u64::from(trail.place(var)))?;
+    add(out, " level", u64::from(trail.level(var)))?;
+    add_id(out, " reason", trail.reason(var))?;
+    add_id(out, " unit", trail.unit(var))?;
+    out.push_str("\n")?;
+    Ok(true)
+}
+
+fn tell_place(trail: &Trail, step: &Step<'_>, out: &mut String) -> Result<bool, AllocError> {
+    let Some(place) = number_at(step, 1) else {
+        return Ok(false);
+    };
+    if place >= trail.len() {
+        return Ok(false);
+    }
+    let entry = trail.entry(place);
+    add_lit(out, "literal", Some(trail.at(place)))?;
+    add_lit(out, " entry", Some(entry.lit))?;
+    add(out, " level", u64::from(trail.level_at(place)))?;
+    add_id(out, " reason", entry.reason)?;
+    add_id(out, " unit", entry.unit)?;
+    out.push_str("\n")?;
+    Ok(true)
+}
+
+fn open(
+    alloc: Global,
+    trail: &Trail,
+    step: &Step<'_>,
+    out: &mut String,
+) -> Result<bool, AllocError> {
+    let Some(other) = lit_at(step, 1, 64) else {
+        return Ok(false);
+    };
+    let Some(clause) = words_at(alloc, step, behind(step, ":"))? else {
+        return Ok(false);
+    };
+    match trail.true_words() {
+        Some(trues) => tell_lit(out, "open", clause.open(trues, other))?,
+        None => tell(out, "no words")?,
+    }
+    Ok(true)
+}
