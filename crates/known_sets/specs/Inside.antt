@@ -5,7 +5,8 @@ use Rattle.evidence_rec.specs.Asking.{OracleState, IsHonestOver}
 use Rattle.known_sets.specs.declared.memory.Memory.{Memory}
 use Rattle.known_sets.specs.declared.oracle.Last.{Last}
 use Rattle.known_sets.specs.declared.oracle.Last.TheVariants as last
-use Rattle.known_sets.specs.Memory.{IsRefuted, IsRightFor}
+use Rattle.known_sets.specs.Entries.{IsRefuted}
+use Rattle.known_sets.specs.Memory.{IsRightFor}
 
 -- the set that the last answer left for a proof, where the oracle within left this one
 abbrev pub refuted_set : Option (List ℕ) → Last → Option (List ℕ)

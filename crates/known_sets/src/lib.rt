@@ -14,8 +14,9 @@
 //! then the oracle within is asked nothing, and learns and spends nothing. The contracts are those of the trait
 //! `evidence_rec::Oracle`, whatever lawful oracle is within.
 //!
-//! Start with `oracle.rt`, and then `memory.rt`, whose head says which questions are looked up, and why an answer from
-//! memory is right. `index.rt` finds a set by one of its groups.
+//! Start with `oracle.rt`, and then `memory.rt`, whose head says which questions are looked up. Its three parts are
+//! `refuted.rt` and `satisfied.rt`, which say why an answer from memory is right, and `model_maker.rt`, which makes models
+//! of those that are remembered. `index.rt` finds a set by one of its groups.
 //!
 //! Not said here: that a set which is known is found, and that there is memory to remember one. Both only cost a question.
 #![tactic(auto)]
@@ -23,11 +24,15 @@
 mod arena;
 mod entry;
 mod index;
+mod last_set;
 mod memory;
+mod model_maker;
 mod neighbours;
 mod numbers;
 mod oracle;
+mod refuted;
 mod satisfied;
+mod tested;
 mod turning;
 
 pub use oracle::{KnownSets, MOST_BYTES};

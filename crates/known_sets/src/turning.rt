@@ -6,11 +6,11 @@
 //! rotation, Marques-Silva and Lynce 2011).
 ghost use Rattle.std.specs.Prelude.{◌≡◌, ◌<◌, ◌≤◌, All, IfOk, length};
 ghost use Rattle.model_flips.specs.Rotation.{IsListing, Satisfies};
-ghost use Rattle.known_sets.specs.Memory.{IsSatisfied};
+ghost use Rattle.known_sets.specs.Entries.{IsSatisfied};
 
 use crate::arena::set_of;
 use crate::index::Wanted;
-use crate::memory::LOOKS_A_QUESTION;
+use crate::model_maker::LOOKS_A_QUESTION;
 use crate::satisfied::SatisfiedSets;
 use gm_base::{Assign, GroupSet, Problem};
 use model_flips::{Rotation, Turned};

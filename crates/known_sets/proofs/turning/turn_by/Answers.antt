@@ -3,7 +3,7 @@ use Rattle.std.specs.Prelude.{IfSome, OnOk, OnErr}
 use Rattle.model_flips.specs.declared.rotation.Turned.{Turned}
 use Rattle.model_flips.specs.Rotation.{IsTurned}
 use Rattle.known_sets.specs.declared.entry.Entry.{Entry}
-use Rattle.known_sets.specs.Memory.{IsSatisfied}
+use Rattle.known_sets.specs.Entries.{IsSatisfied}
 use Rattle.known_sets.proofs.MemoryLemmas.{All-inserted}
 use Rattle.known_sets.proofs.turning.turn_by.Goals as goal
 

@@ -1,6 +1,6 @@
 use Rattle.std.specs.Prelude.{All}
 use Rattle.model_flips.specs.Rotation.{IsListing, Satisfies}
-use Rattle.known_sets.specs.Memory.{IsSatisfied}
+use Rattle.known_sets.specs.Entries.{IsSatisfied}
 use Rattle.known_sets.proofs.turning.turn_by_each.Given as goal
 
 -- what is remembered stays right

@@ -1,6 +1,6 @@
 use Rattle.std.proofs.Common.{sym, subst}
 use Rattle.model_flips.specs.Rotation.{Satisfies}
-use Rattle.known_sets.specs.Memory.{IsSatisfied}
+use Rattle.known_sets.specs.Entries.{IsSatisfied}
 use Rattle.known_sets.proofs.MemoryLemmas.{All-at}
 use Rattle.known_sets.proofs.turning.turn_one.Goals as goal
 

@@ -12,7 +12,7 @@ pub returns-clause-witness : goal.returns-clause-witness
 returns-clause-witness c = λ p right within.
     let turned = c.in_ok-out.field-0 in
     let set = c.args.set.now in
-    let found = subst (λ (o : Option Turned). IfSome o (λ t. Satisfies p t.out t.assign)) c.in_ok-out.was (c.in-Ok.ensures.found p right) in
+    let found = subst (λ (o : Option Turned). IfSome o (λ t. Satisfies p t.out t.assign)) c.in_ok-out.was (c.in-Ok.ensures.found p right.models right.satisfied) in
     let apart : list_all (λ g. not (has set g)) turned.out ≡ true =
     ap (list_all (λ g. not (has set g))) (sym c.as_slice.ensures.groups) ∙ sym c.misses.ensures ∙ c.if-not-misses.false in
     is_witness-missing p set turned.out turned.assign within apart found

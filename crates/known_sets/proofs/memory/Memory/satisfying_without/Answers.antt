@@ -1,9 +1,5 @@
-use Rattle.std.proofs.Common.{subst, sym}
-use Rattle.std.specs.Prelude.{All}
-use Rattle.known_sets.specs.Memory.{IsSatisfied}
 use Rattle.known_sets.proofs.memory.Memory.satisfying_without.Goals as goal
 
--- looking up leaves what is remembered
+-- of a right memory
 pub returns-clause-witness : goal.returns-clause-witness
-returns-clause-witness c = λ p right within.
-    c.assignment_without.ensures p (subst (All (IsSatisfied p)) (sym c.in_ok-number.ensures) right.satisfied) within
+returns-clause-witness c = λ p right within. c.within_less.ensures.witness p right.satisfied within

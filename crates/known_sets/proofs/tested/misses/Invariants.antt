@@ -1,0 +1,8 @@
+use Rattle.std.proofs.Common.{◌≡◌, take, true, not}
+use Rattle.std.specs.List.{list_all}
+use Rattle.gm_base.specs.Sets.{has}
+use Rattle.known_sets.proofs.tested.misses.Given as goal
+
+-- the set has no group so far
+abbrev pub invariant-loop-group : goal.invariant-loop-group
+invariant-loop-group l = list_all (λ g. not (has l.set g)) (take l.group-index l.groups) ≡ true

@@ -1,0 +1,72 @@
+//! The set that an answer was about last, with its groups marked.
+//!
+//! Most questions are about a set that differs from it in one group. Which one that is, is told from the two sets; and who
+//! looks up a question by that group finds the rest of the set marked, and needs no look at it.
+use crate::neighbours::one_more;
+use gm_base::GroupSet;
+use std::alloc::{AllocError, Global};
+
+/// A set, if there is one, and marks at its groups.
+#[derive(Drop)]
+pub struct LastSet {
+    set: Option<GroupSet>,
+    marks: Vec<bool>,
+}
+
+impl LastSet {
+    /// No set, of groups up to this one.
+    pub fn new(alloc: Global, groups: u32) -> Result<LastSet, AllocError> {
+        Ok(LastSet {
+            set: None,
+            marks: no_marks(alloc, groups)?,
+        })
+    }
+
+    /// The marks, by the numbers of the groups.
+    pub fn marks(&self) -> &[bool] {
+        self.marks.as_slice()
+    }
+
+    /// The one group that the set has more than the last one.
+    pub fn missing_of(&self, set: &GroupSet) -> Option<u32> {
+        let Some(last) = &self.set else {
+            return None;
+        };
+        one_more(last.as_slice(), set.as_slice())
+    }
+
+    /// The one group that the set has less than the last one.
+    pub fn missing_in(&self, set: &GroupSet) -> Option<u32> {
+        let Some(last) = &self.set else {
+            return None;
+        };
+        one_more(set.as_slice(), last.as_slice())
+    }
+
+    /// Puts a copy of a set in the place of the last one, or nothing where there is no memory for it.
+    pub fn replace(&mut self, alloc: Global, set: &GroupSet) {
+        let copy = set.copy(alloc).ok();
+        if let Some(before) = &self.set {
+            mark_all(&mut self.marks, before.as_slice(), false);
+        }
+        if let Some(now) = &copy {
+            mark_all(&mut self.marks, now.as_slice(), true);
+        }
+        self.set = copy;
+    }
+}
+
+/// Marks for groups up to this one, all of them off.
+pub fn no_marks(alloc: Global, groups: u32) -> Result<Vec<bool>, AllocError> {
+    vec![in alloc; false; groups as usize + 1]
+}
+
+/// Sets the marks of these groups on or off.
+pub fn mark_all(marks: &mut [bool], groups: &[u32], mark: bool) {
+    for group in groups {
+        let at = *group as usize;
+        if at < marks.len() {
+            marks[at] = mark;
+        }
+    }
+}
