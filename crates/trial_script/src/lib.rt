@@ -20,9 +20,12 @@
 #![tactic(auto)]
 
 mod line;
+mod numbers;
 mod script;
+mod shown;
 mod step;
 
 pub use line::{Line, line_of};
 pub use script::{Player, play};
+pub use shown::show;
 pub use step::Step;
