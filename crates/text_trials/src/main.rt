@@ -2,27 +2,18 @@
 //!
 //! | script | what its calls are made of | player |
 //! |---|---|---|
-//! | `bases` | assignments, work lists, derivations, sets of groups and problems | `bases.rt` |
 //! | `ports` | files and sinks in memory | `ports.rt` |
 //! | `words` | command lines | `words.rt` |
 //! | `texts` | tokens, problems and reports | `texts.rt` |
-//! | `evidence` | evidence, records of it, and audits | `evidence.rt` |
 //!
 //! `trial_script` says what a script is, and the head of each player which calls it knows. Start reading at `words.rt`.
 #![tactic(auto)]
 
-mod bases;
-mod derivations;
-mod evidence;
-mod numbers;
 mod ports;
-mod problems;
 mod shown;
 mod texts;
 mod words;
 
-use bases::BasesPlayer;
-use evidence::EvidencePlayer;
 use ports::PortsPlayer;
 use std::{env, io};
 use texts::TextsPlayer;
@@ -39,11 +30,9 @@ fn main(rt: HostRuntime) -> io::Result<()> {
 /// Plays the script of this name.
 fn play_script(rt: &HostRuntime, name: &str) -> io::Result<()> {
     match name.strip_prefix("data/").unwrap_or(name) {
-        "bases" => play(rt, name, &mut BasesPlayer::new(rt.alloc())),
         "ports" => play(rt, name, &mut PortsPlayer::new(rt.alloc())),
         "words" => play(rt, name, &mut WordsPlayer),
         "texts" => play(rt, name, &mut TextsPlayer::new(rt.alloc())),
-        "evidence" => play(rt, name, &mut EvidencePlayer::new(rt.alloc())),
         _ => println!(rt; "? {name}"),
     }
 }

@@ -1,11 +1,6 @@
 //! How answers are shown.
 use std::alloc::AllocError;
-
-/// Adds a line.
-pub fn show(line: &str, out: &mut String) -> Result<bool, AllocError> {
-    writeln!(out, "{line}")?;
-    Ok(true)
-}
+use trial_script::show;
 
 /// Adds a line with a text in quotes.
 pub fn show_text(text: &[u8], out: &mut String) -> Result<bool, AllocError> {

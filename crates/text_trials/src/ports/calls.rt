@@ -1,9 +1,8 @@
 //! Calls of files and sinks in memory.
-use crate::numbers::amount;
-use crate::shown::{show, show_text};
+use crate::shown::show_text;
 use gm_ports::{Failed, Files, MemFiles, MemSink, Reading, Sink, SureFiles, read_whole, write_all};
 use std::alloc::{AllocError, Global};
-use trial_script::Step;
+use trial_script::{Step, show};
 
 /// Makes a call that all files have.
 pub fn call_files<F: Files>(
@@ -41,7 +40,7 @@ fn read_file<F: Files>(
     step: &Step<'_>,
     out: &mut String,
 ) -> Result<bool, AllocError> {
-    let Some(limit) = amount(step, 2) else {
+    let Some(limit) = step.amount(2) else {
         return Ok(false);
     };
     match read_whole(alloc, files, step.word(1), limit) {

@@ -1,7 +1,6 @@
 //! What files and sinks in memory are made of.
 ghost use Rattle.std.specs.Prelude.{◌<◌};
 
-use crate::numbers::amount;
 use gm_ports::{Calls, MemFiles, MemSink, Rooms, SureFiles, Texts};
 use std::alloc::{AllocError, Global};
 use trial_script::Step;
@@ -42,7 +41,7 @@ pub fn add_part(parts: &mut Parts, alloc: Global, step: &Step<'_>) -> Result<boo
             .held
             .push(alloc, step.word(1), step.word(2).as_bytes())?,
         "room" => {
-            let Some(room) = amount(step, 2) else {
+            let Some(room) = step.amount(2) else {
                 return Ok(false);
             };
             parts.rooms.push(alloc, step.word(1), room)?;
@@ -57,7 +56,7 @@ pub fn add_part(parts: &mut Parts, alloc: Global, step: &Step<'_>) -> Result<boo
 fn calls_of(alloc: Global, step: &Step<'_>) -> Result<Calls, AllocError> {
     let mut numbers = Vec::new(alloc);
     for at in 1..step.words().len() {
-        if let Some(number) = amount(step, at) {
+        if let Some(number) = step.amount(at) {
             numbers.push(number)?;
         }
     }
@@ -66,7 +65,7 @@ fn calls_of(alloc: Global, step: &Step<'_>) -> Result<Calls, AllocError> {
 
 /// Files or a sink of these parts, if the step's two numbers may be theirs: a call moves at least one byte.
 pub fn port_of(alloc: Global, parts: Parts, step: &Step<'_>) -> Result<Option<Port>, AllocError> {
-    let (Some(first), Some(second)) = (amount(step, 1), amount(step, 2)) else {
+    let (Some(first), Some(second)) = (step.amount(1), step.amount(2)) else {
         return Ok(None);
     };
     if first == 0 {

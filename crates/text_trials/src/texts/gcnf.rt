@@ -1,11 +1,9 @@
 //! Problems: read from texts, made from numbers, and written.
-use crate::numbers::{amount, count};
-use crate::problems::push_clause;
-use crate::shown::{show, show_lines};
+use crate::shown::show_lines;
 use gcnf_text::{Limit, Offence, Read, make_case, read_gcnf, write_gcnf};
-use gm_base::Problem;
+use gm_base::{Clause, Problem};
 use std::alloc::{AllocError, Global};
-use trial_script::Step;
+use trial_script::{Step, show};
 
 /// Reads the text of the call, and tells the problem or the offence.
 pub fn read_problem(
@@ -28,7 +26,7 @@ pub fn read_problem(
 
 /// The problem of the call's seed and size, if there is one.
 pub fn make_problem(alloc: Global, step: &Step<'_>) -> Result<Option<Problem>, AllocError> {
-    let (Some(seed), Some(size)) = (amount(step, 1), count(step, 2)) else {
+    let (Some(seed), Some(size)) = (step.amount(1), step.count(2)) else {
         return Ok(None);
     };
     if size < 1 || size > 1000 {
@@ -50,15 +48,14 @@ pub fn call_problem(
     match step.word(0) {
         "counts" => show_counts(problem, out),
         "write" => show_lines(write_gcnf(alloc, problem)?.as_slice(), out),
-        _ => show_clause_at(problem, amount(step, 1), out),
+        _ => show_clause_at(problem, step.amount(1), out),
     }
 }
 
 fn show_problem(problem: &Problem, out: &mut String) -> Result<bool, AllocError> {
     show_counts(problem, out)?;
     for at in 0..problem.len() {
-        push_clause(problem.clause(at), out)?;
-        show("", out)?;
+        show_clause(problem.clause(at), out)?;
     }
     Ok(true)
 }
@@ -81,7 +78,16 @@ fn show_clause_at(
     if at >= problem.len() as u64 {
         return Ok(false);
     }
-    push_clause(problem.clause(at as usize), out)?;
+    show_clause(problem.clause(at as usize), out)
+}
+
+fn show_clause(clause: &Clause, out: &mut String) -> Result<bool, AllocError> {
+    let group = clause.group;
+    write!(out, "{{{group}}}")?;
+    for lit in clause.lits.as_slice() {
+        let number = lit.number();
+        write!(out, " {number}")?;
+    }
     show("", out)
 }
 

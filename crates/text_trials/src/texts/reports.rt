@@ -1,5 +1,4 @@
 //! Reports of sets.
-use crate::numbers::{count, set_from};
 use crate::shown::show_lines;
 use gm_base::{GroupSet, Sets};
 use report_text::report;
@@ -38,11 +37,23 @@ pub fn call_lists(
 }
 
 fn add_set(sets: &mut Vec<GroupSet>, alloc: Global, step: &Step<'_>) -> Result<bool, AllocError> {
-    let Some(set) = set_from(alloc, step, 1)? else {
+    let Some(set) = set_of(alloc, step)? else {
         return Ok(false);
     };
     sets.push(set)?;
     Ok(true)
+}
+
+/// The set of the groups behind the first word, if each word there is one.
+fn set_of(alloc: Global, step: &Step<'_>) -> Result<Option<GroupSet>, AllocError> {
+    let mut set = GroupSet::new(alloc);
+    for at in 1..step.words().len() {
+        let Some(group) = step.positive(at) else {
+            return Ok(None);
+        };
+        set = set.with(alloc, group)?;
+    }
+    Ok(Some(set))
 }
 
 fn show_report(
@@ -51,7 +62,7 @@ fn show_report(
     step: &Step<'_>,
     out: &mut String,
 ) -> Result<bool, AllocError> {
-    let Some(groups) = count(step, 1) else {
+    let Some(groups) = step.count(1) else {
         return Ok(false);
     };
     let complete = step.word(2) == "complete";

@@ -1,14 +1,13 @@
 //! The tokens of a text, and digits.
-use crate::numbers::amount;
-use crate::shown::{show, show_text};
+use crate::shown::show_text;
 use std::alloc::{AllocError, Global};
 use token_text::{Answer, Found, Tokens, put_number};
-use trial_script::Step;
+use trial_script::{Step, show};
 
 /// Tells so many answers as the call says, or those up to the first end.
 pub fn show_tokens(step: &Step<'_>, out: &mut String) -> Result<bool, AllocError> {
     let mut tokens = Tokens::new(step.text());
-    let most = amount(step, 1);
+    let most = step.amount(1);
     for _ in 0..most.unwrap_or(u64::MAX) {
         let answer = tokens.next();
         show_answer(answer, out)?;

@@ -3,10 +3,10 @@ ghost use Rattle.std.specs.Prelude.{◌≡◌, All, IsTrue, List, Bool, length};
 ghost use Rattle.evidence_rec.specs.Basis.{basis_of};
 ghost use Rattle.evidence_rec.specs.Records.{IsShaped};
 
-use crate::shown::show;
 use evidence_rec::{Record, RecordChecker, Records, Verdict, Witnesses, check_record};
 use gm_base::Problem;
 use std::alloc::{AllocError, Global};
+use trial_script::show;
 
 /// Checks a record by a checker of its own, and tells the verdict.
 pub fn check_one(

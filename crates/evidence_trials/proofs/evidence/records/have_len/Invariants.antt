@@ -1,6 +1,6 @@
 use Rattle.std.proofs.Common.{◌≡◌, take, length, List, Bool}
 use Rattle.std.specs.Prelude.{All}
-use Rattle.text_trials.proofs.evidence.records.have_len.Given as goal
+use Rattle.evidence_trials.proofs.evidence.records.have_len.Given as goal
 
 -- the witnesses so far have so many values
 abbrev pub invariant-loop-at : goal.invariant-loop-at

@@ -1,11 +1,10 @@
 //! Sets of groups, and problems.
-use crate::numbers::{count, set_from};
 use crate::problems::{problem_of, push_clause};
-use crate::shown::show;
+use crate::sets::set_from;
 use gm_base::{Assign, GroupSet, Problem};
 use std::alloc::{AllocError, Global};
 use std::cmp::Ordering;
-use trial_script::Step;
+use trial_script::{Step, show};
 
 /// The set, and another one.
 #[derive(Drop)]
@@ -37,7 +36,7 @@ pub fn call_sets(
             let made = made_of(&sets.set, alloc, step)?;
             put_set(&mut sets.other, made, out)
         }
-        "contains" => show_contains(&sets.set, count(step, 1), out),
+        "contains" => show_contains(&sets.set, step.count(1), out),
         "subset" => {
             let within = sets.other.is_subset(&sets.set);
             let around = sets.set.is_subset(&sets.other);
@@ -71,7 +70,7 @@ fn made_of(set: &GroupSet, alloc: Global, step: &Step<'_>) -> Result<Option<Grou
     if step.word(0) == "copy" {
         return Ok(Some(set.copy(alloc)?));
     }
-    let Some(number) = count(step, 1) else {
+    let Some(number) = step.count(1) else {
         return Ok(None);
     };
     if step.word(0) == "without" {

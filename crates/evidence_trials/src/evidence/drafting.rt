@@ -1,6 +1,6 @@
 //! A record that is made piece by piece.
 use crate::derivations::{id_at, push_step};
-use crate::numbers::{positive, set_from};
+use crate::sets::set_from;
 use evidence_rec::{Proofs, Record, Witnesses};
 use gm_base::{Assign, AssignBuilder, DerivationBuilder, GroupSet, Kind, Problem};
 use std::alloc::{AllocError, Global};
@@ -127,7 +127,7 @@ fn end_proof(draft: &mut Draft, alloc: Global) -> Result<(), AllocError> {
 fn witness_of(alloc: Global, vars: u32, step: &Step<'_>) -> Result<Option<Assign>, AllocError> {
     let mut values = AssignBuilder::all_false(alloc, vars)?;
     for at in 1..step.words().len() {
-        let Some(var) = positive(step, at) else {
+        let Some(var) = step.positive(at) else {
             return Ok(None);
         };
         if var as usize > values.len() {

@@ -2,11 +2,9 @@
 ghost use Rattle.std.specs.Prelude.{◌<◌, length};
 
 use crate::derivations::{id_at, lit_at, push_step};
-use crate::numbers::{amount, count, positive};
-use crate::shown::show;
 use sat_base::{Assign, AssignBuilder, Derivation, DerivationBuilder, Lit, WorkList};
 use std::alloc::{AllocError, Global};
-use trial_script::Step;
+use trial_script::{Step, show};
 
 /// One of each kind.
 #[derive(Drop)]
@@ -62,7 +60,7 @@ fn build(
             None => Ok(false),
         };
     }
-    let Some(vars) = count(step, 1) else {
+    let Some(vars) = step.count(1) else {
         return Ok(false);
     };
     let builder = AssignBuilder::all_false(alloc, vars)?;
@@ -74,7 +72,7 @@ fn build(
 /// Gives the variables their value, up to the first word that is none of them; whether all were.
 fn set_values(builder: &mut AssignBuilder, value: bool, step: &Step<'_>) -> bool {
     for at in 1..step.words().len() {
-        let Some(var) = positive(step, at) else {
+        let Some(var) = step.positive(at) else {
             return false;
         };
         if var as usize > builder.len() {
@@ -115,7 +113,7 @@ fn copy_of(
     alloc: Global,
     step: &Step<'_>,
 ) -> Result<Option<Assign>, AllocError> {
-    let (Some(assign), Some(number)) = (assign, count(step, 1)) else {
+    let (Some(assign), Some(number)) = (assign, step.count(1)) else {
         return Ok(None);
     };
     if step.word(0) == "prefix" {
@@ -157,7 +155,7 @@ fn push_told(assign: Option<&Assign>, lit: Lit, out: &mut String) -> Result<(), 
 /// Puts the numbers of the call in, if each is one.
 fn insert(work: &mut WorkList, step: &Step<'_>) -> Result<bool, AllocError> {
     for at in 1..step.words().len() {
-        let Some(number) = amount(step, at) else {
+        let Some(number) = step.amount(at) else {
             return Ok(false);
         };
         work.insert(number)?;

@@ -2,7 +2,6 @@
 ghost use Rattle.std.specs.Prelude.{◌≤◌, All, IfSome, IsTrue};
 ghost use Rattle.sat_base.specs.Derivation.{max_id};
 
-use crate::numbers::amount;
 use sat_base::{DerivationBuilder, Lit, Lits};
 use std::alloc::{AllocError, Global};
 use trial_script::Step;
@@ -14,7 +13,7 @@ const MAX_ID: u64 = 9_223_372_036_854_775_807;
 pub fn id_at(step: &Step<'_>, at: usize) -> Option<u64>
     ensures { IfSome result (λ id. id ≤ max_id) }
 {
-    let id = amount(step, at)?;
+    let id = step.amount(at)?;
     if id <= MAX_ID { Some(id) } else { None }
 }
 
@@ -62,7 +61,7 @@ pub fn lit_at(step: &Step<'_>, at: usize) -> Option<Lit> {
 fn amounts_from(alloc: Global, step: &Step<'_>, from: usize) -> Result<Vec<u64>, AllocError> {
     let mut amounts = Vec::new(alloc);
     for at in from..step.words().len() {
-        let Some(number) = amount(step, at) else {
+        let Some(number) = step.amount(at) else {
             break;
         };
         amounts.push(number)?;

@@ -1,5 +1,5 @@
 use Rattle.std.proofs.Common.{◌≡◌, true}
-use Rattle.text_trials.proofs.evidence.reading.read_and_write.Given as goal
+use Rattle.evidence_trials.proofs.evidence.reading.read_and_write.Given as goal
 
 -- the head was answered
 abbrev pub invariant-loop : goal.invariant-loop

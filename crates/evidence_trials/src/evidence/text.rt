@@ -1,14 +1,12 @@
 //! Calls that are about a text of evidence.
 use crate::evidence::reading::{Outcome, read_and_write};
-use crate::numbers::amount;
-use crate::shown::show;
 use evidence_rec::Records;
 use evidence_text::{EvidenceReader, Offence};
 use gm_audit::{Audited, audit};
 use gm_base::{Kind, Problem};
 use lrat_check::{Counts, Why};
 use std::alloc::{AllocError, Global};
-use trial_script::Step;
+use trial_script::{Step, show};
 
 /// Makes a call that is about a text, if it is one.
 pub fn call_text(
@@ -32,7 +30,7 @@ pub fn call_text(
 /// The text of the call; with two numbers the evidence, where that text replaces the lines from the first to the second. If
 /// the second is below the first, none is left out.
 fn text_of(alloc: Global, evidence: &[u8], step: &Step<'_>) -> Result<Vec<u8>, AllocError> {
-    let (Some(first), Some(last)) = (amount(step, 1), amount(step, 2)) else {
+    let (Some(first), Some(last)) = (step.amount(1), step.amount(2)) else {
         return Vec::from_slice(alloc, step.text());
     };
     let mut text = Vec::new(alloc);

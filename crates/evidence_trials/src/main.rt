@@ -1,0 +1,37 @@
+//! Tries evidence, and what evidence is made of, by scripts: each word after the program's name is a script, and its name
+//! says who plays it.
+//!
+//! | script | what its calls are made of | player |
+//! |---|---|---|
+//! | `bases` | assignments, work lists, derivations, sets of groups and problems | `bases.rt` |
+//! | `evidence` | evidence, records of it, and audits | `evidence.rt` |
+//!
+//! `trial_script` says what a script is, and the head of each player which calls it knows. Start reading at `evidence.rt`.
+#![tactic(auto)]
+
+mod bases;
+mod derivations;
+mod evidence;
+mod problems;
+mod sets;
+
+use bases::BasesPlayer;
+use evidence::EvidencePlayer;
+use std::{env, io};
+use trial_script::play;
+
+fn main(rt: HostRuntime) -> io::Result<()> {
+    for name in env::args(&rt)?.skip(1) {
+        play_script(&rt, name.as_str())?;
+    }
+    Ok(())
+}
+
+/// Plays the script of this name.
+fn play_script(rt: &HostRuntime, name: &str) -> io::Result<()> {
+    match name.strip_prefix("data/").unwrap_or(name) {
+        "bases" => play(rt, name, &mut BasesPlayer::new(rt.alloc())),
+        "evidence" => play(rt, name, &mut EvidencePlayer::new(rt.alloc())),
+        _ => println!(rt; "? {name}"),
+    }
+}
