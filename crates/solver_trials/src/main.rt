@@ -32,6 +32,7 @@ mod solver;
 use checker::CheckerPlayer;
 use log::LogPlayer;
 use solver::SolverPlayer;
+use std::rt::Files;
 use std::{env, io};
 use trial_script::play;
 
@@ -43,7 +44,7 @@ fn main(rt: HostRuntime) -> io::Result<()> {
 }
 
 // Plays a script by the player of its name. It may be named with its folder.
-fn play_named(rt: &HostRuntime, name: &str) -> io::Result<()> {
+fn play_named<R: Files + Print + AllocGlobal>(rt: &R, name: &str) -> io::Result<()> {
     match name.strip_prefix("data/").unwrap_or(name) {
         "log" => play(rt, name, &mut LogPlayer::new(rt.alloc())),
         "checker" => play(rt, name, &mut CheckerPlayer { checking: None }),

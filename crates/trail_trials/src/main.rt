@@ -37,6 +37,7 @@ mod words;
 
 use learning::LearningPlayer;
 use propagation::PropagationPlayer;
+use std::rt::Files;
 use std::{env, io};
 use store::StorePlayer;
 use trail::TrailPlayer;
@@ -51,7 +52,7 @@ fn main(rt: HostRuntime) -> io::Result<()> {
 }
 
 // Plays a script by the player of its name. It may be named with its folder.
-fn play_named(rt: &HostRuntime, name: &str) -> io::Result<()> {
+fn play_named<R: Files + Print + AllocGlobal>(rt: &R, name: &str) -> io::Result<()> {
     match name.strip_prefix("data/").unwrap_or(name) {
         "words" => play(rt, name, &mut WordsPlayer::new()),
         "trail" => play(rt, name, &mut TrailPlayer { trail: None }),
