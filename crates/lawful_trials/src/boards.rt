@@ -1,21 +1,21 @@
 //! A board of two seats, from one thread: `board 10 1` opens one, with a budget and a limit. Its text is that of a core (see
-//! `cores.rt`), where worker 0 has the first seat and worker 1 the second. Who has not ended when the text does retires
-//! before the closing is printed.
-ghost use Rattle.std.specs.Prelude.{◌≡◌, true, IfOk};
+//! `cores.rt`), without refills; worker 0 has the first seat, and worker 1 the second. Who has not ended when the text does
+//! retires before the closing is printed.
+ghost use Rattle.std.specs.Prelude.{◌≡◌, true, false, IfOk};
 ghost use Rattle.turn_lock.specs.Seats.{AreNew, AreAll};
-ghost use Rattle.map_core.specs.Own.{worker_of};
-ghost use Rattle.board.specs.Boards.{IsSameSeat, HaveAllEnded};
+ghost use Rattle.board.specs.Boards.{HaveAllEnded};
 ghost use Rattle.lawful_trials.specs.Seats.{IsSeated};
 
-use crate::cores::{say_closing, say_posted, say_refilled, say_taken};
-use crate::scripted::{is_of_map, record_in, scripted_map};
-use crate::telling::{say, say_unknown};
-use crate::words::{moves_of, number_at};
+use crate::cores::{say_closing, say_posted, say_taken};
+use crate::moves::{Mover, make_moves};
+use crate::scripted::{record_in, scripted_map};
+use crate::telling::say;
+use crate::words::{lines_of, number_at};
 use board::{Board, BoardClosing, Seat};
 use evidence_rec::Records;
-use gm_base::{GroupSet, Problem};
+use gm_base::Problem;
 use lawful_fakes::{Lacking, ScriptedMap};
-use map_core::{Posted, Refilled, Taken};
+use map_core::{Posted, Taken};
 use std::alloc::{AllocError, Global};
 use std::sync::Wait;
 use trial_script::Step;
@@ -23,10 +23,24 @@ use trial_script::Step;
 type Shared = Board<ScriptedMap>;
 
 /// A seat, and whether its worker may still call.
-#[derive(Drop)]
 struct Place {
     seat: Seat,
     may_call: bool,
+}
+
+/// Plays the calls of two workers at a board of this problem.
+struct Table<'a, R: Wait> {
+    rt: &'a R,
+    board: Shared,
+    problem: &'a Problem,
+    first: Place,
+    second: Place,
+    ghost of: { board.opening.problem ≡ problem.now },
+    ghost workers: { board.opening.workers ≡ 2 },
+    ghost first_seated: { IsSeated board first.may_call first.seat },
+    ghost second_seated: { IsSeated board second.may_call second.seat },
+    ghost first_number: { first.seat.number ≡ 0 },
+    ghost second_number: { second.seat.number ≡ 1 },
 }
 
 pub fn play_board<R: Wait>(
@@ -38,11 +52,8 @@ pub fn play_board<R: Wait>(
 ) -> Result<(), Lacking> {
     let budget = u64::from(number_at(alloc, step, 0, 0)?);
     let limit = u64::from(number_at(alloc, step, 0, 1)?);
-    let (board, seats) = board_of(alloc, problem, budget, limit, moves_of(step))?;
-    let (made, seats) = sit(rt, alloc, &board, seats, problem, moves_of(step), out);
-    let closed = close(board, seats, out);
-    made?;
-    Ok(closed?)
+    let (board, seats) = board_of(alloc, problem, budget, limit, lines_of(step))?;
+    Ok(sit(rt, alloc, board, seats, problem, step, out)?)
 }
 
 /// A board over the map that the lines describe.
@@ -51,126 +62,108 @@ fn board_of(
     problem: &Problem,
     budget: u64,
     limit: u64,
-    moves: &str,
+    lines: &str,
 ) -> Result<(Shared, Vec<Seat>), Lacking>
     ensures problem { IfOk result (λ r. r.0.opening.problem ≡ problem.now) }
     ensures workers { IfOk result (λ r. r.0.opening.workers ≡ 2) }
     ensures seats { IfOk result (λ r. AreNew r.0 2 r.1.items) }
 {
     let _groups = problem.groups(); // The problem is well-formed.
-    let engine = scripted_map(alloc, problem, moves)?;
+    let engine = scripted_map(alloc, problem, lines)?;
     let records = Records::new(alloc);
     let started = Board::start(alloc, problem, records, 2, budget, limit, engine)?;
     Ok(started)
 }
 
-/// Makes the moves, and has each worker end.
+/// Makes the moves, has each worker end, and closes the board.
 fn sit<R: Wait>(
     rt: &R,
     alloc: Global,
-    board: &Shared,
+    board: Shared,
     mut seats: Vec<Seat>,
     problem: &Problem,
-    moves: &str,
-    out: &mut String,
-) -> (Result<(), AllocError>, Vec<Seat>)
-    requires seats { AreNew board.now 2 seats.items }
-    requires workers { board.now.opening.workers ≡ 2 }
-    requires problem { board.now.opening.problem ≡ problem.now }
-    ensures all { AreAll board.now result.1.items }
-    ensures ended { HaveAllEnded board.now.opening result.1.items }
-{
-    let mut second = Place {
-        seat: seats.remove(1),
-        may_call: true,
-    };
-    let mut first = Place {
-        seat: seats.remove(0),
-        may_call: true,
-    };
-    let made = make_moves(
-        rt,
-        alloc,
-        board,
-        &mut first,
-        &mut second,
-        problem,
-        moves,
-        out,
-    );
-    retire(rt, board, &mut first);
-    retire(rt, board, &mut second);
-    seats.push_reserved(first.seat);
-    seats.push_reserved(second.seat);
-    (made, seats)
-}
-
-fn make_moves<R: Wait>(
-    rt: &R,
-    alloc: Global,
-    board: &Shared,
-    first: &mut Place,
-    second: &mut Place,
-    problem: &Problem,
-    moves: &str,
-    out: &mut String,
-) -> Result<(), AllocError>
-    requires problem { board.now.opening.problem ≡ problem.now }
-    requires first { IsSeated board.now first.old.may_call first.old.seat }
-    requires second { IsSeated board.now second.old.may_call second.old.seat }
-    ensures first { IsSeated board.now first.new.may_call first.new.seat }
-    ensures second { IsSeated board.now second.new.may_call second.new.seat }
-    ensures same_first { IsSameSeat first.old.seat first.new.seat }
-    ensures same_second { IsSameSeat second.old.seat second.new.seat }
-{
-    for line in moves.split('\n') {
-        let step = Step::new(alloc, line)?;
-        let made = match number_at(alloc, &step, 0, 0) {
-            Ok(0) => make_move(rt, alloc, board, first, problem, &step, out),
-            Ok(1) => make_move(rt, alloc, board, second, problem, &step, out),
-            _ => Err(Lacking::Evidence),
-        };
-        tell_made(made, &step, out)?;
-    }
-    Ok(())
-}
-
-/// Tells where a move isn't known.
-fn tell_made(
-    made: Result<(), Lacking>,
     step: &Step<'_>,
     out: &mut String,
-) -> Result<(), AllocError> {
-    match made {
-        Err(Lacking::Memory) => Err(AllocError),
-        Err(Lacking::Evidence) if !is_of_map(step.word(0)) => say_unknown(out, step),
-        _ => Ok(()),
+) -> Result<(), AllocError>
+    requires seats { AreNew board 2 seats.items }
+    requires workers { board.opening.workers ≡ 2 }
+    requires problem { board.opening.problem ≡ problem.now }
+{
+    let second = seats.remove(1);
+    let first = seats.remove(0);
+    let mut table = Table {
+        rt,
+        board,
+        problem,
+        first: Place {
+            seat: first,
+            may_call: true,
+        },
+        second: Place {
+            seat: second,
+            may_call: true,
+        },
+    };
+    let made = make_moves(alloc, &mut table, step, out);
+    let Table {
+        rt: _,
+        board,
+        problem: _,
+        first,
+        second,
+    } = table;
+    seats.push_reserved(ended(rt, &board, first));
+    seats.push_reserved(ended(rt, &board, second));
+    let closed = close(board, seats, out);
+    made?;
+    closed
+}
+
+impl<R: Wait> Mover for Table<'_, R> {
+    fn make_move(
+        &mut self,
+        alloc: Global,
+        step: &Step<'_>,
+        out: &mut String,
+    ) -> Result<(), Lacking> {
+        match number_at(alloc, step, 0, 0)? {
+            0 => {
+                let place = &mut self.first;
+                call(self.rt, alloc, &self.board, self.problem, place, step, out)
+            }
+            1 => {
+                let place = &mut self.second;
+                call(self.rt, alloc, &self.board, self.problem, place, step, out)
+            }
+            _ => Err(Lacking::Evidence),
+        }
     }
 }
 
-fn make_move<R: Wait>(
+/// Makes a worker's call, if it may still call.
+fn call<R: Wait>(
     rt: &R,
     alloc: Global,
     board: &Shared,
-    place: &mut Place,
     problem: &Problem,
+    place: &mut Place,
     step: &Step<'_>,
     out: &mut String,
 ) -> Result<(), Lacking>
     requires problem { board.now.opening.problem ≡ problem.now }
     requires seated { IsSeated board.now place.old.may_call place.old.seat }
     ensures seated { IsSeated board.now place.new.may_call place.new.seat }
-    ensures same { IsSameSeat place.old.seat place.new.seat }
+    ensures number { place.new.seat.number ≡ place.old.seat.number }
 {
     if !place.may_call {
         return Err(Lacking::Evidence);
     }
     match step.word(0) {
         "take" => Ok(take(rt, board, place, out)?),
-        "post" => post(rt, alloc, board, place, problem, step, out),
-        "refill" => Ok(refill(rt, alloc, board, place, out)?),
+        "post" => post(rt, alloc, board, problem, place, step, out),
         "retire" => {
-            retire(rt, board, place);
+            board.retire(rt, &mut place.seat, 0);
+            place.may_call = false;
             Ok(say(out, "retired")?)
         }
         _ => Err(Lacking::Evidence),
@@ -186,7 +179,7 @@ fn take<R: Wait>(
     requires seated { IsSeated board.now place.old.may_call place.old.seat }
     requires may { place.old.may_call ≡ true }
     ensures seated { IsSeated board.now place.new.may_call place.new.seat }
-    ensures same { IsSameSeat place.old.seat place.new.seat }
+    ensures number { place.new.seat.number ≡ place.old.seat.number }
 {
     let taken = board.take(rt, &mut place.seat, 0);
     place.may_call = match &taken {
@@ -204,8 +197,8 @@ fn post<R: Wait>(
     rt: &R,
     alloc: Global,
     board: &Shared,
-    place: &mut Place,
     problem: &Problem,
+    place: &mut Place,
     step: &Step<'_>,
     out: &mut String,
 ) -> Result<(), Lacking>
@@ -213,7 +206,7 @@ fn post<R: Wait>(
     requires seated { IsSeated board.now place.old.may_call place.old.seat }
     requires may { place.old.may_call ≡ true }
     ensures seated { IsSeated board.now place.new.may_call place.new.seat }
-    ensures same { IsSameSeat place.old.seat place.new.seat }
+    ensures number { place.new.seat.number ≡ place.old.seat.number }
 {
     let finding = record_in(alloc, problem, step)?;
     let posted = board.post(rt, &mut place.seat, 0, finding);
@@ -226,39 +219,17 @@ fn post<R: Wait>(
     Ok(say_posted(out, posted)?)
 }
 
-fn refill<R: Wait>(
-    rt: &R,
-    alloc: Global,
-    board: &Shared,
-    place: &mut Place,
-    out: &mut String,
-) -> Result<(), AllocError>
-    requires seated { IsSeated board.now place.old.may_call place.old.seat }
-    requires may { place.old.may_call ≡ true }
-    ensures seated { IsSeated board.now place.new.may_call place.new.seat }
-    ensures same { IsSameSeat place.old.seat place.new.seat }
+/// The seat, whose worker retires if it may still call.
+fn ended<R: Wait>(rt: &R, board: &Shared, place: Place) -> Seat
+    requires { IsSeated board.now place.may_call place.seat }
+    ensures seated { IsSeated board.now false result }
+    ensures number { result.number ≡ place.seat.number }
 {
-    let refilled = board.refill(rt, &mut place.seat, 0, GroupSet::new(alloc));
-    place.may_call = match refilled {
-        Refilled::Grant(_) => true,
-        Refilled::Dry => false,
-        Refilled::Stopped => false,
-        Refilled::Memory => false,
-    };
-    say_refilled(out, refilled)
-}
-
-/// Has a worker end, if it may still call.
-fn retire<R: Wait>(rt: &R, board: &Shared, place: &mut Place)
-    requires { IsSeated board.now place.old.may_call place.old.seat }
-    ensures seated { IsSeated board.now place.new.may_call place.new.seat }
-    ensures ended { (worker_of place.new.seat.mine).ended ≡ true }
-    ensures same { IsSameSeat place.old.seat place.new.seat }
-{
-    if place.may_call {
-        board.retire(rt, &mut place.seat, 0);
-        place.may_call = false;
+    let Place { mut seat, may_call } = place;
+    if may_call {
+        board.retire(rt, &mut seat, 0);
     }
+    seat
 }
 
 fn close(board: Shared, seats: Vec<Seat>, out: &mut String) -> Result<(), AllocError>

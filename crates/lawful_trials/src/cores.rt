@@ -15,16 +15,24 @@
 ghost use Rattle.std.specs.Prelude.{◌≡◌, ◌<◌, ◌≤◌, IfOk};
 ghost use Rattle.evidence_rec.specs.Records.{IsAccepted};
 
-use crate::scripted::{is_of_map, record_in, scripted_map};
-use crate::telling::{add_numbers, say, say_count, say_unknown};
-use crate::words::{moves_of, number_at};
-use evidence_rec::{MapEngine, Records};
+use crate::moves::{Mover, make_moves};
+use crate::scripted::{record_in, scripted_map};
+use crate::telling::{add_numbers, say, say_count};
+use crate::words::{lines_of, number_at};
+use evidence_rec::Records;
 use gm_base::{GroupSet, Problem};
 use lawful_fakes::{Lacking, ScriptedMap};
 use lrat_steps::Log;
 use map_core::{Closing, MapCore, Posted, Refilled, Taken, Verdict};
 use std::alloc::{AllocError, Global};
 use trial_script::Step;
+
+/// Plays the calls of workers at a core of this problem.
+struct Desk<'a> {
+    core: MapCore<ScriptedMap>,
+    problem: &'a Problem,
+    ghost of: { core.opening.problem ≡ problem.now },
+}
 
 pub fn play_core(
     alloc: Global,
@@ -38,8 +46,10 @@ pub fn play_core(
     if workers == 0 || workers > 64 {
         return Err(Lacking::Evidence);
     }
-    let mut core = core_of(alloc, problem, workers, budget, limit, moves_of(step))?;
-    let made = make_moves(alloc, &mut core, problem, moves_of(step), out);
+    let core = core_of(alloc, problem, workers, budget, limit, lines_of(step))?;
+    let mut desk = Desk { core, problem };
+    let made = make_moves(alloc, &mut desk, step, out);
+    let Desk { core, problem: _ } = desk;
     let closed = close(core, out);
     made?;
     Ok(closed?)
@@ -52,70 +62,46 @@ fn core_of(
     workers: u32,
     budget: u64,
     limit: u64,
-    moves: &str,
+    lines: &str,
 ) -> Result<MapCore<ScriptedMap>, Lacking>
     requires some { 0 < workers }
     requires few { workers ≤ 64 }
     ensures { IfOk result (λ core. core.opening.problem ≡ problem.now) }
 {
     let _groups = problem.groups(); // The problem is well-formed.
-    let engine = scripted_map(alloc, problem, moves)?;
+    let engine = scripted_map(alloc, problem, lines)?;
     let records = Records::new(alloc);
     let core = MapCore::start(alloc, problem, records, workers, budget, limit, engine)?;
     Ok(core)
 }
 
-fn make_moves<M: MapEngine>(
-    alloc: Global,
-    core: &mut MapCore<M>,
-    problem: &Problem,
-    moves: &str,
-    out: &mut String,
-) -> Result<(), AllocError>
-    requires { core.old.opening.problem ≡ problem.now }
-{
-    for line in moves.split('\n') {
-        let step = Step::new(alloc, line)?;
-        match make_move(alloc, core, problem, &step, out) {
-            Ok(()) => {}
-            Err(Lacking::Evidence) => say_unknown(out, &step)?,
-            Err(Lacking::Memory) => return Err(AllocError),
+impl Mover for Desk<'_> {
+    fn make_move(
+        &mut self,
+        alloc: Global,
+        step: &Step<'_>,
+        out: &mut String,
+    ) -> Result<(), Lacking> {
+        let core = &mut self.core;
+        let worker = number_at(alloc, step, 0, 0)?;
+        if !core.may_call(worker) {
+            return Err(Lacking::Evidence);
         }
-    }
-    Ok(())
-}
-
-fn make_move<M: MapEngine>(
-    alloc: Global,
-    core: &mut MapCore<M>,
-    problem: &Problem,
-    step: &Step<'_>,
-    out: &mut String,
-) -> Result<(), Lacking>
-    requires { core.old.opening.problem ≡ problem.now }
-    ensures { core.new.opening.problem ≡ problem.now }
-{
-    if is_of_map(step.word(0)) {
-        return Ok(());
-    }
-    let worker = number_at(alloc, step, 0, 0)?;
-    if !core.may_call(worker) {
-        return Err(Lacking::Evidence);
-    }
-    match step.word(0) {
-        "take" => say_taken(out, core.take(worker, 0))?,
-        "post" => {
-            let finding = record_in(alloc, problem, step)?;
-            say_posted(out, core.post(worker, 0, finding))?;
+        match step.word(0) {
+            "take" => say_taken(out, core.take(worker, 0))?,
+            "post" => {
+                let finding = record_in(alloc, self.problem, step)?;
+                say_posted(out, core.post(worker, 0, finding))?;
+            }
+            "refill" => say_refilled(out, core.refill(worker, 0, GroupSet::new(alloc)))?,
+            "retire" => {
+                core.retire(worker, 0);
+                say(out, "retired")?;
+            }
+            _ => return Err(Lacking::Evidence),
         }
-        "refill" => say_refilled(out, core.refill(worker, 0, GroupSet::new(alloc)))?,
-        "retire" => {
-            core.retire(worker, 0);
-            say(out, "retired")?;
-        }
-        _ => return Err(Lacking::Evidence),
+        Ok(())
     }
-    Ok(())
 }
 
 /// Adds a line on what a take was answered.
@@ -144,8 +130,7 @@ pub fn say_posted(out: &mut String, posted: Posted) -> Result<(), AllocError> {
     }
 }
 
-/// Adds a line on what a refill was answered.
-pub fn say_refilled(out: &mut String, refilled: Refilled) -> Result<(), AllocError> {
+fn say_refilled(out: &mut String, refilled: Refilled) -> Result<(), AllocError> {
     match refilled {
         Refilled::Grant(units) => say_count(out, "granted", units),
         Refilled::Dry => say(out, "dry"),
@@ -154,7 +139,7 @@ pub fn say_refilled(out: &mut String, refilled: Refilled) -> Result<(), AllocErr
     }
 }
 
-fn close<M: MapEngine + Drop>(core: MapCore<M>, out: &mut String) -> Result<(), AllocError> {
+fn close(core: MapCore<ScriptedMap>, out: &mut String) -> Result<(), AllocError> {
     if !core.have_ended() {
         return say(out, "not ended");
     }

@@ -15,7 +15,9 @@
 //! first, and `:` stands between two of those in one line. Any line that isn't known, or whose numbers don't fit, is printed
 //! behind `? `. Where an answer isn't one that the trait allows, `wrong` is printed.
 //!
-//! Start reading at `player.rt`, then at `asking.rt`. Of what is printed nothing is proved: it is compared.
+//! Start reading at `player.rt`, then at `moves.rt` and `asking.rt`. What a text makes moves with is a struct that owns it,
+//! made in one function, which takes it apart before it returns: so few proofs have to drop a solver, a map or a board. Of
+//! what is printed nothing is proved: it is compared.
 #![tactic(auto)]
 
 mod asking;
@@ -23,6 +25,7 @@ mod boards;
 mod cores;
 mod flips;
 mod maps;
+mod moves;
 mod oracles;
 mod player;
 mod scripted;

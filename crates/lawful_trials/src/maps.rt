@@ -15,8 +15,9 @@
 ghost use Rattle.std.specs.Prelude.{◌≡◌, ◌<◌, ◌^◌};
 ghost use Rattle.evidence_rec.specs.Seeding.{EngineState};
 
-use crate::telling::{is_of_log, say, say_count, say_log, say_numbers, say_proof, say_unknown};
-use crate::words::{has_word, moves_of, number_at, set_in};
+use crate::moves::{Mover, make_moves};
+use crate::telling::{say, say_count, say_log, say_numbers, say_proof};
+use crate::words::{has_word, lines_of, number_at, set_in};
 use evidence_rec::{MapEngine, Seed};
 use gm_base::{Derivation, GroupSet, Purse, Side};
 use lawful_fakes::Lacking;
@@ -24,34 +25,26 @@ use power_map::PowerMap;
 use std::alloc::{AllocError, Global};
 use trial_script::Step;
 
-/// What was done with a map so far.
-#[derive(Drop)]
-struct Search {
+/// Searches a map of so many groups.
+struct Search<M: MapEngine> {
+    map: M,
     groups: u32,
     purse: Purse,
     blocks: Vec<(Side, GroupSet)>,
     // The groups that some seed left out.
     left_out: GroupSet,
     proof: Option<Derivation>,
+    ghost of: { (M.state map).groups ≡ groups },
 }
 
 pub fn play_map(alloc: Global, step: &Step<'_>, out: &mut String) -> Result<(), Lacking> {
     let groups = number_at(alloc, step, 0, 0)?;
-    let units = number_at(alloc, step, 0, 1)?;
+    let units = u64::from(number_at(alloc, step, 0, 1)?);
     if groups >= 1 << 31 {
         return Err(Lacking::Evidence);
     }
-    let search = Search {
-        groups,
-        purse: Purse {
-            left: u64::from(units),
-        },
-        blocks: Vec::new(alloc),
-        left_out: GroupSet::new(alloc),
-        proof: None,
-    };
     let map = PowerMap::new(alloc, groups)?;
-    explore(alloc, map, search, step, out)
+    explore(alloc, map, groups, units, step, out)
 }
 
 /// Makes the moves of a call with a map, and tells of its log in the end. It is given up before anything else ends the call,
@@ -59,103 +52,109 @@ pub fn play_map(alloc: Global, step: &Step<'_>, out: &mut String) -> Result<(), 
 fn explore<M: MapEngine>(
     alloc: Global,
     map: M,
-    search: Search,
+    groups: u32,
+    units: u64,
     step: &Step<'_>,
     out: &mut String,
 ) -> Result<(), Lacking>
-    requires { (M.state map).groups ≡ search.groups }
+    requires { (M.state map).groups ≡ groups }
 {
-    let mut map = map;
-    let mut search = search;
-    let made = make_moves(alloc, &mut map, &mut search, moves_of(step), out);
+    let mut search = Search {
+        map,
+        groups,
+        purse: Purse { left: units },
+        blocks: Vec::new(alloc),
+        left_out: GroupSet::new(alloc),
+        proof: None,
+    };
+    let made = make_moves(alloc, &mut search, step, out);
+    let Search {
+        map,
+        groups: _,
+        purse: _,
+        blocks: _,
+        left_out: _,
+        proof: _,
+    } = search;
     let log = map.into_log();
     made?;
-    say_log(&log, moves_of(step), out)?;
-    Ok(())
+    Ok(say_log(&log, lines_of(step), out)?)
 }
 
-fn make_moves<M: MapEngine>(
-    alloc: Global,
-    map: &mut M,
-    search: &mut Search,
-    moves: &str,
-    out: &mut String,
-) -> Result<(), AllocError>
-    requires { (M.state map.old).groups ≡ search.old.groups }
-{
-    for line in moves.split('\n') {
-        let step = Step::new(alloc, line)?;
-        match make_move(alloc, map, search, &step, out) {
-            Ok(()) => {}
-            Err(Lacking::Evidence) => say_unknown(out, &step)?,
-            Err(Lacking::Memory) => return Err(AllocError),
+impl<M: MapEngine> Mover for Search<M> {
+    fn make_move(
+        &mut self,
+        alloc: Global,
+        step: &Step<'_>,
+        out: &mut String,
+    ) -> Result<(), Lacking> {
+        match step.word(0) {
+            "seed" => self.find(alloc, has_word(step, "size"), out),
+            "block" => self.block(alloc, step),
+            "left-out" => Ok(say_numbers(out, "left out", self.left_out.as_slice())?),
+            "proof" => match &self.proof {
+                Some(proof) => Ok(say_proof(alloc, out, proof, self.blocks.len())?),
+                None => Err(Lacking::Evidence),
+            },
+            "left" => Ok(say_count(out, "left", self.purse.left)?),
+            _ => Err(Lacking::Evidence),
         }
     }
-    Ok(())
 }
 
-fn make_move<M: MapEngine>(
-    alloc: Global,
-    map: &mut M,
-    search: &mut Search,
-    step: &Step<'_>,
-    out: &mut String,
-) -> Result<(), Lacking>
-    requires { (M.state map.old).groups ≡ search.old.groups }
-    ensures { (M.state map.new).groups ≡ search.new.groups }
-{
-    match step.word(0) {
-        "seed" => find(alloc, map, search, step, out),
-        "block" => block(alloc, map, search, step),
-        "left-out" => Ok(say_numbers(out, "left out", search.left_out.as_slice())?),
-        "proof" => match &search.proof {
-            Some(proof) => Ok(say_proof(alloc, out, proof, search.blocks.len())?),
-            None => Err(Lacking::Evidence),
-        },
-        "left" => Ok(say_count(out, "left", search.purse.left)?),
-        word if is_of_log(word) => Ok(()),
-        _ => Err(Lacking::Evidence),
-    }
-}
-
-/// Searches for a seed.
-fn find<M: MapEngine>(
-    alloc: Global,
-    map: &mut M,
-    search: &mut Search,
-    step: &Step<'_>,
-    out: &mut String,
-) -> Result<(), Lacking>
-    requires { (M.state map.old).groups ≡ search.old.groups }
-    ensures { (M.state map.new).groups ≡ search.new.groups }
-{
-    match map.seed(alloc, 0, &mut search.purse)? {
-        Seed::Set(set) => {
-            tell_seed(search, &set, has_word(step, "size"), out)?;
-            add_left_out(alloc, search, &set)?;
+impl<M: MapEngine> Search<M> {
+    /// Searches for a seed.
+    fn find(&mut self, alloc: Global, has_size: bool, out: &mut String) -> Result<(), Lacking> {
+        match self.map.seed(alloc, 0, &mut self.purse)? {
+            Seed::Set(set) => {
+                self.tell_seed(&set, has_size, out)?;
+                self.add_left_out(alloc, &set)?;
+            }
+            Seed::Empty => {
+                self.proof = Some(self.map.empty_proof(alloc)?);
+                say(out, "none left")?;
+            }
+            Seed::Dry => say(out, "dry")?,
         }
-        Seed::Empty => {
-            search.proof = Some(map.empty_proof(alloc)?);
-            say(out, "none left")?;
-        }
-        Seed::Dry => say(out, "dry")?,
+        Ok(())
     }
-    Ok(())
-}
 
-fn tell_seed(
-    search: &Search,
-    seed: &GroupSet,
-    has_size: bool,
-    out: &mut String,
-) -> Result<(), AllocError> {
-    if search.blocks.iter().any(|block| takes_out(block, seed)) {
-        return say(out, "wrong");
+    fn tell_seed(
+        &self,
+        seed: &GroupSet,
+        has_size: bool,
+        out: &mut String,
+    ) -> Result<(), AllocError> {
+        if self.blocks.iter().any(|block| takes_out(block, seed)) {
+            return say(out, "wrong");
+        }
+        if has_size {
+            say_count(out, "set of", seed.len() as u64)
+        } else {
+            say(out, "set")
+        }
     }
-    if has_size {
-        say_count(out, "set of", seed.len() as u64)
-    } else {
-        say(out, "set")
+
+    /// Adds the groups that a seed leaves out.
+    fn add_left_out(&mut self, alloc: Global, seed: &GroupSet) -> Result<(), AllocError> {
+        let mut never = self.left_out.complement(alloc, self.groups)?;
+        for group in seed.complement(alloc, self.groups)?.as_slice() {
+            never = never.without(alloc, *group)?;
+        }
+        self.left_out = never.complement(alloc, self.groups)?;
+        Ok(())
+    }
+
+    fn block(&mut self, alloc: Global, step: &Step<'_>) -> Result<(), Lacking> {
+        let side = match step.word(1) {
+            "up" => Side::Up,
+            "down" => Side::Down,
+            _ => return Err(Lacking::Evidence),
+        };
+        let set = set_in(alloc, step, 0, self.groups)?;
+        self.map.block(alloc, &set, side)?;
+        self.blocks.push((side, set)).map_err(AllocError::from)?;
+        Ok(())
     }
 }
 
@@ -167,37 +166,4 @@ fn takes_out(block: &(Side, GroupSet), set: &GroupSet) -> bool {
         }
     }
     true
-}
-
-/// Adds the groups that a seed leaves out.
-fn add_left_out(alloc: Global, search: &mut Search, seed: &GroupSet) -> Result<(), AllocError>
-    ensures { search.new.groups ≡ search.old.groups }
-{
-    let rest = seed.complement(alloc, search.groups)?;
-    let mut kept = search.left_out.complement(alloc, search.groups)?;
-    for group in rest.as_slice() {
-        kept = kept.without(alloc, *group)?;
-    }
-    search.left_out = kept.complement(alloc, search.groups)?;
-    Ok(())
-}
-
-fn block<M: MapEngine>(
-    alloc: Global,
-    map: &mut M,
-    search: &mut Search,
-    step: &Step<'_>,
-) -> Result<(), Lacking>
-    requires { (M.state map.old).groups ≡ search.old.groups }
-    ensures { (M.state map.new).groups ≡ search.new.groups }
-{
-    let side = match step.word(1) {
-        "up" => Side::Up,
-        "down" => Side::Down,
-        _ => return Err(Lacking::Evidence),
-    };
-    let set = set_in(alloc, step, 0, search.groups)?;
-    map.block(alloc, &set, side)?;
-    search.blocks.push((side, set)).map_err(AllocError::from)?;
-    Ok(())
 }

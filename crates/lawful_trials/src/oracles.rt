@@ -26,7 +26,8 @@ use lawful_fakes::example::{conflict, correction, table_of};
 use std::alloc::{AllocError, Global};
 use trial_script::Step;
 
-const ALL: [(bool, bool); 4] = [(false, false), (false, true), (true, false), (true, true)];
+/// All values of x and y.
+pub const ALL: [(bool, bool); 4] = [(false, false), (false, true), (true, false), (true, true)];
 
 pub fn play_table(
     alloc: Global,

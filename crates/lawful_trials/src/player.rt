@@ -8,9 +8,9 @@
 //! | `map` | makes a map and searches it for seeds: see `maps.rt` |
 //! | `core`, `board` | plays the calls of workers: see `cores.rt` and `boards.rt` |
 //! | `workers`, `either` | has workers enumerate: see `workers.rt` |
-//! | `flips`, `rotation` | changes assignments: see `flips.rt` |
+//! | `flips` | changes assignments: see `flips.rt` |
 use crate::cores::play_core;
-use crate::flips::{play_flips, play_rotation};
+use crate::flips::play_flips;
 use crate::maps::play_map;
 use crate::oracles::{play_known, play_solver, play_table};
 use crate::together::Together;
@@ -95,7 +95,6 @@ fn play_over(
         "known" => play_known(alloc, problem, step, out),
         "core" => play_core(alloc, problem, step, out),
         "flips" => play_flips(alloc, problem, step, out),
-        "rotation" => play_rotation(alloc, problem, step, out),
         _ => together.play(alloc, problem, step, out),
     }
 }

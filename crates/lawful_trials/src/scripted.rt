@@ -22,12 +22,12 @@ use std::alloc::{AllocError, Global};
 use trial_script::Step;
 
 /// The map that the lines describe.
-pub fn scripted_map(alloc: Global, problem: &Problem, moves: &str) -> Result<ScriptedMap, Lacking>
+pub fn scripted_map(alloc: Global, problem: &Problem, lines: &str) -> Result<ScriptedMap, Lacking>
     ensures { IfOk result (λ map. map ≡ new_engine problem.now.groups) }
 {
-    let seeds = seeds_of(alloc, problem, &line_with(alloc, moves, "script")?)?;
-    let ending = ending_of(alloc, &line_with(alloc, moves, "ending")?)?;
-    let repeating = line_with(alloc, moves, "repeating")?;
+    let seeds = seeds_of(alloc, problem, &line_with(alloc, lines, "script")?)?;
+    let ending = ending_of(alloc, &line_with(alloc, lines, "ending")?)?;
+    let repeating = line_with(alloc, lines, "repeating")?;
     let map = ScriptedMap::new(alloc, problem.groups(), seeds, ending);
     Ok(if repeating.word(0) == "repeating" {
         map.repeating()
@@ -36,14 +36,9 @@ pub fn scripted_map(alloc: Global, problem: &Problem, moves: &str) -> Result<Scr
     })
 }
 
-/// Whether a line describes the map.
-pub fn is_of_map(word: &str) -> bool {
-    matches!(word, "script" | "ending" | "repeating" | "")
-}
-
 /// The first line that begins with this word, or an empty one.
-fn line_with<'a>(alloc: Global, moves: &'a str, word: &str) -> Result<Step<'a>, AllocError> {
-    for line in moves.split('\n') {
+fn line_with<'a>(alloc: Global, lines: &'a str, word: &str) -> Result<Step<'a>, AllocError> {
+    for line in lines.split('\n') {
         let step = Step::new(alloc, line)?;
         if step.word(0) == word {
             return Ok(step);

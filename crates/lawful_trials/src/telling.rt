@@ -31,10 +31,10 @@ pub fn say_unknown(out: &mut String, step: &Step<'_>) -> Result<(), AllocError> 
     writeln!(out, "? {line}")
 }
 
-/// Adds what is asked of the log that is left of an oracle or a map, once that is gone: the moves `inputs`, `learnt` and
+/// Adds what a text asks of the log that is left of an oracle or a map, once that is gone: the lines `inputs`, `learnt` and
 /// `steps`.
-pub fn say_log(log: &Log, moves: &str, out: &mut String) -> Result<(), AllocError> {
-    for line in moves.split('\n') {
+pub fn say_log(log: &Log, lines: &str, out: &mut String) -> Result<(), AllocError> {
+    for line in lines.split('\n') {
         match line {
             "inputs" => say_count(out, line, log.inputs())?,
             "learnt" => say_count(out, line, log.learned())?,
@@ -43,11 +43,6 @@ pub fn say_log(log: &Log, moves: &str, out: &mut String) -> Result<(), AllocErro
         }
     }
     Ok(())
-}
-
-/// Whether a move is answered by the log alone.
-pub fn is_of_log(word: &str) -> bool {
-    matches!(word, "inputs" | "learnt" | "steps" | "")
 }
 
 /// Adds a line of a word and a number.

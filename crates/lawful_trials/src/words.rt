@@ -9,7 +9,7 @@ use std::alloc::{AllocError, Global};
 use trial_script::Step;
 
 /// The lines of the text of a call.
-pub fn moves_of<'a>(step: &'a Step<'_>) -> &'a str {
+pub fn lines_of<'a>(step: &'a Step<'_>) -> &'a str {
     std::str::from_utf8(step.text()).unwrap_or("")
 }
 

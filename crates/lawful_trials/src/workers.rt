@@ -11,9 +11,10 @@ ghost use Rattle.std.specs.Prelude.{◌≡◌, ◌<◌, ◌≤◌, All, IfOk, le
 ghost use Rattle.worker_pool.specs.Workers.{IsFresh};
 
 use crate::cores::verdict_word;
+use crate::oracles::ALL;
 use crate::scripted::scripted_map;
 use crate::telling::{add_numbers, say};
-use crate::words::{moves_of, part_of};
+use crate::words::{lines_of, part_of};
 use evidence_rec::Records;
 use gm_base::{Kind, Problem};
 use gm_ports::OpenGate;
@@ -26,10 +27,11 @@ use std::thread::Threads;
 use trial_script::Step;
 use worker_pool::{Outcome, enumerate};
 
-const ALL: [(bool, bool); 4] = [(false, false), (false, true), (true, false), (true, true)];
-
 // A question and a block that never come.
 const NEVER: u64 = 1000;
+
+// All sets, as they are printed.
+const FIVE: &str = "conflicts 1 2 : 1 3 4\ncorrections 1 : 2 3 : 2 4\n";
 
 pub fn play_workers<R: Threads + Wait + Sync>(
     rt: &R,
@@ -46,15 +48,8 @@ pub fn play_workers<R: Threads + Wait + Sync>(
     let Some(closing) = &outcome.closing else {
         return Ok(say(out, "nothing is closed")?);
     };
-    say_sets(alloc, out, "conflicts", &closing.records, Kind::Conflict)?;
-    say_sets(
-        alloc,
-        out,
-        "corrections",
-        &closing.records,
-        Kind::Correction,
-    )?;
-    if moves_of(step).split('\n').any(|line| line == "history") {
+    say_records(alloc, out, &closing.records)?;
+    if lines_of(step).split('\n').any(|line| line == "history") {
         say_history(out, closing)?;
     }
     Ok(())
@@ -68,10 +63,11 @@ pub fn play_either<R: Threads + Wait + Sync>(
     out: &mut String,
 ) -> Result<(), Lacking> {
     let outcome = enumerated(rt, alloc, problem, step)?;
+    // A log for each number in front, and the map's: as many as there are words in front.
     let logs = part_of(step.words(), 0).len();
-    let fits = outcome.logs.len() == logs && outcome.spent == 0 && ends_as_it_may(&outcome);
-    say(out, if fits { "as it may" } else { "wrong" })?;
-    Ok(())
+    let fits = outcome.logs.len() == logs && outcome.spent == 0;
+    let ends = ends_as_it_may(alloc, &outcome)?;
+    Ok(say(out, if fits && ends { "as it may" } else { "wrong" })?)
 }
 
 /// Has workers enumerate, with a map and oracles that are shy from some call on.
@@ -91,7 +87,7 @@ fn enumerated<R: Threads + Wait + Sync>(
         return Err(Lacking::Evidence);
     }
     let oracles = shy_of(alloc, problem, questions.as_slice())?;
-    let map = ShyMap::new(scripted_map(alloc, problem, moves_of(step))?, *block);
+    let map = ShyMap::new(scripted_map(alloc, problem, lines_of(step))?, *block);
     let records = Records::new(alloc);
     Ok(enumerate(rt, alloc, problem, records, oracles, map, 100, 9, &OpenGate))
 }
@@ -122,11 +118,18 @@ fn shy_of(alloc: Global, problem: &Problem, questions: &[u64]) -> Result<Vec<Shy
     Ok(oracles)
 }
 
-/// Adds a line of the sets of one kind, in their order.
+/// Adds a line of the conflicts and one of the corrections.
+fn say_records(alloc: Global, out: &mut String, records: &Records) -> Result<(), AllocError> {
+    out.push_str("conflicts")?;
+    say_sets(alloc, out, records, Kind::Conflict)?;
+    out.push_str("corrections")?;
+    say_sets(alloc, out, records, Kind::Correction)
+}
+
+/// Ends a line with the sets of one kind, in their order.
 fn say_sets(
     alloc: Global,
     out: &mut String,
-    word: &str,
     records: &Records,
     kind: Kind,
 ) -> Result<(), AllocError> {
@@ -137,7 +140,6 @@ fn say_sets(
         }
     }
     sets.sort()?;
-    out.push_str(word)?;
     let mut mark = "";
     for set in sets.as_slice() {
         out.push_str(mark)?;
@@ -183,38 +185,15 @@ fn reply_word(entry: &Entry) -> &'static str {
 }
 
 /// Whether all five records were found, or memory was wanting and there are five at most.
-fn ends_as_it_may(outcome: &Outcome) -> bool {
+fn ends_as_it_may(alloc: Global, outcome: &Outcome) -> Result<bool, AllocError> {
     let Some(closing) = &outcome.closing else {
-        return false;
+        return Ok(false);
     };
-    match outcome.verdict {
-        Verdict::Complete => closing.records.len() == 5 && has_five(&closing.records),
+    let mut found = String::new(alloc);
+    say_records(alloc, &mut found, &closing.records)?;
+    Ok(match outcome.verdict {
+        Verdict::Complete => found.as_str() == FIVE,
         Verdict::Memory => closing.records.len() <= 5,
         Verdict::Limit | Verdict::Budget => false,
-    }
-}
-
-const FIVE: [(Kind, &[u32]); 5] = [
-    (Kind::Conflict, &[1, 2]),
-    (Kind::Conflict, &[1, 3, 4]),
-    (Kind::Correction, &[1]),
-    (Kind::Correction, &[2, 3]),
-    (Kind::Correction, &[2, 4]),
-];
-
-fn has_five(records: &Records) -> bool {
-    for (kind, groups) in FIVE {
-        if !holds(records, kind, groups) {
-            return false;
-        }
-    }
-    true
-}
-
-fn holds(records: &Records, kind: Kind, groups: &[u32]) -> bool {
-    let mut found = false;
-    for record in records.as_slice() {
-        found |= record.kind() == kind && record.set().as_slice() == groups;
-    }
-    found
+    })
 }

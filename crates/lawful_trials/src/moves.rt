@@ -1,0 +1,45 @@
+//! Moves: the lines of a call's text, made one after the other.
+use crate::telling::say_unknown;
+use crate::words::lines_of;
+use lawful_fakes::Lacking;
+use std::alloc::{AllocError, Global};
+use trial_script::Step;
+
+/// What moves are made with.
+pub trait Mover {
+    /// Makes a move, and adds what it answers to `out`. A move that isn't known, or whose numbers don't fit, lacks evidence.
+    fn make_move(
+        &mut self,
+        alloc: Global,
+        step: &Step<'_>,
+        out: &mut String,
+    ) -> Result<(), Lacking>;
+}
+
+/// Makes the moves of a call.
+pub fn make_moves<M: Mover>(
+    alloc: Global,
+    mover: &mut M,
+    step: &Step<'_>,
+    out: &mut String,
+) -> Result<(), AllocError> {
+    for line in lines_of(step).split('\n') {
+        let step = Step::new(alloc, line)?;
+        if !is_no_move(step.word(0)) {
+            match mover.make_move(alloc, &step, out) {
+                Ok(()) => {}
+                Err(Lacking::Evidence) => say_unknown(out, &step)?,
+                Err(Lacking::Memory) => return Err(AllocError),
+            }
+        }
+    }
+    Ok(())
+}
+
+/// Whether a line is none: it describes the map, or asks of the log that is left in the end.
+fn is_no_move(word: &str) -> bool {
+    matches!(
+        word,
+        "" | "script" | "ending" | "repeating" | "inputs" | "learnt" | "steps"
+    )
+}
