@@ -29,6 +29,13 @@ use trial_script::Step;
 /// All values of x and y.
 pub const ALL: [(bool, bool); 4] = [(false, false), (false, true), (true, false), (true, true)];
 
+// Each with values that satisfy the other groups.
+const CORRECTIONS: [(&[u32], (bool, bool)); 3] = [
+    (&[1], (false, false)),
+    (&[2, 3], (true, false)),
+    (&[2, 4], (true, true)),
+];
+
 pub fn play_table(
     alloc: Global,
     problem: &Problem,
@@ -117,33 +124,30 @@ fn tell_all<O: Counted>(
     requires { known.old.problem ≡ problem.now }
     ensures { known.new.problem ≡ problem.now }
 {
-    tell(alloc, known, problem, &conflict(alloc, problem, true)?);
-    tell(alloc, known, problem, &conflict(alloc, problem, false)?);
-    tell(
-        alloc,
-        known,
-        problem,
-        &correction(alloc, problem, &[1], (false, false))?,
-    );
-    tell(
-        alloc,
-        known,
-        problem,
-        &correction(alloc, problem, &[2, 3], (true, false))?,
-    );
-    tell(
-        alloc,
-        known,
-        problem,
-        &correction(alloc, problem, &[2, 4], (true, true))?,
-    );
+    tell(alloc, known, problem, conflict(alloc, problem, true))?;
+    tell(alloc, known, problem, conflict(alloc, problem, false))?;
+    for (groups, values) in CORRECTIONS {
+        tell(
+            alloc,
+            known,
+            problem,
+            correction(alloc, problem, groups, values),
+        )?;
+    }
     Ok(())
 }
 
-fn tell<O: Counted>(alloc: Global, known: &mut KnownSets<O>, problem: &Problem, found: &Record)
+/// Tells it a record, where it was made.
+fn tell<O: Counted>(
+    alloc: Global,
+    known: &mut KnownSets<O>,
+    problem: &Problem,
+    found: Result<Record, Lacking>,
+) -> Result<(), Lacking>
     requires problem { known.old.problem ≡ problem.now }
-    requires accepted { IsAccepted problem.now found.now }
+    requires accepted { IfOk found (IsAccepted problem.now) }
     ensures { known.new.problem ≡ problem.now }
 {
-    known.know(alloc, found);
+    known.know(alloc, &found?);
+    Ok(())
 }

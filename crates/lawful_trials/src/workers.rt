@@ -41,15 +41,24 @@ pub fn play_workers<R: Threads + Wait + Sync>(
     out: &mut String,
 ) -> Result<(), Lacking> {
     let outcome = enumerated(rt, alloc, problem, step)?;
+    Ok(tell_outcome(alloc, &outcome, lines_of(step), out)?)
+}
+
+fn tell_outcome(
+    alloc: Global,
+    outcome: &Outcome,
+    lines: &str,
+    out: &mut String,
+) -> Result<(), AllocError> {
     let verdict = verdict_word(outcome.verdict);
     let logs = outcome.logs.len();
     let spent = outcome.spent;
     writeln!(out, "{verdict}, logs {logs}, spent {spent}")?;
     let Some(closing) = &outcome.closing else {
-        return Ok(say(out, "nothing is closed")?);
+        return say(out, "nothing is closed");
     };
     say_records(alloc, out, &closing.records)?;
-    if lines_of(step).split('\n').any(|line| line == "history") {
+    if lines.split('\n').any(|line| line == "history") {
         say_history(out, closing)?;
     }
     Ok(())
@@ -65,9 +74,8 @@ pub fn play_either<R: Threads + Wait + Sync>(
     let outcome = enumerated(rt, alloc, problem, step)?;
     // A log for each number in front, and the map's: as many as there are words in front.
     let logs = part_of(step.words(), 0).len();
-    let fits = outcome.logs.len() == logs && outcome.spent == 0;
-    let ends = ends_as_it_may(alloc, &outcome)?;
-    Ok(say(out, if fits && ends { "as it may" } else { "wrong" })?)
+    let ends = ends_as_it_may(alloc, &outcome, logs)?;
+    Ok(say(out, if ends { "as it may" } else { "wrong" })?)
 }
 
 /// Has workers enumerate, with a map and oracles that are shy from some call on.
@@ -184,11 +192,15 @@ fn reply_word(entry: &Entry) -> &'static str {
     }
 }
 
-/// Whether all five records were found, or memory was wanting and there are five at most.
-fn ends_as_it_may(alloc: Global, outcome: &Outcome) -> Result<bool, AllocError> {
+/// Whether all five records were found, or memory was wanting and there are five at most; and so many logs, in which nothing
+/// was learnt.
+fn ends_as_it_may(alloc: Global, outcome: &Outcome, logs: usize) -> Result<bool, AllocError> {
     let Some(closing) = &outcome.closing else {
         return Ok(false);
     };
+    if outcome.logs.len() != logs || outcome.spent != 0 {
+        return Ok(false);
+    }
     let mut found = String::new(alloc);
     say_records(alloc, &mut found, &closing.records)?;
     Ok(match outcome.verdict {
