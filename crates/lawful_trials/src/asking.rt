@@ -17,7 +17,7 @@ ghost use Rattle.std.specs.Prelude.{◌≡◌, IfOk};
 ghost use Rattle.gm_base.specs.Sets.{IsSubset, all_groups};
 ghost use Rattle.evidence_rec.specs.Asking.{OracleState, refuted_by};
 
-use crate::moves::{Mover, make_moves};
+use crate::moves::{Mover, Played, make_moves};
 use crate::telling::{add_numbers, say_count, say_log, say_proof};
 use crate::words::{lines_of, number_at, numbers_in, parts_in, set_in};
 use evidence_rec::{Asked, Oracle, Record};
@@ -72,7 +72,7 @@ pub fn talk<O: Counted>(
     problem: &Problem,
     step: &Step<'_>,
     out: &mut String,
-) -> Result<(), Lacking>
+) -> Played
     requires { (O.state oracle).problem ≡ problem.now }
 {
     let mut asker = Asker {
@@ -94,12 +94,7 @@ pub fn talk<O: Counted>(
 }
 
 impl<O: Counted> Mover for Asker<'_, O> {
-    fn make_move(
-        &mut self,
-        alloc: Global,
-        step: &Step<'_>,
-        out: &mut String,
-    ) -> Result<(), Lacking> {
+    fn make_move(&mut self, alloc: Global, step: &Step<'_>, out: &mut String) -> Played {
         match step.word(0) {
             "ask" => self.ask(alloc, step, out),
             "ask-without" => self.ask_without(alloc, step, out),
@@ -117,18 +112,13 @@ impl<O: Counted> Mover for Asker<'_, O> {
 }
 
 impl<O: Counted> Asker<'_, O> {
-    fn ask(&mut self, alloc: Global, step: &Step<'_>, out: &mut String) -> Result<(), Lacking> {
+    fn ask(&mut self, alloc: Global, step: &Step<'_>, out: &mut String) -> Played {
         let set = set_in(alloc, step, 0, self.problem.groups())?;
         let answer = self.oracle.ask(alloc, &set, 0, &mut self.purse);
         self.tell(alloc, &set, answer, step, out)
     }
 
-    fn ask_without(
-        &mut self,
-        alloc: Global,
-        step: &Step<'_>,
-        out: &mut String,
-    ) -> Result<(), Lacking> {
+    fn ask_without(&mut self, alloc: Global, step: &Step<'_>, out: &mut String) -> Played {
         let group = number_at(alloc, step, 0, 0)?;
         let set = set_in(alloc, step, 1, self.problem.groups())?;
         let rest = set.without(alloc, group)?;
@@ -146,7 +136,7 @@ impl<O: Counted> Asker<'_, O> {
         answer: Result<Asked, AllocError>,
         step: &Step<'_>,
         out: &mut String,
-    ) -> Result<(), Lacking>
+    ) -> Played
         requires { IfOk answer (λ asked. (O.state self.old.oracle).refuted ≡ refuted_by asked) }
     {
         match answer {
@@ -169,11 +159,11 @@ impl<O: Counted> Asker<'_, O> {
     }
 
     /// Ends a line with the count of questions.
-    fn tell_asked(&self, out: &mut String) -> Result<(), Lacking> {
+    fn tell_asked(&self, out: &mut String) -> Played {
         Ok(say_count(out, ", asked", self.oracle.asked())?)
     }
 
-    fn tell_proof(&self, alloc: Global, out: &mut String) -> Result<(), Lacking> {
+    fn tell_proof(&self, alloc: Global, out: &mut String) -> Played {
         match &self.proof {
             Some(proof) => Ok(say_proof(alloc, out, proof, self.problem.len())?),
             None => Err(Lacking::Evidence),
@@ -181,7 +171,7 @@ impl<O: Counted> Asker<'_, O> {
     }
 
     /// Asks about a set, and shrinks or grows it.
-    fn explore(&mut self, alloc: Global, step: &Step<'_>, out: &mut String) -> Result<(), Lacking> {
+    fn explore(&mut self, alloc: Global, step: &Step<'_>, out: &mut String) -> Played {
         let set = set_in(alloc, step, 0, self.problem.groups())?;
         match self.found(alloc, &set) {
             Ok(Some(record)) => {

@@ -7,7 +7,7 @@ ghost use Rattle.board.specs.Boards.{HaveAllEnded};
 ghost use Rattle.lawful_trials.specs.Seats.{IsSeated};
 
 use crate::cores::{say_closing, say_posted, say_taken};
-use crate::moves::{Mover, make_moves};
+use crate::moves::{Mover, Played, make_moves};
 use crate::scripted::{record_in, scripted_map};
 use crate::telling::say;
 use crate::words::{lines_of, number_at};
@@ -49,7 +49,7 @@ pub fn play_board<R: Wait>(
     problem: &Problem,
     step: &Step<'_>,
     out: &mut String,
-) -> Result<(), Lacking> {
+) -> Played {
     let budget = u64::from(number_at(alloc, step, 0, 0)?);
     let limit = u64::from(number_at(alloc, step, 0, 1)?);
     let (board, seats) = board_of(alloc, problem, budget, limit, lines_of(step))?;
@@ -120,12 +120,7 @@ fn sit<R: Wait>(
 }
 
 impl<R: Wait> Mover for Table<'_, R> {
-    fn make_move(
-        &mut self,
-        alloc: Global,
-        step: &Step<'_>,
-        out: &mut String,
-    ) -> Result<(), Lacking> {
+    fn make_move(&mut self, alloc: Global, step: &Step<'_>, out: &mut String) -> Played {
         match number_at(alloc, step, 0, 0)? {
             0 => {
                 let place = &mut self.first;
@@ -149,7 +144,7 @@ fn call<R: Wait>(
     place: &mut Place,
     step: &Step<'_>,
     out: &mut String,
-) -> Result<(), Lacking>
+) -> Played
     requires problem { board.now.opening.problem ≡ problem.now }
     requires seated { IsSeated board.now place.old.may_call place.old.seat }
     ensures seated { IsSeated board.now place.new.may_call place.new.seat }
@@ -201,7 +196,7 @@ fn post<R: Wait>(
     place: &mut Place,
     step: &Step<'_>,
     out: &mut String,
-) -> Result<(), Lacking>
+) -> Played
     requires problem { board.now.opening.problem ≡ problem.now }
     requires seated { IsSeated board.now place.old.may_call place.old.seat }
     requires may { place.old.may_call ≡ true }

@@ -15,7 +15,7 @@
 ghost use Rattle.std.specs.Prelude.{◌≡◌, ◌<◌, ◌≤◌, IfOk};
 ghost use Rattle.evidence_rec.specs.Records.{IsAccepted};
 
-use crate::moves::{Mover, make_moves};
+use crate::moves::{Mover, Played, make_moves};
 use crate::scripted::{record_in, scripted_map};
 use crate::telling::{add_numbers, say, say_count};
 use crate::words::{lines_of, number_at};
@@ -34,12 +34,7 @@ struct Desk<'a> {
     ghost of: { core.opening.problem ≡ problem.now },
 }
 
-pub fn play_core(
-    alloc: Global,
-    problem: &Problem,
-    step: &Step<'_>,
-    out: &mut String,
-) -> Result<(), Lacking> {
+pub fn play_core(alloc: Global, problem: &Problem, step: &Step<'_>, out: &mut String) -> Played {
     let workers = number_at(alloc, step, 0, 0)?;
     let budget = u64::from(number_at(alloc, step, 0, 1)?);
     let limit = u64::from(number_at(alloc, step, 0, 2)?);
@@ -76,12 +71,7 @@ fn core_of(
 }
 
 impl Mover for Desk<'_> {
-    fn make_move(
-        &mut self,
-        alloc: Global,
-        step: &Step<'_>,
-        out: &mut String,
-    ) -> Result<(), Lacking> {
+    fn make_move(&mut self, alloc: Global, step: &Step<'_>, out: &mut String) -> Played {
         let core = &mut self.core;
         let worker = number_at(alloc, step, 0, 0)?;
         if !core.may_call(worker) {

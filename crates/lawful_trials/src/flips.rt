@@ -6,7 +6,7 @@
 //! | `try 3 : 010` | begins with these values and tries to make a group true: the groups that are false then; whether the assignment is shown without these, and with all |
 //! | `turn 1 : 000 : 1` | flips a variable of these values, which leave out the groups behind the last `:` and no others: the groups that are left out then, or `none` |
 //! | `repair 1 2 3 : 000 : 1` | flips variables of these values until the groups in front are true: the same |
-use crate::moves::{Mover, make_moves};
+use crate::moves::{Mover, Played, make_moves};
 use crate::telling::{add_numbers, say, say_numbers};
 use crate::words::{number_at, numbers_in, set_in, values_in};
 use gm_base::{GroupSet, Problem};
@@ -26,12 +26,7 @@ struct Flipper<'a> {
     problem: &'a Problem,
 }
 
-pub fn play_flips(
-    alloc: Global,
-    problem: &Problem,
-    step: &Step<'_>,
-    out: &mut String,
-) -> Result<(), Lacking> {
+pub fn play_flips(alloc: Global, problem: &Problem, step: &Step<'_>, out: &mut String) -> Played {
     let flips = Flips::new(alloc, problem)?;
     let rotation = Rotation::new(alloc, problem)?;
     let mut flipper = Flipper {
@@ -43,12 +38,7 @@ pub fn play_flips(
 }
 
 impl Mover for Flipper<'_> {
-    fn make_move(
-        &mut self,
-        alloc: Global,
-        step: &Step<'_>,
-        out: &mut String,
-    ) -> Result<(), Lacking> {
+    fn make_move(&mut self, alloc: Global, step: &Step<'_>, out: &mut String) -> Played {
         match step.word(0) {
             "try" => self.try_group(alloc, step, out),
             "turn" => tell_turned(self.turn(alloc, step)?, out),
@@ -59,12 +49,7 @@ impl Mover for Flipper<'_> {
 }
 
 impl Flipper<'_> {
-    fn try_group(
-        &mut self,
-        alloc: Global,
-        step: &Step<'_>,
-        out: &mut String,
-    ) -> Result<(), Lacking> {
+    fn try_group(&mut self, alloc: Global, step: &Step<'_>, out: &mut String) -> Played {
         let group = number_at(alloc, step, 0, 0)?;
         let values = values_in(alloc, step, 1, self.problem.vars())?;
         self.flips.begin(&values);
@@ -109,7 +94,7 @@ impl Flipper<'_> {
     }
 }
 
-fn tell_turned(turned: Option<Turned>, out: &mut String) -> Result<(), Lacking> {
+fn tell_turned(turned: Option<Turned>, out: &mut String) -> Played {
     Ok(match turned {
         Some(turned) => say_numbers(out, "left out", turned.out.as_slice())?,
         None => say(out, "none")?,

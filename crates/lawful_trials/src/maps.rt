@@ -15,7 +15,7 @@
 ghost use Rattle.std.specs.Prelude.{◌≡◌, ◌<◌, ◌^◌};
 ghost use Rattle.evidence_rec.specs.Seeding.{EngineState};
 
-use crate::moves::{Mover, make_moves};
+use crate::moves::{Mover, Played, make_moves};
 use crate::telling::{say, say_count, say_log, say_numbers, say_proof};
 use crate::words::{has_word, lines_of, number_at, set_in};
 use evidence_rec::{MapEngine, Seed};
@@ -37,7 +37,7 @@ struct Search<M: MapEngine> {
     ghost of: { (M.state map).groups ≡ groups },
 }
 
-pub fn play_map(alloc: Global, step: &Step<'_>, out: &mut String) -> Result<(), Lacking> {
+pub fn play_map(alloc: Global, step: &Step<'_>, out: &mut String) -> Played {
     let groups = number_at(alloc, step, 0, 0)?;
     let units = u64::from(number_at(alloc, step, 0, 1)?);
     if groups >= 1 << 31 {
@@ -56,7 +56,7 @@ fn explore<M: MapEngine>(
     units: u64,
     step: &Step<'_>,
     out: &mut String,
-) -> Result<(), Lacking>
+) -> Played
     requires { (M.state map).groups ≡ groups }
 {
     let mut search = Search {
@@ -82,12 +82,7 @@ fn explore<M: MapEngine>(
 }
 
 impl<M: MapEngine> Mover for Search<M> {
-    fn make_move(
-        &mut self,
-        alloc: Global,
-        step: &Step<'_>,
-        out: &mut String,
-    ) -> Result<(), Lacking> {
+    fn make_move(&mut self, alloc: Global, step: &Step<'_>, out: &mut String) -> Played {
         match step.word(0) {
             "seed" => self.find(alloc, has_word(step, "size"), out),
             "block" => self.block(alloc, step),
@@ -104,7 +99,7 @@ impl<M: MapEngine> Mover for Search<M> {
 
 impl<M: MapEngine> Search<M> {
     /// Searches for a seed.
-    fn find(&mut self, alloc: Global, has_size: bool, out: &mut String) -> Result<(), Lacking> {
+    fn find(&mut self, alloc: Global, has_size: bool, out: &mut String) -> Played {
         match self.map.seed(alloc, 0, &mut self.purse)? {
             Seed::Set(set) => {
                 self.tell_seed(&set, has_size, out)?;
@@ -145,7 +140,7 @@ impl<M: MapEngine> Search<M> {
         Ok(())
     }
 
-    fn block(&mut self, alloc: Global, step: &Step<'_>) -> Result<(), Lacking> {
+    fn block(&mut self, alloc: Global, step: &Step<'_>) -> Played {
         let side = match step.word(1) {
             "up" => Side::Up,
             "down" => Side::Down,

@@ -5,15 +5,13 @@ use lawful_fakes::Lacking;
 use std::alloc::{AllocError, Global};
 use trial_script::Step;
 
+/// How a call or a move ends: it lacks evidence where it isn't known, or its numbers don't fit.
+pub type Played = Result<(), Lacking>;
+
 /// What moves are made with.
 pub trait Mover {
-    /// Makes a move, and adds what it answers to `out`. A move that isn't known, or whose numbers don't fit, lacks evidence.
-    fn make_move(
-        &mut self,
-        alloc: Global,
-        step: &Step<'_>,
-        out: &mut String,
-    ) -> Result<(), Lacking>;
+    /// Makes a move, and adds what it answers to `out`.
+    fn make_move(&mut self, alloc: Global, step: &Step<'_>, out: &mut String) -> Played;
 }
 
 /// Makes the moves of a call.

@@ -16,6 +16,7 @@ ghost use Rattle.evidence_rec.specs.Asking.{IsHonestOver};
 ghost use Rattle.evidence_rec.specs.Records.{IsAccepted};
 
 use crate::asking::{Counted, talk};
+use crate::moves::Played;
 use crate::words::{has_word, pairs_in};
 use evidence_rec::Record;
 use gm_base::Problem;
@@ -36,33 +37,18 @@ const CORRECTIONS: [(&[u32], (bool, bool)); 3] = [
     (&[2, 4], (true, true)),
 ];
 
-pub fn play_table(
-    alloc: Global,
-    problem: &Problem,
-    step: &Step<'_>,
-    out: &mut String,
-) -> Result<(), Lacking> {
+pub fn play_table(alloc: Global, problem: &Problem, step: &Step<'_>, out: &mut String) -> Played {
     let pairs = pairs_in(alloc, step, 0)?;
     let oracle = table_of(alloc, problem, pairs.as_slice(), step.word(0) == "whole")?;
     talk(alloc, oracle, problem, step, out)
 }
 
-pub fn play_solver(
-    alloc: Global,
-    problem: &Problem,
-    step: &Step<'_>,
-    out: &mut String,
-) -> Result<(), Lacking> {
+pub fn play_solver(alloc: Global, problem: &Problem, step: &Step<'_>, out: &mut String) -> Played {
     let oracle = GroupOracle::new(alloc, problem)?;
     talk(alloc, oracle, problem, step, out)
 }
 
-pub fn play_known(
-    alloc: Global,
-    problem: &Problem,
-    step: &Step<'_>,
-    out: &mut String,
-) -> Result<(), Lacking> {
+pub fn play_known(alloc: Global, problem: &Problem, step: &Step<'_>, out: &mut String) -> Played {
     match step.word(1) {
         "table" => {
             let within = table_of(alloc, problem, &ALL, false)?;
@@ -83,7 +69,7 @@ fn remember<O: Counted + Drop>(
     problem: &Problem,
     step: &Step<'_>,
     out: &mut String,
-) -> Result<(), Lacking>
+) -> Played
     requires problem { (O.state within).problem ≡ problem.now }
     requires honest { IsHonestOver problem.now (O.state within).log }
 {
@@ -116,11 +102,7 @@ fn known_around<O: Counted + Drop>(
 }
 
 /// Tells it the conflicts {1, 2} and {1, 3, 4}, and the corrections {1}, {2, 3} and {2, 4}.
-fn tell_all<O: Counted>(
-    alloc: Global,
-    known: &mut KnownSets<O>,
-    problem: &Problem,
-) -> Result<(), Lacking>
+fn tell_all<O: Counted>(alloc: Global, known: &mut KnownSets<O>, problem: &Problem) -> Played
     requires { known.old.problem ≡ problem.now }
     ensures { known.new.problem ≡ problem.now }
 {
@@ -143,7 +125,7 @@ fn tell<O: Counted>(
     known: &mut KnownSets<O>,
     problem: &Problem,
     found: Result<Record, Lacking>,
-) -> Result<(), Lacking>
+) -> Played
     requires problem { known.old.problem ≡ problem.now }
     requires accepted { IfOk found (IsAccepted problem.now) }
     ensures { known.new.problem ≡ problem.now }

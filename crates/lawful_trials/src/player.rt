@@ -12,6 +12,7 @@
 use crate::cores::play_core;
 use crate::flips::play_flips;
 use crate::maps::play_map;
+use crate::moves::Played;
 use crate::oracles::{play_known, play_solver, play_table};
 use crate::together::Together;
 use gcnf_text::{Read, read_gcnf};
@@ -66,7 +67,7 @@ impl Player for Trials {
 }
 
 /// Holds the problem of a call.
-fn hold(alloc: Global, step: &Step<'_>, held: &mut Option<Problem>) -> Result<(), Lacking> {
+fn hold(alloc: Global, step: &Step<'_>, held: &mut Option<Problem>) -> Played {
     if step.word(0) == "four-clauses" {
         *held = Some(four_clauses(alloc)?);
         return Ok(());
@@ -88,7 +89,7 @@ fn play_over(
     problem: &Problem,
     step: &Step<'_>,
     out: &mut String,
-) -> Result<(), Lacking> {
+) -> Played {
     match step.word(0) {
         "table" | "whole" => play_table(alloc, problem, step, out),
         "solver" => play_solver(alloc, problem, step, out),

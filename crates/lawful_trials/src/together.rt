@@ -3,6 +3,7 @@
 //! That is done only where the runtime is at hand, in `main`. A player is handed none, so it holds what `main` makes of it: a
 //! closure that plays these calls.
 use crate::boards::play_board;
+use crate::moves::Played;
 use crate::workers::{play_either, play_workers};
 use gm_base::Problem;
 use lawful_fakes::Lacking;
@@ -14,13 +15,13 @@ use trial_script::Step;
 /// Plays the calls that start threads or wait.
 #[derive(Drop)]
 pub struct Together {
-    play: Box<dyn Fn(Global, &Problem, &Step<'_>, &mut String) -> Result<(), Lacking> + Drop>,
+    play: Box<dyn Fn(Global, &Problem, &Step<'_>, &mut String) -> Played + Drop>,
     ghost ready: { IsAlwaysCallable play },
 }
 
 impl Together {
     pub fn new(
-        play: Box<dyn Fn(Global, &Problem, &Step<'_>, &mut String) -> Result<(), Lacking> + Drop>,
+        play: Box<dyn Fn(Global, &Problem, &Step<'_>, &mut String) -> Played + Drop>,
     ) -> Together
         requires { IsAlwaysCallable play }
     {
@@ -33,7 +34,7 @@ impl Together {
         problem: &Problem,
         step: &Step<'_>,
         out: &mut String,
-    ) -> Result<(), Lacking> {
+    ) -> Played {
         (self.play)(alloc, problem, step, out)
     }
 }
@@ -45,7 +46,7 @@ pub fn play_together<R: Threads + Wait + Sync>(
     problem: &Problem,
     step: &Step<'_>,
     out: &mut String,
-) -> Result<(), Lacking> {
+) -> Played {
     match step.word(0) {
         "board" => play_board(rt, alloc, problem, step, out),
         "workers" => play_workers(rt, alloc, problem, step, out),

@@ -108,5 +108,5 @@ pub fn pair_of(word: &str) -> Option<(bool, bool)> {
 
 /// Whether a word stands in the call or move.
 pub fn has_word(step: &Step<'_>, wanted: &str) -> bool {
-    step.words().iter().any(|word| *word == wanted)
+    step.words().contains(&wanted)
 }

@@ -11,6 +11,7 @@ ghost use Rattle.std.specs.Prelude.{◌≡◌, ◌<◌, ◌≤◌, All, IfOk, le
 ghost use Rattle.worker_pool.specs.Workers.{IsFresh};
 
 use crate::cores::verdict_word;
+use crate::moves::Played;
 use crate::oracles::ALL;
 use crate::scripted::scripted_map;
 use crate::telling::{add_numbers, say};
@@ -39,7 +40,7 @@ pub fn play_workers<R: Threads + Wait + Sync>(
     problem: &Problem,
     step: &Step<'_>,
     out: &mut String,
-) -> Result<(), Lacking> {
+) -> Played {
     let outcome = enumerated(rt, alloc, problem, step)?;
     Ok(tell_outcome(alloc, &outcome, lines_of(step), out)?)
 }
@@ -70,7 +71,7 @@ pub fn play_either<R: Threads + Wait + Sync>(
     problem: &Problem,
     step: &Step<'_>,
     out: &mut String,
-) -> Result<(), Lacking> {
+) -> Played {
     let outcome = enumerated(rt, alloc, problem, step)?;
     // A log for each number in front, and the map's: as many as there are words in front.
     let logs = part_of(step.words(), 0).len();
