@@ -73,7 +73,7 @@ class Build:
         self.alone = threading.Lock()
         self.began = time.monotonic()
         self.begun = 0
-        self.failed = []
+        self.proved, self.failed = [], []
 
     def prove(self, crate, jobs):
         """Proves a crate, and answers whether that went well."""
@@ -89,8 +89,7 @@ class Build:
             with self.alone:
                 self.log.write(said.read() + f"{crate}: status {ended.returncode}\n")
                 self.log.flush()
-                if ended.returncode:
-                    self.failed.append(crate)
+                (self.failed if ended.returncode else self.proved).append(crate)
         return ended.returncode == 0
 
     def all(self, most):

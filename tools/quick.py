@@ -13,6 +13,7 @@ import os
 import subprocess
 import sys
 import time
+from concurrent.futures import ThreadPoolExecutor
 
 from build import Build, lanes
 from crates import TOP, above, areas_in, below_in, text_of
@@ -55,34 +56,45 @@ def command(crate, jobs):
 
 
 def prove(crates, below, log):
-    """Proves these crates, lowest first, and gives those that failed."""
+    """Proves these crates, lowest first, and gives those that are proved and those that failed."""
     among = {crate: [it for it in below[crate] if it in crates] for crate in crates}
     build = Build(among, log, command, "quick")
     build.all(lanes())
-    return build.failed
+    return build.proved, build.failed
 
 
-def said_of(crate, words, log):
-    """What a command in a crate's folder wrote to standard output."""
+def said_of(crate, words):
+    """How a command in a crate's folder ended, what it wrote to standard output, and what to standard error."""
     ended = subprocess.run(words, cwd=os.path.join(TOP, "crates", crate), stdin=subprocess.DEVNULL,
-                           stdout=subprocess.PIPE, stderr=log, check=False)
-    return ended.returncode, ended.stdout
+                           stdout=subprocess.PIPE, stderr=subprocess.PIPE, check=False)
+    return ended.returncode, ended.stdout, ended.stderr.decode(errors="replace")
 
 
-def play(crate, log):
-    """Plays the scripts of a program of trials unproved, and answers whether it printed what it has to."""
+def play(crate):
+    """Plays the scripts of a program of trials unproved. Gives what is wrong, if anything, and what was said."""
     with open(os.path.join(TOP, "crates", crate, "args"), encoding="utf-8") as file:
         args = file.read().split()
     given = [word for name in args for word in ("--data", f"{name}=data/{name}")]
-    status, printed = said_of(crate, ["rt", "try", *given, "--", *args], log)
+    status, printed, said = said_of(crate, ["rt", "try", *given, "--", *args])
     with open(os.path.join(TOP, "crates", crate, "stdout"), "rb") as file:
         wanted = file.read()
-    log.write(f"{crate}: played, status {status}\n")
-    return status == 0 and printed == wanted
+    is_well = status == 0 and printed == wanted
+    return "" if is_well else f"{crate} prints something else", f"{said}{crate}: played, status {status}\n"
 
 
-def try_tests(crate, log):
-    return said_of(crate, ["rt", "try", "--test"], log)[0] == 0
+def try_tests(crate):
+    """Runs a crate's tests unproved, likewise."""
+    status, printed, said = said_of(crate, ["rt", "try", "--test"])
+    return "" if status == 0 else f"a test of {crate} fails", printed.decode(errors="replace") + said
+
+
+def try_all(played, tested, log):
+    """Plays these scripts and runs these tests, side by side, and gives what is wrong."""
+    with ThreadPoolExecutor(lanes()) as pool:
+        ended = [*pool.map(play, played), *pool.map(try_tests, tested)]
+    log.write("".join(said for _, said in ended))
+    log.flush()
+    return [bad for bad, _ in ended if bad]
 
 
 def main(words):
@@ -92,18 +104,18 @@ def main(words):
     files = changed_files(*(words or ["HEAD"]))
     changed = changed_crates(files, below)
     moved = above(below, changed)
-    proved = [crate for crate in moved if crate in changed or crate not in trials]
+    wanted = [crate for crate in moved if crate in changed or crate not in trials]
     scripts = changed_crates(files, below, ("data", "stdout", "args"))
     played = [crate for crate in trials if is_program(crate) and crate in moved + scripts]
     tested = [crate for crate in moved if has_tests(crate)]
     bad = []
     with open(os.path.join(TOP, "quick.log"), "w", encoding="utf-8") as log:
         for crate in changed:
-            if said_of(crate, ["rt", "fmt"], log)[0]:
+            if said_of(crate, ["rt", "fmt"])[0]:
                 bad.append(f"{crate} can't be laid out")
-        bad += [f"{crate} is not proved" for crate in prove(proved, below, log)]
-        bad += [f"{crate} prints something else" for crate in played if not play(crate, log)]
-        bad += [f"a test of {crate} fails" for crate in tested if not try_tests(crate, log)]
+        proved, failed = prove(wanted, below, log)
+        bad += [f"{crate} is not proved" for crate in failed]
+        bad += try_all(played, tested, log)
         tools = subprocess.run([sys.executable, "-m", "unittest", "discover", "-s", "tools"], cwd=TOP, stdout=log, stderr=log,
                                check=False)
         if tools.returncode:
