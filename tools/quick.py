@@ -16,7 +16,7 @@ import time
 from concurrent.futures import ThreadPoolExecutor
 
 from build import Build, lanes
-from crates import TOP, above, areas_in, below_in, text_of
+from crates import TOP, above, areas_in, below_in, lowest_first, text_of
 
 PARTS = ("src", "specs", "proofs")
 
@@ -56,11 +56,12 @@ def command(crate, jobs):
 
 
 def prove(crates, below, log):
-    """Proves these crates, lowest first, and gives those that are proved and those that failed."""
-    among = {crate: [it for it in below[crate] if it in crates] for crate in crates}
-    build = Build(among, log, command, "quick")
+    """Proves these crates, lowest first, and gives those that are proved and those that failed. What stands below them is
+    begun too, by itself, and done at once where it was built before: a crate would build it one library after the other."""
+    order = dict.fromkeys(it for crate in crates for it in lowest_first(below, crate))
+    build = Build({crate: below[crate] for crate in order}, log, command, "quick")
     build.all(lanes())
-    return build.proved, build.failed
+    return [crate for crate in crates if crate in build.proved], build.failed
 
 
 def said_of(crate, words):
