@@ -9,13 +9,20 @@ import unittest
 
 TOP = os.path.dirname(os.path.dirname(os.path.abspath(__file__)))
 
-# It proves a library; or it makes the program and runs it as it is told to; or it fails.
+# It proves the crates at or below the folder and those that they stand on; or it makes the program and runs it as it is
+# told to; or it fails.
 RT = """#!/bin/sh
-crate=$(basename "$PWD")
-echo "$crate" >>"$ROOM/builds"
-echo "fn $crate::first: proved"
-[ ! -e "$ROOM/fails" ] || exit 1
-[ "$1" = run ] || exit 0
+echo "$1 $(basename "$PWD")" >>"$ROOM/builds"
+if [ "$1" = all ]; then
+    echo "== low"
+    echo "fn low::first: proved"
+    if [ -e "$ROOM/fails" ]; then
+        printf '== gmus\\n== summary\\nlow: failed (1)\\ngmus: not run, since low failed\\n0 of 2 crates ok\\n'
+        exit 1
+    fi
+    printf '== gmus\\n== summary\\nlow: ok\\ngmus: ok\\n2 of 2 crates ok\\n'
+    exit 0
+fi
 mkdir -p out && cp "$ROOM/program" out/gmus && shift 2 && out/gmus "$@"
 """
 
@@ -27,7 +34,8 @@ exit 5
 """
 
 SAID = ("gmus: building, which proves each crate first; what is said of it goes to build.log\n"
-        "gmus: proving low, 1 of 2\ngmus: proving gmus, 2 of 2\n")
+        "gmus: low is done, 1 of 2\ngmus: gmus is done, 2 of 2\n")
+BUILT = ["all gmus", "run gmus"]
 
 
 class Launcher(unittest.TestCase):
@@ -61,7 +69,7 @@ class Launcher(unittest.TestCase):
     def builds(self):
         try:
             with open(self.room + "/builds") as builds:
-                return builds.read().split()
+                return builds.read().splitlines()
         except FileNotFoundError:
             return []
 
@@ -73,7 +81,7 @@ class Launcher(unittest.TestCase):
     def test_the_first_call_builds_and_the_next_does_not(self):
         self.assertEqual(self.run_it("list", "a b"), (5, "to output: list a b", SAID + "to errors\n"))
         self.assertEqual(self.run_it("x"), (5, "to output: x", "to errors\n"))
-        self.assertEqual(self.builds(), ["low", "gmus"])
+        self.assertEqual(self.builds(), BUILT)
 
     def test_a_newer_source_of_a_crate_below_builds_again(self):
         self.run_it("x")
@@ -82,7 +90,7 @@ class Launcher(unittest.TestCase):
             before = self.builds()
             self.age(name, 5)
             self.run_it("x")
-            self.assertEqual(self.builds()[len(before):], ["low", "gmus"] * again, name)
+            self.assertEqual(self.builds()[len(before):], BUILT * again, name)
             self.age(name, -5)
 
     def test_where_the_build_fails_nothing_is_run(self):
@@ -93,8 +101,8 @@ class Launcher(unittest.TestCase):
         self.assertEqual((status, output), (127, ""))
         self.assertTrue(said.endswith(f"gmus: the build failed: see the end of {self.room}/build.log, and CONTRIBUTING.md\n"))
         with open(self.room + "/build.log") as log:
-            self.assertEqual(log.read(), "fn low::first: proved\nlow: status 1\n")
-        self.assertEqual(self.builds(), ["low", "gmus", "low"])
+            self.assertIn("low: failed (1)\n", log.read())
+        self.assertEqual(self.builds(), BUILT + BUILT[:1])
 
     def test_without_the_toolchain_it_says_so(self):
         folders = [it for it in os.environ["PATH"].split(":") if not os.path.exists(it + "/rt")]
