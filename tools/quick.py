@@ -4,10 +4,10 @@
     tools/quick.py             what differs from the last commit
     tools/quick.py BASE        what differs from the commit BASE
 
-The crates that differ are laid out by `rt fmt` and proved, and so are the crates above them, as many at a time as there
-are processors and memory, over what earlier checks kept. The programs of trials that stand on one of them play their
-scripts unproved, tests are run unproved, and the tools are tested. What was said goes to quick.log at the top of the
-repository. At the end it says what it left out: `rt ci` alone is the gate.
+The crates that differ are laid out by `rt fmt` and proved, and so are the crates above them, lowest first, over what
+earlier checks kept. Beside that the programs of trials that stand on one of them play their scripts unproved, as many at a
+time as there are processors and memory; tests are run unproved, and the tools are tested. What was said goes to quick.log
+at the top of the repository. At the end it says what it left out: `rt ci` alone is the gate.
 """
 import os
 import subprocess
@@ -15,7 +15,7 @@ import sys
 import time
 from concurrent.futures import ThreadPoolExecutor
 
-from build import Build, lanes
+from build import lanes, processors
 from crates import TOP, above, areas_in, below_in, lowest_first, text_of
 
 PARTS = ("src", "specs", "proofs")
@@ -51,17 +51,17 @@ def has_tests(crate):
     return False
 
 
-def command(crate, jobs):
-    return ["rt", "check" if is_program(crate) else "lib", "--jobs", str(jobs)]
-
-
 def prove(crates, below, log):
-    """Proves these crates, lowest first, and gives those that are proved and those that failed. What stands below them is
-    begun too, by itself, and done at once where it was built before: a crate would build it one library after the other."""
-    order = dict.fromkeys(it for crate in crates for it in lowest_first(below, crate))
-    build = Build({crate: below[crate] for crate in order}, log, command, "quick")
-    build.all(lanes())
-    return [crate for crate in crates if crate in build.proved], build.failed
+    """Proves these crates, lowest first, each over what earlier checks kept, and gives those that are proved and those that
+    failed. One that stands on a failed one is left."""
+    proved, failed = [], []
+    for crate in crates:
+        if set(failed).isdisjoint(lowest_first(below, crate)):
+            status, printed, said = said_of(crate, ["rt", "check" if is_program(crate) else "lib"])
+            log.write(f"== {crate}\n{printed.decode(errors='replace')}{said}")
+            log.flush()
+            (failed if status else proved).append(crate)
+    return proved, failed
 
 
 def said_of(crate, words):
@@ -89,15 +89,6 @@ def try_tests(crate):
     return "" if status == 0 else f"a test of {crate} fails", printed.decode(errors="replace") + said
 
 
-def try_all(played, tested, log):
-    """Plays these scripts and runs these tests, side by side, and gives what is wrong."""
-    with ThreadPoolExecutor(lanes()) as pool:
-        ended = [*pool.map(play, played), *pool.map(try_tests, tested)]
-    log.write("".join(said for _, said in ended))
-    log.flush()
-    return [bad for bad, _ in ended if bad]
-
-
 def main(words):
     began = time.monotonic()
     below = below_in(text_of("crates.txt"))
@@ -114,9 +105,14 @@ def main(words):
         for crate in changed:
             if said_of(crate, ["rt", "fmt"])[0]:
                 bad.append(f"{crate} can't be laid out")
-        proved, failed = prove(wanted, below, log)
-        bad += [f"{crate} is not proved" for crate in failed]
-        bad += try_all(played, tested, log)
+        with ThreadPoolExecutor(lanes(processors())) as pool:
+            # One check at a time: it keeps the folders of all crates below. What is tried needs no folder.
+            proofs = pool.submit(prove, wanted, below, log)
+            ended = [*pool.map(play, played), *pool.map(try_tests, tested)]
+            proved, failed = proofs.result()
+        log.write("".join(said for _, said in ended))
+        log.flush()
+        bad += [f"{crate} is not proved" for crate in failed] + [it for it, _ in ended if it]
         tools = subprocess.run([sys.executable, "-m", "unittest", "discover", "-s", "tools"], cwd=TOP, stdout=log, stderr=log,
                                check=False)
         if tools.returncode:

@@ -1,10 +1,9 @@
 #!/usr/bin/env python3
-"""Tests of what the tools make of crates.txt, of what the gate's processes are taken for, and of the order of a build."""
+"""Tests of what the tools make of crates.txt, and of what the gate's processes are taken for."""
 import io
-import threading
 import unittest
+import unittest.mock
 
-import build
 import cost
 import crates
 import quick
@@ -61,38 +60,16 @@ class Pieces(unittest.TestCase):
         self.assertEqual(rows[-1], "| all | 3 | 0 | 0 | 1 | 3 | | 6 |")
 
 
-class Builds(unittest.TestCase):
-    def setUp(self):
-        self.order, self.alone = [], threading.Lock()
-
-    def build(self, failing, most):
-        def prove(crate, jobs):
-            with self.alone:
-                self.order.append(crate)
-            return crate not in failing
-
-        one = build.Build(BELOW, io.StringIO())
-        one.prove = prove
-        return one.all(most)
-
-    def test_a_crate_is_begun_behind_those_below_it(self):
-        for most in (1, 2, 4):
-            self.order = []
-            self.assertTrue(self.build([], most))
-            self.assertEqual(sorted(self.order), ["a", "b", "c", "d"])
-            self.assertLess(self.order.index("a"), self.order.index("b"))
-            self.assertLess(self.order.index("b"), self.order.index("c"))
-
-    def test_nothing_is_begun_behind_one_that_fails(self):
-        self.assertFalse(self.build(["b"], 1))
-        self.assertNotIn("c", self.order)
-
-
 class Quick(unittest.TestCase):
     def test_a_crate_differs_by_its_sources(self):
         files = ["crates/b/src/lib.rt", "crates/c/must-fail/x.edit", "crates/d/data/cases", "README.md", "crates/b/proofs/x/Lib.antt"]
         self.assertEqual(quick.changed_crates(files, BELOW), ["b"])
         self.assertEqual(quick.changed_crates(files, BELOW, ("data", "stdout")), ["d"])
+
+    def test_what_stands_on_a_failed_crate_is_left(self):
+        ends = {"a": 0, "b": 1, "d": 0}
+        with unittest.mock.patch.object(quick, "said_of", lambda crate, words: (ends[crate], b"", "")):
+            self.assertEqual(quick.prove(["a", "b", "c", "d"], BELOW, io.StringIO()), (["a", "d"], ["b"]))
 
     def test_what_was_left_out_is_said(self):
         told = "\n".join(quick.said(["a"], ["t"], [], ["a", "t"], 1.5))
