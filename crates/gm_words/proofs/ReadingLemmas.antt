@@ -1,6 +1,7 @@
 -- What the words ask for, by what clap says of them.
-use Rattle.std.proofs.Common.{◌≡◌, ◌∙◌, ap, sym, refl, Bool, true, false, List, [], ◌∷◌, Option, None, inl, inr, rules}
-use Rattle.std.specs.Prelude.{option_map, option_and_then, if◌then◌else◌}
+use Rattle.std.proofs.Common.{◌≡◌, ◌∙◌, ap, sym, refl, Bool, true, false, List, [], ◌∷◌, Option, None, Result, Ok, Err, inl, inr, rules}
+use Rattle.std.specs.Prelude.{IfOk, option_map, option_and_then, if◌then◌else◌}
+use Rattle.std.specs.declared.alloc.AllocError.{AllocError}
 use Rattle.clap.specs.Values.{kind_of}
 use Rattle.clap.specs.Walk.{Text, is_empty}
 use Rattle.clap.specs.Simple.{App, HasMatchesOf, is_simple, subcommand_of, subcommand_rows_of}
@@ -42,7 +43,7 @@ has_one [] e (inr never) other = absurd never
 has_one (k ∷ ks) e h other = search rules
 
 -- where it refuses them, for another cause than memory
-pub read_of_error : (a : App) (words : List Text) (e : Error) → a ≡ gmus_app
+read_of_error : (a : App) (words : List Text) (e : Error) → a ≡ gmus_app
     → (is_simple_and_free a ≡ true → HasKind (fault_of a words) e) → (kind_of e ≡ OutOfMemory → ⊥)
     → None ≡ words_read words
 read_of_error a words e is kinds other =
@@ -50,3 +51,10 @@ read_of_error a words e is kinds other =
     let some_here : is_empty (fault_of gmus_app words) ≡ false = ap (λ (x : App). is_empty (fault_of x words)) (sym is) ∙ some in
     sym (ap (λ (b : Bool). if b
     then option_and_then (λ p. asked_of p.0 p.1) (subcommand_of gmus_app words) else None) some_here)
+
+-- what is answered then
+pub read_of_refusal : (a : App) (words : List Text) (e : Error) (r : Result (Option Request) AllocError) → a ≡ gmus_app
+    → (is_simple_and_free a ≡ true → HasKind (fault_of a words) e) → IfOk r (λ x. x ≡ None)
+    → IfOk r (λ _. kind_of e ≡ OutOfMemory → ⊥) → IfOk r (λ x. option_map asked_by x ≡ words_read words)
+read_of_refusal a words e (Ok x) is kinds none other = ap (option_map asked_by) none ∙ read_of_error a words e is kinds other
+read_of_refusal a words e (Err _) is kinds none other = tt

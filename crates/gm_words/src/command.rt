@@ -1,10 +1,10 @@
 //! The command that clap reads the words by.
-ghost use Rattle.std.specs.Prelude.{◌≡◌, IfOk, false};
-ghost use Rattle.clap.specs.Words.{app_of, rule_of};
-ghost use Rattle.clap.specs.declared.builder.command.Command.TheViews.{out-Command};
+ghost use Rattle.std.specs.Prelude.{◌≡◌, IfOk};
+ghost use Rattle.clap.specs.Words.{App, app_of, with_rule, with_subcommand};
+ghost use Rattle.gm_words.specs.Options.{IsLocal, option_rule, word_rule};
 ghost use Rattle.gm_words.specs.Reading.{check_app, drill_app, gmus_app, gmus_top, list_app, numbered_list_app, place_rule, text_rule};
 
-use crate::options::{CONFLICTS, JOBS, LIMIT, SEED, SIZE};
+use crate::options::{CONFLICTS, JOBS, LIMIT, NumberOption, SEED, SIZE};
 use clap::{Arg, Command};
 use std::alloc::{AllocError, Global};
 
@@ -12,10 +12,9 @@ use std::alloc::{AllocError, Global};
 pub(crate) fn gmus_command<'a>(alloc: Global) -> Result<Command<'a>, AllocError>
     ensures app { IfOk result (λ c. app_of c ≡ gmus_app) }
 {
-    gmus_top_command(alloc)
-        .subcommand(list_command(alloc)?)?
-        .subcommand(check_command(alloc)?)?
-        .subcommand(drill_command(alloc)?)
+    let command = with_subcommand(gmus_top_command(alloc), list_command(alloc))?;
+    let command = with_subcommand(command, check_command(alloc))?;
+    with_subcommand(command, drill_command(alloc))
 }
 
 /// The command without its subcommands. The words do not begin with the program's name.
@@ -29,59 +28,90 @@ fn gmus_top_command<'a>(alloc: Global) -> Command<'a>
 
 /// `list FILE [--jobs J] [--conflicts B] [--limit L] [--evidence FILE] [--resume FILE]`
 fn list_command<'a>(alloc: Global) -> Result<Command<'a>, AllocError>
-    ensures app { IfOk result (λ c. app_of c ≡ list_app) }
-    ensures local { IfOk result (λ c. (out-Command c).has_globals ≡ false) }
+    ensures { IfOk result (IsLocal list_app) }
 {
-    numbered_list_command(alloc)?
-        .arg(named_text(alloc, "evidence"))?
-        .arg(named_text(alloc, "resume"))
+    let command = with_text(numbered_list_command(alloc), alloc, "evidence");
+    with_text(command, alloc, "resume")
 }
 
 /// `list FILE [--jobs J] [--conflicts B] [--limit L]`
 fn numbered_list_command<'a>(alloc: Global) -> Result<Command<'a>, AllocError>
-    ensures app { IfOk result (λ c. app_of c ≡ numbered_list_app) }
-    ensures local { IfOk result (λ c. (out-Command c).has_globals ≡ false) }
+    ensures { IfOk result (IsLocal numbered_list_app) }
 {
-    Command::new(alloc, "list")
-        .arg(place(alloc, "file"))?
-        .arg(JOBS.arg(alloc))?
-        .arg(CONFLICTS.arg(alloc))?
-        .arg(LIMIT.arg(alloc))
+    let command = with_place(Ok(Command::new(alloc, "list")), alloc, "file");
+    let command = with_number(command, alloc, JOBS);
+    let command = with_number(command, alloc, CONFLICTS);
+    with_number(command, alloc, LIMIT)
 }
 
 /// `check FILE EVIDENCE`
 fn check_command<'a>(alloc: Global) -> Result<Command<'a>, AllocError>
-    ensures app { IfOk result (λ c. app_of c ≡ check_app) }
-    ensures local { IfOk result (λ c. (out-Command c).has_globals ≡ false) }
+    ensures { IfOk result (IsLocal check_app) }
 {
-    Command::new(alloc, "check")
-        .arg(place(alloc, "file"))?
-        .arg(place(alloc, "evidence"))
+    let command = with_place(Ok(Command::new(alloc, "check")), alloc, "file");
+    with_place(command, alloc, "evidence")
 }
 
 /// `drill SEED SIZE [--jobs J]`
 fn drill_command<'a>(alloc: Global) -> Result<Command<'a>, AllocError>
-    ensures app { IfOk result (λ c. app_of c ≡ drill_app) }
-    ensures local { IfOk result (λ c. (out-Command c).has_globals ≡ false) }
+    ensures { IfOk result (IsLocal drill_app) }
 {
-    Command::new(alloc, "drill")
-        .arg(SEED.place(alloc))?
-        .arg(SIZE.place(alloc))?
-        .arg(JOBS.arg(alloc))
+    let command = with_word(Ok(Command::new(alloc, "drill")), alloc, SEED);
+    let command = with_word(command, alloc, SIZE);
+    with_number(command, alloc, JOBS)
 }
 
-/// `--name TEXT`, which need not be given.
-fn named_text<'a>(alloc: Global, name: &'a str) -> Arg<'a>
-    ensures rule { rule_of result ≡ text_rule name.now }
-    ensures local { result.global ≡ false }
+/// With a subcommand, if there is one.
+fn with_subcommand<'a>(
+    command: Command<'a>,
+    subcommand: Result<Command<'a>, AllocError>,
+) -> Result<Command<'a>, AllocError>
+    ensures { (a s : App) → app_of command.entry ≡ a → IfOk subcommand.entry (IsLocal s)
+        → IfOk result (λ c. app_of c ≡ with_subcommand a s.top) }
 {
-    Arg::new(alloc, name).long(name)
+    command.subcommand(subcommand?)
 }
 
-/// A word that is required at its place.
-fn place<'a>(alloc: Global, name: &'a str) -> Arg<'a>
-    ensures rule { rule_of result ≡ place_rule name.now }
-    ensures local { result.global ≡ false }
+/// With the option.
+fn with_number<'a>(
+    command: Result<Command<'a>, AllocError>,
+    alloc: Global,
+    option: NumberOption,
+) -> Result<Command<'a>, AllocError>
+    ensures { (a : App) → IfOk command.entry (IsLocal a) → IfOk result (IsLocal (with_rule a (option_rule option))) }
 {
-    Arg::new(alloc, name).required(true)
+    command?.arg(option.arg(alloc))
+}
+
+/// With the number as a word at its place.
+fn with_word<'a>(
+    command: Result<Command<'a>, AllocError>,
+    alloc: Global,
+    option: NumberOption,
+) -> Result<Command<'a>, AllocError>
+    ensures { (a : App) → IfOk command.entry (IsLocal a) → IfOk result (IsLocal (with_rule a (word_rule option))) }
+{
+    command?.arg(option.place(alloc))
+}
+
+/// With `--name TEXT`, which need not be given.
+fn with_text<'a>(
+    command: Result<Command<'a>, AllocError>,
+    alloc: Global,
+    name: &'a str,
+) -> Result<Command<'a>, AllocError>
+    ensures { (a : App) → IfOk command.entry (IsLocal a) → IfOk result (IsLocal (with_rule a (text_rule name.now))) }
+{
+    command?.arg(Arg::new(alloc, name).long(name))
+}
+
+/// With a word that is required at its place.
+fn with_place<'a>(
+    command: Result<Command<'a>, AllocError>,
+    alloc: Global,
+    name: &'a str,
+) -> Result<Command<'a>, AllocError>
+    ensures { (a : App) → IfOk command.entry (IsLocal a) → IfOk result (IsLocal (with_rule a (place_rule name.now))) }
+{
+    command?.arg(Arg::new(alloc, name).required(true))
 }

@@ -1,16 +1,17 @@
 //! Reads the words of a command line.
-ghost use Rattle.std.specs.Prelude.{◌≡◌, ◌≤◌, IfOk, IfSome, map, option_and_then, option_map, string_bytes};
+ghost use Rattle.std.specs.Prelude.{◌≡◌, ◌≤◌, IfOk, IfSome, None, Some, codes, map, option_and_then, option_map, string_bytes};
 ghost use Rattle.clap.specs.Walk.{first_of, rows_of};
-ghost use Rattle.clap.specs.Words.{found_of, subcommand_rows_of};
+ghost use Rattle.clap.specs.Words.{found_of, kind_of, subcommand_rows_of};
+ghost use Rattle.clap.specs.declared.error.ErrorKind.TheVariants.{OutOfMemory};
 ghost use Rattle.gm_words.specs.Options.{option_rule, word_rule};
-ghost use Rattle.gm_words.specs.Reading.{asked_of, checking_of, drilling_of, listing_of, number_at, number_or, words_read};
-ghost use Rattle.gm_words.specs.Requests.{HasGoodNumbers, asked_by, text_of};
+ghost use Rattle.gm_words.specs.Reading.{asked_of, checking_of, conflicts_rule, drilling_of, greatest_conflicts, greatest_limit, limit_rule, listing_of, listing_with, number_at, number_or, words_read};
+ghost use Rattle.gm_words.specs.Requests.{AreGoodJobs, HasGoodNumbers, asked_by, text_of};
 
 use crate::command::gmus_command;
 use crate::options::{CONFLICTS, JOBS, LIMIT, NumberOption, SEED, SIZE};
 use crate::request::{Checking, Drilling, Listing, Request};
-use clap::ArgMatches;
 use clap::error::ErrorKind;
+use clap::{ArgMatches, Error};
 use std::alloc::{AllocError, Global};
 
 /// Reads the words after the program's name. `None` is a wrong command line.
@@ -20,13 +21,19 @@ pub fn read_words<'a>(alloc: Global, words: &'a [String]) -> Result<Option<Reque
 {
     match gmus_command(alloc)?.try_get_matches_from(words) {
         Ok(matches) => Ok(request_of(&matches)),
-        Err(error) => {
-            if error.kind() == ErrorKind::OutOfMemory {
-                Err(AllocError)
-            } else {
-                Ok(None)
-            }
-        }
+        Err(error) => refused(error),
+    }
+}
+
+/// What is read where clap refuses the words: a wrong command line, if memory did not run out.
+fn refused<'a>(error: Error) -> Result<Option<Request<'a>>, AllocError>
+    ensures none { IfOk result (λ r. r ≡ None) }
+    ensures wrong { IfOk result (λ _. kind_of error ≡ OutOfMemory → ⊥) }
+{
+    if error.kind() == ErrorKind::OutOfMemory {
+        Err(AllocError)
+    } else {
+        Ok(None)
     }
 }
 
@@ -37,12 +44,20 @@ fn request_of<'a>(matches: &ArgMatches<'a>) -> Option<Request<'a>>
     ensures numbers { IfSome result HasGoodNumbers }
 {
     let (name, inner) = matches.subcommand()?;
+    request_by(name, inner)
+}
+
+/// What the matches of the subcommand with this name ask for.
+fn request_by<'a>(name: &str, matches: &ArgMatches<'a>) -> Option<Request<'a>>
+    ensures asked { option_map asked_by result ≡ asked_of name.now (rows_of (found_of matches.now)) }
+    ensures numbers { IfSome result HasGoodNumbers }
+{
     if name == "list" {
-        listing(inner)
+        listing(matches)
     } else if name == "check" {
-        checking(inner)
+        checking(matches)
     } else if name == "drill" {
-        drilling(inner)
+        drilling(matches)
     } else {
         None
     }
@@ -55,13 +70,24 @@ fn listing<'a>(matches: &ArgMatches<'a>) -> Option<Request<'a>>
 {
     let file = text_given(matches, "file")?;
     let jobs = number_or(matches, JOBS, JOBS.low)?;
+    listing_by(matches, file, jobs as u32)
+}
+
+/// What the matches of `list` ask for, with the file and the workers that are among them.
+fn listing_by<'a>(matches: &ArgMatches<'a>, file: &'a str, jobs: u32) -> Option<Request<'a>>
+    requires { AreGoodJobs jobs }
+    ensures asked { let rows = rows_of (found_of matches.now) in option_map asked_by result
+        ≡ listing_with (Some file.now) (Some jobs) (number_or greatest_conflicts conflicts_rule rows)
+        (number_or greatest_limit limit_rule rows) (first_of (codes "evidence") rows) (first_of (codes "resume") rows) }
+    ensures numbers { IfSome result HasGoodNumbers }
+{
     let conflicts = number_or(matches, CONFLICTS, CONFLICTS.high)?;
     let limit = number_or(matches, LIMIT, LIMIT.high)?;
     let evidence = text_given(matches, "evidence");
     let resume = text_given(matches, "resume");
     Some(Request::List(Listing {
         file,
-        jobs: jobs as u32,
+        jobs,
         conflicts,
         limit,
         evidence,

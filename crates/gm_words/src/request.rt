@@ -1,7 +1,7 @@
 //! What the words of a command line ask for.
 
 /// What `list` is asked for.
-#[derive(Clone, Copy, Debug, PartialEq, Eq)]
+#[derive(Clone, Copy)]
 pub struct Listing<'a> {
     /// The name of the input file.
     pub file: &'a str,
@@ -18,7 +18,7 @@ pub struct Listing<'a> {
 }
 
 /// What `check` is asked for.
-#[derive(Clone, Copy, Debug, PartialEq, Eq)]
+#[derive(Clone, Copy)]
 pub struct Checking<'a> {
     /// The name of the input file.
     pub file: &'a str,
@@ -27,7 +27,7 @@ pub struct Checking<'a> {
 }
 
 /// What `drill` is asked for.
-#[derive(Clone, Copy, Debug, PartialEq, Eq)]
+#[derive(Clone, Copy)]
 pub struct Drilling {
     /// The number that the case is made from.
     pub seed: u64,
@@ -38,7 +38,7 @@ pub struct Drilling {
 }
 
 /// What the words ask for.
-#[derive(Clone, Copy, Debug, PartialEq, Eq)]
+#[derive(Clone, Copy)]
 pub enum Request<'a> {
     /// `list FILE [--jobs J] [--conflicts B] [--limit L] [--evidence FILE] [--resume FILE]`
     List(Listing<'a>),

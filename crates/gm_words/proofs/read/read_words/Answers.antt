@@ -1,11 +1,10 @@
-use Rattle.std.proofs.Common.{rules}
-use Rattle.gm_words.proofs.ReadingLemmas.{read_of_matches, read_of_error}
+use Rattle.gm_words.proofs.ReadingLemmas.{read_of_matches, read_of_refusal}
 use Rattle.gm_words.proofs.read.read_words.Goals as goal
 
 pub returns-in-Ok-clause-asked : goal.returns-in-Ok-clause-asked
 returns-in-Ok-clause-asked c = read_of_matches _ _ c.in-Ok.matches _ c.in_ok-gmus_command.ensures.app
     c.in-Ok.ensures.kinds c.in-Ok.ensures.matches c.request_of.ensures.asked
 
-pub returns-clause-asked : goal.returns-clause-asked
-returns-clause-asked c =
-    read_of_error _ _ c.in-Err.error c.in_ok-gmus_command.ensures.app c.in-Err.ensures.kinds (search rules)
+pub returns-in-Err-clause-asked : goal.returns-in-Err-clause-asked
+returns-in-Err-clause-asked c = read_of_refusal _ _ c.in-Err.error _ c.in_ok-gmus_command.ensures.app
+    c.in-Err.ensures.kinds c.refused.ensures.none c.refused.ensures.wrong
