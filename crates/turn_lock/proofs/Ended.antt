@@ -1,11 +1,11 @@
 -- What the closed table tells of all seats.
-use Rattle.std.proofs.Common.{◌≡◌, ℕ, zero, suc, ◌+◌, ◌<◌, List, [], ◌∷◌, map, length, get_or, remove, All, Option, Some, sym, ap, ◌∙◌, subst, arith}
+use Rattle.std.proofs.Common.{◌≡◌, ℕ, zero, suc, ◌+◌, ◌<◌, List, [], ◌∷◌, map, length, get_or, remove, All, Option, Some, refl, sym, ap, ◌∙◌, subst, arith}
 use Rattle.std.proofs.lemmas.List.Elements.{All-head, All-tail, All-cons, All-nil, All-weaker}
 use Rattle.std.proofs.lemmas.List.{length-map}
-use mathlib.Core.Option.{some}
+use mathlib.Core.Option.{some, some-injective}
 use mathlib.Core.List.{IsPrefix}
 use lib.ListN.{get_elem?}
-use Rattle.atomic_table.specs.Table.{Final, Seen}
+use Rattle.atomic_table.specs.Table.{Final, Me, Seen}
 use Rattle.turn_lock.specs.declared.view.Stage.TheVariants.{Idle}
 use Rattle.turn_lock.specs.declared.view.Note.{Note}
 use Rattle.turn_lock.specs.declared.view.View.{View}
@@ -14,7 +14,8 @@ use Rattle.turn_lock.specs.Rule.{Kept}
 use Rattle.turn_lock.specs.Moves.{note_at, with_notes}
 use Rattle.turn_lock.specs.Seats.{TableId, LockView, SeatView, AreAll, HasAll}
 use Rattle.turn_lock.specs.Closings.{note_of}
-use Rattle.turn_lock.specs.Badges.{seat_view}
+use Rattle.turn_lock.specs.Badges.{seat_view, view_of}
+use Rattle.turn_lock.proofs.Badges.{has_view}
 use Rattle.turn_lock.proofs.Seated.{IsSoOf}
 use Rattle.turn_lock.proofs.Steps.{closes}
 
@@ -62,3 +63,13 @@ module _ {B E O : Type 0} (caller : E → ℕ) (legal : O → List E → Type 0)
           named = subst (λ (z : ℕ). All (λ e. caller e < z) (history y)) made k.2.named;
         },
       )
+
+  -- the same of the slot that was taken, where the first seat lay in a badge of these views
+  pub ends_with : (l : LockView O) (t : TableId) (seats : List (SeatView E O)) (s : SeatView E O) (others : List (SeatView E O)) (vs : List (View E O)) (v : View E O) (m : Me (Option B) (View E O)) (n id : ℕ) (words : List ℕ) (slots : List (Option B)) (slot : Option B)
+      → AreAll l seats → s ≡ get_or seats 0 s → others ≡ remove seats 0 → seat_view t n (view_of vs) ≡ s → (view_of vs).number ≡ n → (view_of vs).stage ≡ Idle → vs ≡ v ∷ []
+      → m ≡ (with_notes v (map note_of others), []) → Final (Seen (Kept caller legal history opening start) id m.0) words slots → get_elem? slots 0 ≡ some slot
+      → (y : B) × (slot ≡ Some y) × (opening y ≡ start) × HasAll caller legal start seats (history y)
+  ends_with l t seats s others vs v m n id words slots slot all head tail is number idle one joined f taken =
+      let view : v ≡ view_of vs = has_view vs vs v refl one in
+      let e = ends l t seats s others v m.0 n id words slots all head tail (ap (seat_view t n) view ∙ is) (ap (λ (u : View E O). u.number) view ∙ number) (ap (λ (u : View E O). u.stage) view ∙ idle) (ap (λ (z : Me (Option B) (View E O)). z.0) joined) f in
+      (e.0, some-injective slot (Some e.0) (sym taken ∙ e.1), e.2, e.3)

@@ -1,5 +1,5 @@
 //! A turn: draw a ticket, look until it is served and take the book out, apply the operation, pass the book on.
-ghost use Rattle.std.specs.Prelude.{◌≡◌, ◌<◌, ◌^◌, [], ◌∷◌, ◌++◌, length, Some, None};
+ghost use Rattle.std.specs.Prelude.{◌≡◌, ◌<◌, ◌^◌, [], ◌∷◌, ◌++◌, length, IfNone, IfSome, Some, None};
 ghost use Rattle.turn_lock.specs.declared.view.Stage.TheVariants.{Idle, Waits, Holds};
 ghost use Rattle.turn_lock.specs.Moves.{at_stage, holding, after_turn, GoesOn};
 ghost use Rattle.turn_lock.specs.Seats.{IsSeatOf, IsSameSeat, IsTurn};
@@ -63,17 +63,31 @@ fn await_turn<B: Book, R: Wait>(
     ensures short { ticket < 2 ^ 63 }
 {
     for _ in rt.forever() {
-        if top.load::<Look<B>>(place, SERVING) == ticket {
-            // The look lent the slot, so the book is in it.
-            match top.exchange(place, 0, None) {
-                Some(book) => return book,
-                None => unreachable!(),
-            }
+        if let Some(book) = look(top, place, ticket) {
+            return book;
         }
         *looks = looks.saturating_add(1);
         thread::yield_now();
     }
     unreachable!()
+}
+
+// Looks once, and takes the book out if the ticket is served.
+fn look<B: Book>(top: &Top<B>, place: &mut Place<B>, ticket: u64) -> Option<B>
+    requires table { (place.old.table_id ≡ top.now.table_id) × (top.now.table_id.words ≡ 2) }
+    requires waits { (place.old.me.0.stage ≡ Waits ticket) × (place.old.me.1 ≡ []) }
+    ensures same { (place.new.table_id ≡ place.old.table_id) × (place.new.id ≡ place.old.id) }
+    ensures early { IfNone result (place.new.me ≡ place.old.me) }
+    ensures holds { IfSome result (λ book. place.new.me ≡ (holding place.old.me.0 ticket (B.history book), (0, None) ∷ [])) }
+    ensures book { IfSome result (GoesOn B.caller B.history B.opening place.old.me.0) }
+    ensures short { IfSome result (λ _. ticket < 2 ^ 63) }
+{
+    if top.load::<Look<B>>(place, SERVING) == ticket {
+        // The look lent the slot, so the book is in it.
+        top.exchange(place, 0, None)
+    } else {
+        None
+    }
 }
 
 // Puts the book back, and serves the next ticket.

@@ -1,13 +1,20 @@
-use Rattle.std.proofs.Common.{rules, ◌≡◌, sym, ap, ◌∙◌, Some}
-use Rattle.turn_lock.specs.declared.view.Stage.TheVariants.{Waits}
-use Rattle.turn_lock.proofs.Steps.{may_look, first_held}
+use Rattle.std.proofs.Common.{◌≡◌, ap, ◌∙◌, [], ◌∷◌, None, subst, sym}
+use Rattle.turn_lock.specs.Moves.{GoesOn, holding}
 use Rattle.turn_lock.proofs.turn.await_turn.Goals as goal
 
-pub load-requires : goal.load-requires
-load-requires g c = (search rules, search rules, may_look _ _ _ _ _ _ _ _ c.args.ticket (ap (λ m. m.0.stage) c.loop.invariant.2 ∙ c.requires.waits.0))
+-- no look so far changed the seat
+pub look-requires : goal.look-requires
+look-requires g c = record {
+  table = (c.loop.invariant.0 ∙ c.requires.table.0, c.requires.table.1);
+  waits = (ap (λ m. m.0.stage) c.loop.invariant.2 ∙ c.requires.waits.0, ap (λ m. m.1) c.loop.invariant.2 ∙ c.requires.waits.1);
+}
 
-pub exchange-requires : goal.exchange-requires
-exchange-requires g c =
-    let waits : c.loop.place.me.0.stage ≡ Waits c.load.result = ap (λ m. m.0.stage) c.loop.invariant.2 ∙ (c.requires.waits.0 ∙ ap Waits (sym c.if-load-ticket.true)) in
-    let k = c.load.ensures.2.0 waits in
-    (search rules, (Some k.0, first_held _ _ (Some k.0) (ap (λ m. m.1) k.1)))
+pub returns-in-Some-look : goal.returns-in-Some-look
+returns-in-Some-look g c =
+    let told = c.in-Some-look.ensures in
+    record {
+      same = (told.same.0 ∙ c.loop.invariant.0, told.same.1 ∙ c.loop.invariant.1);
+      holds = told.holds ∙ ap (λ m. (holding m.0 c.args.ticket (g.B.Book.history c.in-Some-look.book), (0, None) ∷ [])) c.loop.invariant.2;
+      book = subst (λ m. GoesOn g.B.Book.caller g.B.Book.history g.B.Book.opening m.0 c.in-Some-look.book) c.loop.invariant.2 told.book;
+      short = told.short;
+    }
