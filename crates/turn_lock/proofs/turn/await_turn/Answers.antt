@@ -1,4 +1,4 @@
-use Rattle.std.proofs.Common.{◌≡◌, ap, ◌∙◌, [], ◌∷◌, None, subst, sym}
+use Rattle.std.proofs.Common.{ap, ◌∙◌, [], ◌∷◌, None, subst}
 use Rattle.turn_lock.specs.Moves.{GoesOn, holding}
 use Rattle.turn_lock.proofs.turn.await_turn.Goals as goal
 
