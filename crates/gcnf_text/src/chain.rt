@@ -3,7 +3,7 @@
 //! A listing can be tried on problems of any size if their minimal sets are known beforehand. Such a problem is a chain of
 //! links that clash together and not without any one of them (`specs/Chain.antt`). A generator of numbers decides which
 //! links are said by two groups, so that a seed and a size give one problem on each machine.
-ghost use Rattle.std.specs.Prelude.{◌≡◌, ◌≤◌, ◌<◌, ◌+◌, ◌++◌, ◌∷◌, ℕ, List, length, replicate, IfOk, OnOk};
+ghost use Rattle.std.specs.Prelude.{◌≡◌, ◌≤◌, ◌<◌, ◌+◌, ◌++◌, ◌∷◌, ◌==◌, [], ℕ, List, if◌then◌else◌, length, neg_ℤ, pos, replicate, IfOk, OnOk};
 ghost use Rattle.std.specs.List.{AllByRecursion};
 ghost use Rattle.gcnf_text.specs.Chain as chain;
 ghost use Rattle.gcnf_text.specs.Chain.{chain_widths, clauses_from, core, core_or, group_clauses, links_from, made_case, modulus, widths};
@@ -107,11 +107,26 @@ fn push_group(
 {
     let p = Lit::new((size + 2 * group - 1) as i32);
     let q = Lit::new((size + 2 * group) as i32);
+    push_both(alloc, clauses, size, group, link, p, q)?;
+    push_both(alloc, clauses, size, group, link, p.negated(), q)
+}
+
+/// The two clauses of a group with this literal, one for each sign of the other.
+fn push_both(
+    alloc: Global,
+    clauses: &mut Clauses,
+    size: u32,
+    group: u32,
+    link: u32,
+    p: Lit,
+    q: Lit,
+) -> Result<(), AllocError>
+    requires small { size ≤ 1000 }
+    requires in_range { link ≤ size }
+    ensures { OnOk result (clauses.new ≡ clauses.old ++ core_or group (core size link) p q ∷ core_or group (core size link) p (neg_ℤ q) ∷ []) }
+{
     clauses.push(core_or(alloc, size, group, link, p, q)?)?;
-    clauses.push(core_or(alloc, size, group, link, p, q.negated())?)?;
-    clauses.push(core_or(alloc, size, group, link, p.negated(), q)?)?;
-    clauses.push(core_or(alloc, size, group, link, p.negated(), q.negated())?)?;
-    Ok(())
+    clauses.push(core_or(alloc, size, group, link, p, q.negated())?)
 }
 
 /// The clause of a group with these two literals behind the core.
@@ -143,9 +158,26 @@ fn push_core(lits: &mut Vec<Lit>, size: u32, link: u32) -> Result<(), AllocError
     requires in_range { link ≤ size }
     ensures { OnOk result (lits.new.items ≡ lits.old.items ++ core size link) }
 {
+    push_from(lits, link)?;
+    push_to(lits, size, link)
+}
+
+/// That the variable of a link is false, which the first link does not say.
+fn push_from(lits: &mut Vec<Lit>, link: u32) -> Result<(), AllocError>
+    requires { link ≤ 1000 }
+    ensures { OnOk result (lits.new.items ≡ lits.old.items ++ (if link == 0 then [] else neg_ℤ (pos link) ∷ [])) }
+{
     if link != 0 {
         lits.push(Lit::new(-(link as i32)))?;
     }
+    Ok(())
+}
+
+/// That the next variable is true, which the last link does not say.
+fn push_to(lits: &mut Vec<Lit>, size: u32, link: u32) -> Result<(), AllocError>
+    requires { link ≤ 1000 }
+    ensures { OnOk result (lits.new.items ≡ lits.old.items ++ (if link == size then [] else pos (link + 1) ∷ [])) }
+{
     if link != size {
         lits.push(Lit::new(link as i32 + 1))?;
     }
