@@ -112,3 +112,13 @@ finds_word text at start end value negative digits found written test told is no
     ap (λ n. take n (drop at text)) long ∙ take-run text at in
     ap (λ w. Some (Word w)) word
     ∙ sym (ap (λ k. Some k) (written.kind ∙ ap (λ (o : Option ℤ). option_map_or Number o (Word (run_at text at))) number))
+
+-- where the code finds a number, it is the one that the run writes
+pub finds_number : (text : List ℕ) (at start value : ℕ) (negative digits : Bool) (found : Option ℤ) (number : ℤ)
+    → IsWritten text at start negative → digits ≡ all_ascii_digits (run_at text start)
+    → (digits ≡ true → value ≡ value_of (run_at text start)) → found ≡ cond digits (signed negative value) None → found ≡ Some number
+    → Some (Number number) ≡ Some (kind_of (run_at text at))
+finds_number text at start value negative digits found number written test told is some =
+    let told_number : number_of (run_at text at) ≡ Some number =
+    sym (number_told text at start value negative digits written test told) ∙ sym is ∙ some in
+    sym (ap (λ k. Some k) (written.kind ∙ ap (λ (o : Option ℤ). option_map_or Number o (Word (run_at text at))) told_number))
