@@ -77,21 +77,36 @@ impl<B: Book> TurnLock<B> {
         let Ok(mut list) = Vec::with_capacity(alloc, seats as usize) else {
             return Err(NoRoom { book });
         };
-        let (table, mut place) = table_around(alloc, book)?;
-        deal(&table.shared, &mut place, &mut list, seats);
-        let badge = place.into_badge();
-        // The list was made with room for all seats.
-        let Ok(()) = list.insert(
-            0,
-            Seat {
-                number: 0,
-                badge,
-                looks: 0,
-            },
-        ) else {
-            unreachable!()
+        let Ok(mut slots) = Vec::with_capacity(alloc, 1) else {
+            return Err(NoRoom { book });
         };
-        Ok((TurnLock { table }, list))
+        let about = Snapshot::of(&book);
+        slots.push_reserved(Some(book));
+        match Whole::<B>::new(alloc, &[0, 0], slots, &about) {
+            Ok((table, mut place)) => {
+                deal(&table.shared, &mut place, &mut list, seats);
+                let badge = place.into_badge();
+                // The list was made with room for all seats.
+                let Ok(()) = list.insert(
+                    0,
+                    Seat {
+                        number: 0,
+                        badge,
+                        looks: 0,
+                    },
+                ) else {
+                    unreachable!()
+                };
+                Ok((TurnLock { table }, list))
+            }
+            Err(Refused { mut slots }) => {
+                let Some(Some(book)) = slots.pop() else {
+                    unreachable!()
+                };
+                slots.destroy_empty();
+                Err(NoRoom { book })
+            }
+        }
     }
 
     /// Ends the lock and gives its book. It takes all seats that `start` gave, in their order, and no memory.
@@ -115,32 +130,6 @@ impl<B: Book> TurnLock<B> {
         match slot {
             Some(book) => LockClosing::Closed(book),
             None => unreachable!(),
-        }
-    }
-}
-
-// Makes the table around a book that nobody has called, and the table's first place.
-fn table_around<B: Book>(alloc: Global, book: B) -> Result<(Whole<B>, Place<B>), NoRoom<B>>
-    requires empty { B.history book ≡ [] }
-    requires legal { B.legal (B.opening book) [] }
-    ensures table { IfOk result (λ r. (r.0.shared.table_id.words ≡ 2) × (r.0.shared.table_id.slots ≡ 1)) }
-    ensures opening { IfOk result (λ r. B.opening r.0.shared.key.value ≡ B.opening book) }
-    ensures place { IfOk result (λ r. (r.1.table_id ≡ r.0.shared.table_id) × (r.1.me ≡ (made_view (B.opening r.0.shared.key.value) 1, []))) }
-    ensures err { IfErr result (λ r. r.book ≡ book) }
-{
-    let Ok(mut slots) = Vec::with_capacity(alloc, 1) else {
-        return Err(NoRoom { book });
-    };
-    let about = Snapshot::of(&book);
-    slots.push_reserved(Some(book));
-    match Whole::<B>::new(alloc, &[0, 0], slots, &about) {
-        Ok((table, place)) => Ok((table, place)),
-        Err(Refused { mut slots }) => {
-            let Some(Some(book)) = slots.pop() else {
-                unreachable!()
-            };
-            slots.destroy_empty();
-            Err(NoRoom { book })
         }
     }
 }
