@@ -1,6 +1,6 @@
 -- Lemmas on how steps are laid out.
-use Rattle.std.proofs.Common.{◌≡◌, ℕ, suc, ◌-◌, ◌≤◌, List, [], ◌∷◌, ◌++◌, map, length, get_or, All, refl, ◌∙◌, ap₂, arith, drop, length-drop, length-append}
-use Rattle.std.specs.Prelude.{ℤ, slice_range}
+use Rattle.std.proofs.Common.{◌≡◌, ℕ, zero, suc, ◌-◌, ◌<◌, ◌≤◌, Some, sym, ap, List, [], ◌∷◌, ◌++◌, map, length, get_or, All, refl, ◌∙◌, ap₂, arith, drop, length-drop, length-append}
+use Rattle.std.specs.Prelude.{ℤ, slice_get, slice_range}
 use Rattle.std.proofs.lemmas.List.{take-append-le, drop-append-le, drop_at, take_all, map_push}
 use Rattle.std.proofs.lemmas.List.Elements.{All-map, All-take, All-drop}
 use Rattle.sat_base.specs.Derivation.{Step, max_id, HasIds}
@@ -39,6 +39,13 @@ steps_after_push lits more_lits hints more_hints spans s within lits_from lits_t
     (ap₂ (λ (ls : List ℤ) (hs : List ℕ). record { id = s.id; lits = ls; hints = hs })
     (rw lits_from (range_at_end lits more_lits s.lits_to lits_to))
     (rw hints_from (range_at_end hints more_hints s.hints_to hints_to)))
+
+-- the step at a place is that of the span there
+pub step_at : (lits : List ℤ) (hints : List ℕ) (spans : List StepSpan) (at : ℕ) (s : StepSpan) → s ≡ get_or spans at s → at < length spans
+    → slice_get (map (step_of lits hints) spans) at ≡ Some (step_of lits hints s)
+step_at lits hints [] at s is within = absurd (omega arith)
+step_at lits hints (x ∷ xs) zero s is within = ap (λ (z : StepSpan). Some (step_of lits hints z)) (sym is)
+step_at lits hints (x ∷ xs) (suc at) s is within = step_at lits hints xs at s is (omega arith)
 
 -- a longer list of literals and hints holds the spans still
 pub IsSpan-more : (lits more_lits hints more_hints : ℕ) (s : StepSpan) → lits ≤ more_lits → hints ≤ more_hints → IsSpan lits hints s → IsSpan more_lits more_hints s
