@@ -1,2 +1,3 @@
 pub mod ArenaLemmas
 pub mod MemoryLemmas
+pub mod OracleLemmas

@@ -1,6 +1,6 @@
 -- Lemmas on what is remembered.
 use Rattle.std.proofs.Common.{◌≡◌, ◌∙◌, ℕ, zero, suc, ◌<◌, Bool, true, not, List, [], ◌∷◌, ◌++◌, Some, length, get_or, eqb, refl, sym, ap, subst, arith}
-use Rattle.std.specs.Prelude.{Result, Ok, Err, OnOk, OnErr, IfOk, IfSome, Option, All, slice_get}
+use Rattle.std.specs.Prelude.{Result, Ok, Err, OnOk, OnErr, IfOk, IfSome, Option, None, All, slice_get}
 use Rattle.std.specs.Result.{result_ok}
 use Rattle.std.specs.List.{list_all}
 use Rattle.std.proofs.lemmas.Bool.{false≢true, false_from_ne_true, eqb-true, not-true, and_parts}
@@ -57,3 +57,8 @@ All-inserted P (Err z) old new x ok err h one = subst (All P) (sym err) h
 pub IfSome-copied : {X Y : Type 0} (P : X → Type 0) (x : X) (r : Result X Y) (o : Option X) → o ≡ result_ok r → IfOk r (λ copy. copy ≡ x) → P x → IfSome o P
 IfSome-copied P x (Ok copy) o is same h = subst (λ found. IfSome found P) (sym is) (subst P (sym same) h)
 IfSome-copied P x (Err y) o is same h = subst (λ found. IfSome found P) (sym is) tt
+
+-- what holds of something holds of what is the same, where there is it
+pub IfSome-same : {X : Type 0} (P : X → Type 0) (x : X) (o : Option X) → IfSome o (λ y. y ≡ x) → P x → IfSome o P
+IfSome-same P x (Some y) same h = subst P (sym same) h
+IfSome-same P x None same h = tt

@@ -93,6 +93,21 @@ impl<O: Oracle> KnownSets<O> {
         self.last = Last::Nothing;
     }
 
+    // Answers that a set is unsatisfiable of which this is a part.
+    fn answer_by(&mut self, alloc: Global, known: Refuted) -> Result<Asked, AllocError>
+        requires refuted { refutes self.old.problem known.set known.evidence ≡ true }
+        requires none { self.old.refuted ≡ None }
+        ensures answer { (set : List ℕ) → (left : ℕ) → IsSubset known.set set → IfOk result (TellsAsked self.new set left) }
+        ensures refuted { IfOk result (λ answer. self.new.refuted ≡ refuted_by answer) }
+        ensures err { OnErr result (self.new.refuted ≡ None) }
+        ensures rest { self.new ≡ record self.old { refuted = self.new.refuted } }
+    {
+        let _groups = known.set.as_slice(); // They ascend.
+        let core = known.set.copy(alloc)?;
+        self.last = Last::Known(known);
+        Ok(Asked::Unsat(core))
+    }
+
     // Asks the oracle within, and remembers what it answers.
     fn ask_within(
         &mut self,
@@ -169,10 +184,7 @@ impl<O: Oracle> Oracle for KnownSets<O> {
     ) -> Result<Asked, AllocError> {
         self.begin();
         if let Some(known) = self.memory.refuted_within(alloc, set) {
-            let _groups = known.set.as_slice(); // They ascend.
-            let core = known.set.copy(alloc)?;
-            self.last = Last::Known(known);
-            return Ok(Asked::Unsat(core));
+            return self.answer_by(alloc, known);
         }
         if let Some(assign) = self.memory.satisfying(alloc, set) {
             return Ok(Asked::Sat(assign));
@@ -208,11 +220,8 @@ impl<O: Oracle> Oracle for KnownSets<O> {
         purse: &mut Purse,
     ) -> Result<Asked, AllocError> {
         self.begin();
-        if let Some(found) = self.memory.refuted_with(alloc, set, group) {
-            let _groups = found.set.as_slice(); // They ascend.
-            let core = found.set.copy(alloc)?;
-            self.last = Last::Known(found);
-            return Ok(Asked::Unsat(core));
+        if let Some(known) = self.memory.refuted_with(alloc, set, group) {
+            return self.answer_by(alloc, known);
         }
         let more = set.with(alloc, group)?;
         if let Some(assign) = self.memory.satisfying(alloc, &more) {

@@ -38,11 +38,13 @@ impl RefutedSets {
     pub fn new(alloc: Global, groups: u32, most: usize) -> Result<RefutedSets, AllocError>
         ensures { (p : Problem) → IfOk result (AreRefuted p) }
     {
+        let marks = no_marks(alloc, groups)?;
+        let last = LastSet::new(alloc, groups)?;
         Ok(RefutedSets {
             sets: SetIndex::new(alloc, groups, most)?,
             held: None,
-            last: LastSet::new(alloc, groups)?,
-            marks: no_marks(alloc, groups)?,
+            last,
+            marks,
         })
     }
 
@@ -89,6 +91,21 @@ impl RefutedSets {
         if let Some(entry) = self.held_within(alloc, set) {
             return Some(entry);
         }
+        let number = self.number_by(set, group)?;
+        let lent = self.sets.get(number)?;
+        let known = set_of(alloc, lent.set)?;
+        if known.is_subset(set) {
+            with_proof(known, lent.evidence)
+        } else {
+            None
+        }
+    }
+
+    // The number of a set that may lie within this one, by a group of it.
+    fn number_by(&mut self, set: &GroupSet, group: u32) -> Option<usize>
+        ensures sets { self.new.sets ≡ self.old.sets }
+        ensures held { self.new.held ≡ self.old.held }
+    {
         mark_all(&mut self.marks, set.as_slice(), true);
         let found = self.sets.find(Wanted {
             marks: &self.marks,
@@ -96,18 +113,7 @@ impl RefutedSets {
             but: group,
         });
         mark_all(&mut self.marks, set.as_slice(), false);
-        let lent = self.sets.get(found?)?;
-        let known = set_of(alloc, lent.set)?;
-        if !known.is_subset(set) {
-            return None;
-        }
-        let Ok(proof) = lent.evidence.copy() else {
-            return None;
-        };
-        Some(Entry {
-            set: known,
-            evidence: proof,
-        })
+        found
     }
 
     // The set that was refuted last, where it lies within this one. A set that shrinking it asks about does not hold it.
@@ -194,13 +200,7 @@ impl RefutedSets {
             return None;
         }
         let known = set_of(alloc, lent.set)?;
-        let Ok(proof) = lent.evidence.copy() else {
-            return None;
-        };
-        Some(Entry {
-            set: known,
-            evidence: proof,
-        })
+        with_proof(known, lent.evidence)
     }
 
     /// Whether a known set is found that lies within the marked groups and this one.
@@ -234,11 +234,16 @@ impl RefutedSets {
         ensures same_proof { IfSome result (λ entry. entry.evidence ≡ proof) }
     {
         self.last.replace(alloc, set);
-        let entry = Entry {
-            set: set.copy(alloc).ok()?,
-            evidence: proof,
-        };
+        let entry = entry_of(alloc, set, proof)?;
         let copy = copy_of(alloc, &entry).ok();
+        self.hold_entry(entry);
+        copy
+    }
+
+    // Holds a set apart. The one that was held before goes to the others, where this one does not lie within it.
+    fn hold_entry(&mut self, entry: Refuted)
+        ensures { (p : Problem) → AreRefuted p self.old → IsRefuted p entry → AreRefuted p self.new }
+    {
         let smaller = is_within(&entry.set, &self.held);
         let before = self.held.replace(entry);
         if !smaller {
@@ -247,8 +252,30 @@ impl RefutedSets {
                 self.sets.insert(set.as_slice(), evidence).ok();
             }
         }
-        copy
     }
+}
+
+// A copy of a set with its refutation, where there is memory for that.
+fn entry_of(alloc: Global, set: &GroupSet, proof: Derivation) -> Option<Refuted>
+    ensures { IfSome result (λ entry. entry ≡ record { set = set.now; evidence = proof }) }
+{
+    let Ok(set) = set.copy(alloc) else {
+        return None;
+    };
+    Some(Entry {
+        set,
+        evidence: proof,
+    })
+}
+
+// A set with a copy of its refutation, where there is memory for that.
+fn with_proof(set: GroupSet, proof: &Derivation) -> Option<Refuted>
+    ensures { IfSome result (λ entry. entry ≡ record { set = set; evidence = proof.now }) }
+{
+    let Ok(evidence) = proof.copy() else {
+        return None;
+    };
+    Some(Entry { set, evidence })
 }
 
 // Whether there is a set and the other lies within it.

@@ -45,11 +45,13 @@ impl SatisfiedSets {
     pub fn new(alloc: Global, groups: u32, most: usize) -> Result<SatisfiedSets, AllocError>
         ensures { IfOk result (λ sets. sets ≡ []) }
     {
+        let marks = no_marks(alloc, groups)?;
+        let last = LastSet::new(alloc, groups)?;
         Ok(SatisfiedSets {
             index: SetIndex::new(alloc, groups, most)?,
             numbers: SetNumbers::new(alloc, groups),
-            last: LastSet::new(alloc, groups)?,
-            marks: no_marks(alloc, groups)?,
+            last,
+            marks,
         })
     }
 

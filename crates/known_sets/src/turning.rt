@@ -4,7 +4,7 @@
 //! whose flip may make that group true is tried; where the flip leaves out one other group of the set alone, and no
 //! assignment is known that shows that one critical, what comes of it is remembered, and turned in its turn (model
 //! rotation, Marques-Silva and Lynce 2011).
-ghost use Rattle.std.specs.Prelude.{◌≡◌, ◌<◌, ◌≤◌, All, IfOk, length};
+ghost use Rattle.std.specs.Prelude.{◌≡◌, ◌<◌, ◌≤◌, All, IfOk, IfSome, length};
 ghost use Rattle.model_flips.specs.Rotation.{IsListing, Satisfies};
 ghost use Rattle.known_sets.specs.Entries.{IsSatisfied};
 
@@ -130,17 +130,9 @@ fn turn_by(
     let Some(turned) = rotation.turned(alloc, problem, out, assign, var)? else {
         return Ok(false);
     };
-    let Some(group) = lone(shrinking, turned.out.as_slice()) else {
+    let Some(group) = newly_shown(shrinking, satisfied, turned.out.as_slice()) else {
         return Ok(false);
     };
-    let wanted = Wanted {
-        marks: shrinking,
-        mark: false,
-        but: group,
-    };
-    if satisfied.find(wanted).is_some() {
-        return Ok(false);
-    }
     let tidy = tidied(alloc, rotation, problem, turned, group, looks)?;
     let alone = is_alone(tidy.out.as_slice(), group);
     let Turned {
@@ -149,6 +141,22 @@ fn turn_by(
     } = tidy;
     satisfied.insert(&left, flipped)?;
     Ok(alone)
+}
+
+// The group that is shown critical by an assignment that leaves these out, where none that is known shows that.
+fn newly_shown(shrinking: &[bool], satisfied: &mut SatisfiedSets, out: &[u32]) -> Option<u32>
+    ensures { satisfied.new ≡ satisfied.old }
+{
+    let group = lone(shrinking, out)?;
+    let wanted = Wanted {
+        marks: shrinking,
+        mark: false,
+        but: group,
+    };
+    match satisfied.find(wanted) {
+        Some(_) => None,
+        None => Some(group),
+    }
 }
 
 // Where an assignment leaves out one other group besides this one, tries to make that true by the flip of one variable.
@@ -169,18 +177,37 @@ fn tidied(
     let Some(other) = second_of(turned.out.as_slice(), group) else {
         return Ok(turned);
     };
+    match left_alone(alloc, rotation, problem, &turned, other, group, looks)? {
+        Some(tidy) => Ok(tidy),
+        None => Ok(turned),
+    }
+}
+
+// Flips each variable that may make the other group true, until one leaves out this group alone.
+fn left_alone(
+    alloc: Global,
+    rotation: &Rotation,
+    problem: &Problem,
+    turned: &Turned,
+    other: u32,
+    group: u32,
+    looks: &mut u64,
+) -> Result<Option<Turned>, AllocError>
+    requires { length turned.now.assign ≡ problem.now.vars }
+    ensures { IfOk result (λ found. IfSome found (λ tidy. IsListing problem.now.clauses rotation.now → Satisfies problem.now turned.now.out turned.now.assign → Satisfies problem.now tidy.out tidy.assign)) }
+{
     for var in rotation.candidates(alloc, problem, &turned.assign, other)? {
-        if var > 0 && var <= vars {
+        if var > 0 && var <= problem.vars() {
             *looks = looks.saturating_add(rotation.cost(var));
             let more = rotation.turned(alloc, problem, &turned.out, &turned.assign, var)?;
             if let Some(tidy) = more {
                 if is_alone(tidy.out.as_slice(), group) {
-                    return Ok(tidy);
+                    return Ok(Some(tidy));
                 }
             }
         }
     }
-    Ok(turned)
+    Ok(None)
 }
 
 // Whether these groups are this one alone.
