@@ -50,6 +50,32 @@ impl Auditor {
         ensures records { IfOk result (λ refusal. refusal ≡ None → self.new.records ≡ self.old.records ++ found ∷ []) }
         ensures auditing { IfOk result (λ refusal. refusal ≡ None → IsAuditing problem.now self.new) }
     {
+        match self.refusal(alloc, problem, &found, line) {
+            Ok(None) => {
+                self.records.push(found)?;
+                Ok(None)
+            }
+            refused => {
+                drop(found);
+                refused
+            }
+        }
+    }
+
+    // Why the next record is refused, whose first line is this one. Its set is one that stood there from now on.
+    fn refusal(
+        &mut self,
+        alloc: Global,
+        problem: &Problem,
+        found: &Record,
+        line: u64,
+    ) -> Result<Option<Offence>, AllocError>
+        requires auditing { IsAuditing problem.now self.old }
+        requires readable { IsReadable problem.now found.now }
+        ensures refusal { IfOk result (λ refusal. refusal ≡ placed_refusal problem.now self.old.records (record { line = line; kept = found.now })) }
+        ensures records { self.new.records ≡ self.old.records }
+        ensures auditing { IfOk result (λ refusal. refusal ≡ None → IsAuditing problem.now (record self.new { records = self.old.records ++ found.now ∷ [] })) }
+    {
         let set = found.set().copy(alloc)?;
         if !self.seen.add(found.kind(), set)? {
             return Ok(Some(Offence {
@@ -57,11 +83,8 @@ impl Auditor {
                 why: Why::RepeatedSet,
             }));
         }
-        let verdict = self.checker.check(alloc, problem, &found)?;
+        let verdict = self.checker.check(alloc, problem, found)?;
         let refusal = offence_of(line, verdict)?;
-        if refusal.is_none() {
-            self.records.push(found)?;
-        }
         Ok(refusal)
     }
 
@@ -77,24 +100,30 @@ impl Auditor {
         ensures refusal { IfOk result (λ a. refusal_of a ≡ ending_refusal problem.now self.records (Ok (line, closing))) }
         ensures records { IfOk result (TellsKept self.records closing) }
     {
+        let records = self.into_records();
         let Some(proof) = closing else {
-            return Ok(self.whole(false));
+            return Ok(Audited::Yes {
+                complete: false,
+                records,
+            });
         };
-        match closing_offence(alloc, problem, &self.records, line, &proof)? {
+        match closing_offence(alloc, problem, &records, line, &proof)? {
             Some(offence) => Ok(Audited::refused(offence)),
-            None => Ok(self.whole(true)),
+            None => Ok(Audited::Yes {
+                complete: true,
+                records,
+            }),
         }
     }
 
-    // All records passed.
-    fn whole(self, complete: bool) -> Audited
-        ensures { result ≡ Audited.Yes complete self.records }
+    fn into_records(self) -> Records
+        ensures { result ≡ self.records }
     {
         let Auditor {
             checker: _,
             seen: _,
             records,
         } = self;
-        Audited::Yes { complete, records }
+        records
     }
 }

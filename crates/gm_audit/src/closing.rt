@@ -2,13 +2,15 @@
 //!
 //! The block clauses of all records are given to a checker of steps, over the groups as variables. Where it takes all steps
 //! and the goal names the empty clause, no set of groups is left that nothing explores.
-ghost use Rattle.std.specs.Prelude.{◌≡◌, ◌+◌, ◌++◌, ◌∷◌, [], IfOk, OnOk, length, map};
+ghost use Rattle.std.specs.Prelude.{◌≡◌, ◌+◌, ◌++◌, ◌∷◌, [], List, ℤ, IfOk, OnOk, length, map};
+ghost use Rattle.std.specs.Option.{option_or};
 ghost use Rattle.std.specs.List.{AllByRecursion};
 ghost use Rattle.gm_base.specs.Sets.{IsSubset, all_groups};
 ghost use Rattle.gm_base.specs.Explored.{block_clause};
-ghost use Rattle.sat_base.specs.Derivation.{numbered};
+ghost use Rattle.sat_base.specs.Derivation.{numbered, all_known};
 ghost use Rattle.evidence_rec.specs.Records.{found_of, founds, set_of, IsAccepted};
 ghost use Rattle.evidence_rec.specs.Verdicts.{refusal_by};
+ghost use Rattle.evidence_rec.specs.Refusals.{steps_refusal, at_line};
 ghost use Rattle.gm_audit.specs.Refusals.{in_text, empty_refusal, closing_refusal};
 
 use evidence_rec::{Record, Records, Verdict, block_lits, steps_verdict};
@@ -29,17 +31,25 @@ pub fn closing_offence(
     ensures { IfOk result (λ refusal. refusal ≡ in_text line (closing_refusal problem.now.groups (founds records.now) proof.now)) }
 {
     let mut checker = block_checker(alloc, problem, records)?;
+    let verdict = closing_verdict(&mut checker, proof)?;
+    offence_of(line, verdict)
+}
+
+// Whether the steps of a closing part follow, and its goal names the empty clause.
+fn closing_verdict(checker: &mut Checker, proof: &Derivation) -> Result<Verdict, AllocError>
+    ensures { IfOk result (λ verdict. (blocks : List (List ℤ)) → checker.old.known ≡ numbered 1 blocks → refusal_by verdict ≡ option_or (steps_refusal checker.old.vars (numbered 1 blocks) 0 proof.now.steps) (at_line (length proof.now.steps) (empty_refusal (all_known blocks proof.now.steps) proof.now.goal))) }
+{
     // This also tells that no clause is but the given ones.
     let _inputs = checker.inputs();
-    let steps = steps_verdict(&mut checker, proof, 0)?;
+    let steps = steps_verdict(checker, proof, 0)?;
     if !steps.is_ok() {
-        return offence_of(line, steps);
+        return Ok(steps);
     }
-    let Some(why) = empty_refusal(&checker, proof.goal()) else {
-        return Ok(None);
+    let Some(why) = empty_refusal(checker, proof.goal()) else {
+        return Ok(Verdict::Ok);
     };
     let part = proof.len() as u64;
-    offence_of(line, Verdict::Refused { part, why })
+    Ok(Verdict::Refused { part, why })
 }
 
 /// A verdict on lines that count from 0, of which the first is this line of the text.
