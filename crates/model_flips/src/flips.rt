@@ -62,11 +62,14 @@ impl Flips {
     pub fn new(alloc: Global, problem: &Problem) -> Result<Flips, AllocError>
         ensures { IfOk result (λ flips. flips ≡ problem.now) }
     {
+        let kept = vec![in alloc; false; problem.groups() as usize + 1]?;
+        let occurrences = Occurrences::new(alloc, problem)?;
+        let standing = Standing::new(alloc, problem)?;
         Ok(Flips {
             problem: problem.copy()?,
-            occurrences: Occurrences::new(alloc, problem)?,
-            standing: Standing::new(alloc, problem)?,
-            kept: vec![in alloc; false; problem.groups() as usize + 1]?,
+            occurrences,
+            standing,
+            kept,
             open: Vec::new(alloc),
             flipped: Vec::new(alloc),
             work: 0,
@@ -254,9 +257,7 @@ impl Flips {
         self.flip(var);
         let lost = !self.standing.value(var);
         for clause in self.occurrences.made_true_by(var, lost) {
-            let of = self.standing.group(*clause);
-            let matters = of == group || self.kept.get(of as usize) == Some(&true);
-            if matters && self.standing.true_lits(*clause) == 0 {
+            if is_lost(&self.standing, &self.kept, *clause, group) {
                 self.open.push(*clause)?;
             }
         }
@@ -273,6 +274,13 @@ impl Flips {
             self.flip(var);
         }
     }
+}
+
+// Whether a clause is falsified that may not be while a group is tried.
+fn is_lost(standing: &Standing, kept: &[bool], clause: u32, group: u32) -> bool {
+    let of = standing.group(clause);
+    let matters = of == group || kept.get(of as usize) == Some(&true);
+    matters && standing.true_lits(clause) == 0
 }
 
 // Marks the groups that are true.

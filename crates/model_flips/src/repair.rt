@@ -60,15 +60,12 @@ impl Rotation {
             let Some(place) = pressing(problem, marks, &repair.falsified) else {
                 return finished(alloc, problem, repair);
             };
-            let Some(var) = self.to_flip(problem, marks, &repair, &flipped, place, looks) else {
+            let next = self.next_flip(problem, marks, &repair, &flipped, place, looks, most);
+            let Some(var) = next else {
                 return Ok(None);
             };
-            if *looks > most || var == 0 || var > problem.vars() {
-                return Ok(None);
-            }
-            *looks = looks.saturating_add(self.cost(var));
             flipped.push(var)?;
-            repair = self.flipped(alloc, problem, repair, var)?;
+            repair = self.flipped(alloc, problem, &repair, var)?;
         }
         Ok(None)
     }
@@ -78,14 +75,14 @@ impl Rotation {
         &self,
         alloc: Global,
         problem: &Problem,
-        repair: Repair,
+        repair: &Repair,
         var: u32,
     ) -> Result<Repair, AllocError>
         requires not_zero { 0 < var }
         requires in_range { var ≤ problem.now.vars }
-        requires values { length repair.values ≡ problem.now.vars }
+        requires values { length repair.now.values ≡ problem.now.vars }
         ensures values { IfOk result (λ next. length next.values ≡ problem.now.vars) }
-        ensures whole { IfOk result (λ next. IsListing problem.now.clauses self.now → IsRepair problem.now repair → IsRepair problem.now next) }
+        ensures whole { IfOk result (λ next. IsListing problem.now.clauses self.now → IsRepair problem.now repair.now → IsRepair problem.now next) }
     {
         let _small = problem.groups(); // Its literals are over its variables.
         let values = repair.values.flipped(alloc, var)?;
@@ -93,6 +90,29 @@ impl Rotation {
         add_false(problem, &repair.falsified, &values, &mut falsified)?;
         add_false(problem, self.of(var), &values, &mut falsified)?;
         Ok(Repair { values, falsified })
+    }
+
+    // The variable of a clause to be flipped next, whose flip is counted. Nothing where more was looked at than `most`.
+    fn next_flip(
+        &self,
+        problem: &Problem,
+        marks: &[bool],
+        repair: &Repair,
+        flipped: &[u32],
+        place: u32,
+        looks: &mut u64,
+        most: u64,
+    ) -> Option<u32>
+        requires { length repair.now.values ≡ problem.now.vars }
+        ensures not_zero { IfSome result (λ var. 0 < var) }
+        ensures in_range { IfSome result (λ var. var ≤ problem.now.vars) }
+    {
+        let var = self.to_flip(problem, marks, repair, flipped, place, looks)?;
+        if *looks > most || var == 0 || var > problem.vars() {
+            return None;
+        }
+        *looks = looks.saturating_add(self.cost(var));
+        Some(var)
     }
 
     // The variable of a clause to be flipped next: one that was not flipped lately, where there is one.

@@ -21,24 +21,28 @@ pub struct Standing {
 impl Standing {
     /// All variables are false.
     pub fn new(alloc: Global, problem: &Problem) -> Result<Standing, AllocError> {
-        let mut true_lits = Vec::with_capacity(alloc, problem.len())?;
-        let mut groups = Vec::with_capacity(alloc, problem.len())?;
-        let mut falsified = vec![in alloc; 0; problem.groups() as usize + 1]?;
+        let mut standing = Standing {
+            values: vec![in alloc; false; problem.vars() as usize + 1]?,
+            true_lits: Vec::with_capacity(alloc, problem.len())?,
+            groups: Vec::with_capacity(alloc, problem.len())?,
+            falsified: vec![in alloc; 0; problem.groups() as usize + 1]?,
+        };
         for at in 0..problem.len() {
             let clause = problem.clause(at);
-            let count = negative_lits(clause.lits.as_slice());
-            if count == 0 {
-                raise(&mut falsified, clause.group);
-            }
-            true_lits.push(count)?;
-            groups.push(clause.group)?;
+            standing.add(clause.lits.as_slice(), clause.group)?;
         }
-        Ok(Standing {
-            values: vec![in alloc; false; problem.vars() as usize + 1]?,
-            true_lits,
-            groups,
-            falsified,
-        })
+        Ok(standing)
+    }
+
+    // The next clause, where all variables are false.
+    fn add(&mut self, lits: &[Lit], group: u32) -> Result<(), AllocError> {
+        let count = negative_lits(lits);
+        if count == 0 {
+            raise(&mut self.falsified, group);
+        }
+        self.true_lits.push(count)?;
+        self.groups.push(group)?;
+        Ok(())
     }
 
     pub fn value(&self, var: u32) -> bool {
