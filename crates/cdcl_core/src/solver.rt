@@ -64,17 +64,20 @@ impl Solver {
         requires { vars < 2 ^ 31 }
         ensures { IfOk result (λ solver. solver ≡ record { vars = vars; log = []; true_first = true_first; broken = false }) }
     {
+        let plan = Plan::new(alloc, vars)?;
+        let trail = Trail::new(alloc, vars)?;
+        let store = Store::new(alloc, vars)?;
         let search = Search {
             log: Log::new(alloc),
-            store: Store::new(alloc, vars)?,
-            trail: Trail::new(alloc, vars)?,
+            store,
+            trail,
             rooted: 0,
             assumed_levels: 0,
             assumed_true: 0,
             conflicts: 0,
             walked: 0,
             true_first,
-            plan: Plan::new(alloc, vars)?,
+            plan,
         };
         Ok(Solver {
             search,

@@ -9,21 +9,21 @@ use Rattle.cdcl_core.proofs.solver.Solver.begin.Goals as goal
 -- no clause, no value, no step
 pub invariant_of-result : goal.invariant_of-result
 invariant_of-result c =
-    let store = c.in_ok-new.field-0 in
-    let trail = c.in_ok-new-2.field-0 in
-    let s = c.in_ok-new.ensures in
-    let entries : trail.entries ≡ [] = ap (λ (t : Trail). t.entries) c.in_ok-new-2.ensures in
-    let vars : trail.vars ≡ c.args.vars = ap (λ (t : Trail). t.vars) c.in_ok-new-2.ensures in
-    let done : trail.done ≡ 0 = ap (λ (t : Trail). t.done) c.in_ok-new-2.ensures in
+    let store = c.in_ok-store.store in
+    let trail = c.in_ok-trail.trail in
+    let s = c.in_ok-store.ensures in
+    let entries : trail.entries ≡ [] = ap (λ (t : Trail). t.entries) c.in_ok-trail.ensures in
+    let vars : trail.vars ≡ c.args.vars = ap (λ (t : Trail). t.vars) c.in_ok-trail.ensures in
+    let done : trail.done ≡ 0 = ap (λ (t : Trail). t.done) c.in_ok-trail.ensures in
     record {
-      honest = subst IsHonest (sym c.new.ensures) tt;
+      honest = subst IsHonest (sym c.new-4.ensures) tt;
       ready = λ b. record {
         assumed = [];
-        search = search_root_free (record { log = c.new.result; store = store; trail = trail; rooted = 0; assumed_levels = 0; assumed_true = 0; conflicts = 0; walked = 0; true_first = c.args.true_first; plan = c.in_ok-new-3.field-0 })
+        search = search_root_free (record { log = c.new-4.result; store = store; trail = trail; rooted = 0; assumed_levels = 0; assumed_true = 0; conflicts = 0; walked = 0; true_first = c.args.true_first; plan = c.in_ok-plan.plan })
             (record {
               vars = s.vars ∙ sym vars;
               kept = kept_first store trail (s.vars ∙ sym vars) s.clauses s.watched s.heads s.tails s.parks s.false_id entries done;
-              root = root_is c.args.vars trail.vars [] store.clauses [] c.new.result [] trail.entries vars s.clauses c.new.ensures entries (root_first c.args.vars);
+              root = root_is c.args.vars trail.vars [] store.clauses [] c.new-4.result [] trail.entries vars s.clauses c.new-4.ensures entries (root_first c.args.vars);
             })
             refl;
       };
