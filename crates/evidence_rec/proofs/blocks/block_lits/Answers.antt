@@ -19,3 +19,9 @@ literal_of-requires-clause-in_range c =
     c.requires g
     (subst (λ s. has s g ≡ true) c.as_slice-group-items.ensures.groups
     (in_has items g (get_in items c.loop-group.group-index 0 c.loop-group-test.true)))
+
+pub loop-group-preserved : goal.loop-group-preserved
+loop-group-preserved c = ?
+
+pub returns : goal.returns
+returns c = ?

@@ -1,4 +1,6 @@
+use Rattle.std.proofs.Common.{◌∙◌}
 use Rattle.cdcl_core.proofs.RoundLemmas.{smaller, goes_on}
+use Rattle.cdcl_core.proofs.StateLemmas.{paid_join}
 use Rattle.cdcl_core.proofs.search.Search.search.Goals as goal
 
 pub loop-answer-smaller : goal.loop-answer-smaller
@@ -9,3 +11,24 @@ loop-answer-smaller c =
     let before = c.loop-answer.purse.left in
     let left = c.round.new.purse.left in
     smaller old new assumed before left c.round.ensures.vars (goes_on old new assumed before left c.in_ok-answer.field-0 c.in_default.not-Some c.in_ok-answer.ensures.round)
+
+-- what the rounds before cost, and the last one
+pub returns-in-Some-clause-paid : goal.returns-in-Some-clause-paid
+returns-in-Some-clause-paid c =
+    paid_join c.args.self.now.log c.loop-answer.self.log c.round.new.self.log c.args.purse.now.left c.loop-answer.purse.left c.round.new.purse.left c.loop-answer.invariant.paid c.round.ensures.paid
+
+pub returns-in-Some-clause-vars : goal.returns-in-Some-clause-vars
+returns-in-Some-clause-vars c = c.round.ensures.vars ∙ c.loop-answer.invariant.vars
+
+pub returns-in-Some-clause-true_first : goal.returns-in-Some-clause-true_first
+returns-in-Some-clause-true_first c = c.round.ensures.true_first ∙ c.loop-answer.invariant.true_first
+
+pub returns-in_err-answer-clause-paid : goal.returns-in_err-answer-clause-paid
+returns-in_err-answer-clause-paid c =
+    paid_join c.args.self.now.log c.loop-answer.self.log c.round.new.self.log c.args.purse.now.left c.loop-answer.purse.left c.round.new.purse.left c.loop-answer.invariant.paid c.round.ensures.paid
+
+pub returns-in_err-answer-clause-vars : goal.returns-in_err-answer-clause-vars
+returns-in_err-answer-clause-vars c = c.round.ensures.vars ∙ c.loop-answer.invariant.vars
+
+pub returns-in_err-answer-clause-true_first : goal.returns-in_err-answer-clause-true_first
+returns-in_err-answer-clause-true_first c = c.round.ensures.true_first ∙ c.loop-answer.invariant.true_first
