@@ -1,7 +1,9 @@
 -- Block clauses name the groups of their sets.
-use Rattle.std.proofs.Common.{◌≡◌, ℕ, zero, suc, true, eqb, List, [], ◌∷◌, map, refl, ◌∙◌, ap, ap₂, inl, inr}
+use Rattle.std.proofs.Common.{◌≡◌, ℕ, zero, suc, ◌+◌, ◌<◌, ◌≤◌, true, eqb, List, [], ◌∷◌, ◌++◌, map, length, take, get_or, refl, sym, ◌∙◌, ap, ap₂, inl, inr, add-one}
 use Rattle.std.specs.Prelude.{ℤ}
+use Rattle.std.proofs.Math.Seq.{take-suc}
 use Rattle.std.proofs.lemmas.Bool.{eq-eqb}
+use Rattle.std.proofs.lemmas.List.{map_push, take_all}
 use Rattle.gm_base.specs.declared.kind.Kind.{Kind}
 use Rattle.gm_base.specs.declared.kind.Kind.TheVariants.{Conflict, Correction}
 use Rattle.gm_base.specs.declared.kind.Side.{Side}
@@ -21,6 +23,17 @@ in_has set g i = any_at (λ h. eqb h g) set g i (eq-eqb g g refl)
 pub block_clause-lits : (side : Side) (set : List ℕ) → block_clause (block_of side set) ≡ map (block_lit side) set
 block_clause-lits Up set = refl
 block_clause-lits Down set = refl
+
+-- the literals of one group more
+pub block_lits-next : (side : Side) (set : List ℕ) (at : ℕ) (lits : List ℤ) → at < length set → lits ≡ map (block_lit side) (take at set)
+    → lits ++ block_lit side (get_or set at 0) ∷ [] ≡ map (block_lit side) (take (at + 1) set)
+block_lits-next side set at lits within is =
+    ap (λ (ls : List ℤ). ls ++ block_lit side (get_or set at 0) ∷ []) is ∙ sym (map_push (block_lit side) (take at set) (get_or set at 0))
+    ∙ ap (map (block_lit side)) (sym (take-suc set at 0 within) ∙ ap (λ n. take n set) (sym (add-one at)))
+
+-- the literals of all groups
+pub block_lits-all : (side : Side) (set : List ℕ) (at : ℕ) → length set ≤ at → map (block_lit side) (take at set) ≡ block_clause (block_of side set)
+block_lits-all side set at all = ap (map (block_lit side)) (take_all at set all) ∙ sym (block_clause-lits side set)
 
 pub var_of-block_lit : (side : Side) (g : ℕ) → var_of (block_lit side g) ≡ g
 var_of-block_lit Up zero = refl
