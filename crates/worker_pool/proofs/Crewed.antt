@@ -1,6 +1,6 @@
 -- From new workers to workers that are over, and what is left of them.
-use Rattle.std.proofs.Common.{◌≡◌, ℕ, zero, suc, ◌-◌, ◌^◌, ◌<◌, ◌≤◌, List, [], ◌∷◌, ◌++◌, min, length, map, get_or, take, All, Some, append_assoc, refl, sym, ◌∙◌, ap, subst, arith}
-use Rattle.std.proofs.lemmas.List.{get_or-map, length-map}
+use Rattle.std.proofs.Common.{◌≡◌, ℕ, zero, suc, ◌-◌, ◌^◌, ◌<◌, ◌≤◌, List, [], ◌∷◌, ◌++◌, min, length, map, get_or, take, drop, All, Some, append_assoc, refl, sym, ◌∙◌, ap, subst, arith}
+use Rattle.std.proofs.lemmas.List.{get_or-map, length-map, map-append}
 use Rattle.std.proofs.Math.Seq.{take-append_seam}
 use Rattle.gm_base.specs.Problem.{Problem}
 use Rattle.lrat_steps.specs.Log.{LogStep}
@@ -32,6 +32,16 @@ pub taken_over : {A B : Type 0} (f : A → B) (front more : List B) (rest new : 
     → more ++ map f new ≡ all
 taken_over f front more rest new x y all was next pushed is =
     ap (λ l. l ++ map f new) pushed ∙ append_assoc front (y ∷ []) (map f new) ∙ ap (λ z. front ++ z ∷ map f new) is ∙ ap (λ l. front ++ map f l) (sym next) ∙ was
+
+-- what is first, and what is behind it
+pub first_of : {A : Type 0} (xs new : List A) (x : A) → 0 < length xs → x ≡ get_or xs 0 x → new ≡ drop 1 xs → xs ≡ x ∷ new
+first_of [] new x some is behind = absurd (omega arith)
+first_of (y ∷ xs) new x some is behind = ap (λ z. z ∷ xs) (sym is) ∙ ap (λ l. x ∷ l) (sym behind)
+
+-- the first of a list is what is told of one more
+pub told_of : {A B : Type 0} (f : A → B) (ws more : List A) (rest new : List B) (w : A) (all : List B) → map f ws ++ rest ≡ all → rest ≡ f w ∷ new → more ≡ ws ++ w ∷ [] → map f more ++ new ≡ all
+told_of f ws more rest new w all was next pushed =
+    ap (λ l. map f l ++ new) pushed ∙ ap (λ l. l ++ new) (map-append f ws (w ∷ [])) ∙ append_assoc (map f ws) (f w ∷ []) new ∙ ap (λ l. map f ws ++ l) (sym next) ∙ was
 
 module _ {O : Type 0} (b : LockView Opening) (p : Problem) (state : O → OracleState) (count : ℕ) (seats : List (SeatView Entry Opening)) (new : AreNew b count seats) (workers : b.opening.workers ≡ count) where
   seat_at : (ws : List (Worker O)) → map seat_of ws ≡ seats → (k : ℕ) (d : Worker O) → k < length ws → (get_or ws k d).seat ≡ new_seat b.id b.opening (made_at k count) k

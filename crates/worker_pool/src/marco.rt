@@ -7,8 +7,9 @@
 //!
 //! Workers do this at the same time. What one of them posts meanwhile can explore the seed of another, which then posts a
 //! record that is held already, or one more of the same seed.
-ghost use Rattle.std.specs.Prelude.{◌≡◌, ◌<◌, ◌≤◌, ◌^◌, true, false, IfOk, length};
+ghost use Rattle.std.specs.Prelude.{◌≡◌, ◌<◌, ◌≤◌, ◌^◌, true, false, Some, IfOk, length};
 ghost use Rattle.gm_base.specs.Sets.{IsSubset, all_groups};
+ghost use Rattle.gm_base.specs.Evidence.{is_witness};
 ghost use Rattle.evidence_rec.specs.Asking.{IsSpent};
 ghost use Rattle.map_core.specs.Sound.{IsOpening};
 ghost use Rattle.map_core.specs.Own.{worker_of};
@@ -22,7 +23,7 @@ use crate::signs::Signs;
 use crate::worker::Worker;
 use board::Board;
 use evidence_rec::{Asked, MapEngine, Oracle, Record};
-use gm_base::{GroupSet, Problem, Purse};
+use gm_base::{Assign, GroupSet, Problem, Purse};
 use gm_ports::Gate;
 use map_core::{Posted, Refilled, Taken};
 use mss_grow::{Grown, grow};
@@ -53,21 +54,56 @@ pub fn explore<O: Oracle>(
     ensures explored { IfOk result (TellsExplored (O.state oracle.new) seed.now purse.new.left) }
     ensures spent { IsSpent (O.state oracle.old) (O.state oracle.new) purse.old.left purse.new.left }
 {
-    let _groups = problem.groups(); // The problem is well-formed.
     match oracle.ask(alloc, seed, turn, purse)? {
-        Asked::Sat(assign) => {
-            match grow(alloc, oracle, problem, seed, &assign, turn, purse)? {
-                Grown::Done(record) => Ok(Explored::Found(record)),
-                Grown::Dry(asked) => Ok(Explored::Dry(asked)),
-            }
-        }
-        Asked::Unsat(core) => {
-            match shrink(alloc, oracle, problem, &core, turn, purse)? {
-                Shrunk::Done(record) => Ok(Explored::Found(record)),
-                Shrunk::Dry(asked) => Ok(Explored::Dry(asked)),
-            }
-        }
+        Asked::Sat(assign) => grow_seed(alloc, oracle, problem, seed, &assign, turn, purse),
+        Asked::Unsat(core) => shrink_core(alloc, oracle, problem, seed, &core, turn, purse),
         Asked::Dry => Ok(Explored::Dry(seed.copy(alloc)?)),
+    }
+}
+
+/// Grows a satisfiable seed to a correction.
+fn grow_seed<O: Oracle>(
+    alloc: Global,
+    oracle: &mut O,
+    problem: &Problem,
+    seed: &GroupSet,
+    assign: &Assign,
+    turn: u64,
+    purse: &mut Purse,
+) -> Result<Explored, AllocError>
+    requires problem { (O.state oracle.old).problem ≡ problem.now }
+    requires within { IsSubset seed.now (all_groups problem.now.groups) }
+    requires satisfied { is_witness problem.now seed.now assign.now ≡ true }
+    ensures explored { IfOk result (TellsExplored (O.state oracle.new) seed.now purse.new.left) }
+    ensures spent { IsSpent (O.state oracle.old) (O.state oracle.new) purse.old.left purse.new.left }
+{
+    let _groups = problem.groups(); // The problem is well-formed.
+    match grow(alloc, oracle, problem, seed, assign, turn, purse)? {
+        Grown::Done(record) => Ok(Explored::Found(record)),
+        Grown::Dry(asked) => Ok(Explored::Dry(asked)),
+    }
+}
+
+/// Shrinks an unsatisfiable part of a seed to a conflict.
+fn shrink_core<O: Oracle>(
+    alloc: Global,
+    oracle: &mut O,
+    problem: &Problem,
+    seed: &GroupSet,
+    core: &GroupSet,
+    turn: u64,
+    purse: &mut Purse,
+) -> Result<Explored, AllocError>
+    requires problem { (O.state oracle.old).problem ≡ problem.now }
+    requires within { IsSubset seed.now (all_groups problem.now.groups) }
+    requires refuted { (O.state oracle.old).refuted ≡ Some core.now }
+    requires part { IsSubset core.now seed.now }
+    ensures explored { IfOk result (TellsExplored (O.state oracle.new) seed.now purse.new.left) }
+    ensures spent { IsSpent (O.state oracle.old) (O.state oracle.new) purse.old.left purse.new.left }
+{
+    match shrink(alloc, oracle, problem, core, turn, purse)? {
+        Shrunk::Done(record) => Ok(Explored::Found(record)),
+        Shrunk::Dry(asked) => Ok(Explored::Dry(asked)),
     }
 }
 

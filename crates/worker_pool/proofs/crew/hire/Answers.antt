@@ -1,0 +1,27 @@
+use Rattle.std.proofs.Common.{◌≡◌, ◌∷◌, [], ◌∙◌, ap, length, arith, length-append}
+use Rattle.worker_pool.specs.declared.worker.Worker.{Worker}
+use Rattle.worker_pool.specs.Workers.{oracle_of, seat_of}
+use Rattle.worker_pool.proofs.Crewed.{first_of, told_of}
+use Rattle.worker_pool.proofs.crew.hire.Goals as goal
+
+-- the next oracle and the first seat have a worker
+pub loop-oracle-preserved : goal.loop-oracle-preserved
+loop-oracle-preserved g c =
+    let i = c.loop-oracle.invariant in
+    let ws = c.loop-oracle.workers.items in
+    let more = c.push_reserved.new.self.items in
+    let w : Worker _ = record { oracle = c.in-Some.oracle; seat = c.remove-seat.result } in
+    let next = c.in-Some.ensures.steps.0 in
+    let seat = c.remove-seat.ensures in
+    let pushed = c.push_reserved.ensures in
+    let left = ap length next in
+    let alike = i.2 in
+    let fewer = first_of c.loop-oracle.seats.items c.remove-seat.new.self.items c.remove-seat.result (omega arith) seat.value seat.by_index.2 in
+    let size = ap length pushed.items ∙ length-append ws (w ∷ []) in
+    let seats_size = ap length fewer in (
+      told_of oracle_of ws more c.loop-oracle.oracle-iterator.rest.items c.next.new.self.rest.items w _ i.0 next pushed.items,
+      told_of seat_of ws more c.loop-oracle.seats.items c.remove-seat.new.self.items w _ i.1 fewer pushed.items,
+      omega arith,
+      omega (arith, i.3, pushed.capacity),
+      seat.capacity ∙ i.4,
+    )
