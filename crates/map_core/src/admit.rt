@@ -1,5 +1,5 @@
 //! What a post is answered.
-ghost use Rattle.std.specs.Prelude.{◌≡◌, ◌+◌, ◌<◌, ◌≤◌, ◌^◌, ◌++◌, ◌∷◌, [], ℕ, List, false, vec_len, vec_capacity, OnOk, OnErr};
+ghost use Rattle.std.specs.Prelude.{◌≡◌, ◌+◌, ◌<◌, ◌≤◌, ◌^◌, ◌++◌, ◌∷◌, [], ℕ, List, Bool, false, vec_len, vec_capacity, OnOk, OnErr};
 ghost use Rattle.gm_base.specs.Sets.{IsSubset, all_groups};
 ghost use Rattle.gm_base.specs.Problem.{Problem};
 ghost use Rattle.gm_base.specs.Explored.{block_of};
@@ -134,6 +134,33 @@ pub fn admit<M: MapEngine>(
     if is_held {
         return answered(turn, finding.into_set(), Posted::Already);
     }
+    keep(alloc, engine, held, records, turn, finding)
+}
+
+// Takes in a record whose set is not held. Where there is no memory for it, the worker retires.
+fn keep<M: MapEngine>(
+    alloc: Global,
+    engine: &mut M,
+    held: &mut Held,
+    records: &mut Vec<Record>,
+    turn: Turn,
+    finding: Record,
+) -> PostAnswer
+    requires fits { turn.common.available + turn.worker.purse < 2 ^ 64 }
+    requires fresh { holds held.old (kind_of finding) (set_of finding) ≡ false }
+    requires index { IsIndex held.old records.old.items }
+    requires blocked { (M.state engine.old).blocks ≡ founds records.old.items }
+    requires within { IsSubset (set_of finding) (all_groups (M.state engine.old).groups) }
+    ensures posts { (p : Problem) (full : Bool) → full ≡ false → IsAccepted p finding → Posts p full records.old.items turn (kind_of finding) (set_of finding) (post_reply result.reply) result.turn records.new.items }
+    ensures handed_in { result.reply ≡ New → records.new.items ≡ records.old.items ++ finding ∷ [] }
+    ensures set { result.set ≡ set_of finding }
+    ensures exhausted { result.turn.common.exhausted ≡ turn.common.exhausted }
+    ensures index { IsIndex held.new records.new.items }
+    ensures blocked { (M.state engine.new).blocks ≡ founds records.new.items }
+    ensures groups { (M.state engine.new).groups ≡ (M.state engine.old).groups }
+    ensures learned { learned_count (M.state engine.new).log ≡ learned_count (M.state engine.old).log }
+    ensures honest { IsHonestMap (M.state engine.old).blocks (M.state engine.old).log → IsHonestMap (M.state engine.new).blocks (M.state engine.new).log }
+{
     let Ok(copy) = finding.set().copy(alloc) else {
         return answered(turn.retire(), finding.into_set(), Posted::Memory);
     };
