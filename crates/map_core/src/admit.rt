@@ -88,12 +88,6 @@ fn hold<M: MapEngine>(
     Ok(())
 }
 
-fn answered(turn: Turn, set: GroupSet, reply: Posted) -> PostAnswer
-    ensures { result ≡ record { turn = turn; set = set; reply = reply } }
-{
-    PostAnswer { turn, set, reply }
-}
-
 /// What a post is answered, with room for the worker's own retirement where it goes on.
 pub fn admit<M: MapEngine>(
     alloc: Global,
@@ -126,13 +120,25 @@ pub fn admit<M: MapEngine>(
 {
     let is_held = held.has(finding.kind(), finding.set());
     if full && !is_held {
-        return answered(turn.mark_limited().end(), finding.into_set(), Posted::Limit);
+        return PostAnswer {
+            turn: turn.mark_limited().end(),
+            set: finding.into_set(),
+            reply: Posted::Limit,
+        };
     }
     if history.reserve(workers + 1).is_err() {
-        return answered(turn.retire(), finding.into_set(), Posted::Memory);
+        return PostAnswer {
+            turn: turn.retire(),
+            set: finding.into_set(),
+            reply: Posted::Memory,
+        };
     }
     if is_held {
-        return answered(turn, finding.into_set(), Posted::Already);
+        return PostAnswer {
+            turn,
+            set: finding.into_set(),
+            reply: Posted::Already,
+        };
     }
     keep(alloc, engine, held, records, turn, finding)
 }
@@ -162,10 +168,22 @@ fn keep<M: MapEngine>(
     ensures honest { IsHonestMap (M.state engine.old).blocks (M.state engine.old).log → IsHonestMap (M.state engine.new).blocks (M.state engine.new).log }
 {
     let Ok(copy) = finding.set().copy(alloc) else {
-        return answered(turn.retire(), finding.into_set(), Posted::Memory);
+        return PostAnswer {
+            turn: turn.retire(),
+            set: finding.into_set(),
+            reply: Posted::Memory,
+        };
     };
-    match hold(alloc, engine, held, records, finding) {
-        Ok(()) => answered(turn, copy, Posted::New),
-        Err(_) => answered(turn.retire(), copy, Posted::Memory),
+    if let Err(_) = hold(alloc, engine, held, records, finding) {
+        return PostAnswer {
+            turn: turn.retire(),
+            set: copy,
+            reply: Posted::Memory,
+        };
+    }
+    PostAnswer {
+        turn,
+        set: copy,
+        reply: Posted::New,
     }
 }
