@@ -17,7 +17,7 @@ use crate::replies::Posted;
 use crate::turn::Turn;
 use evidence_rec::{MapEngine, Record};
 use gm_base::{GroupSet, Kind, Side};
-use std::alloc::Global;
+use std::alloc::{AllocError, Global};
 
 /// The reply, with the set for the history and the caller's part after the post.
 #[derive(Drop)]
@@ -71,16 +71,16 @@ fn hold<M: MapEngine>(
     ensures held_err { OnErr result (IsSameHeld held.old held.new) }
 {
     let kind = finding.kind();
-    if records.reserve(1).is_err() {
+    if let Err(AllocError) = records.reserve(1) {
         return Err(finding);
     }
     let Ok(key) = finding.set().copy(alloc) else {
         return Err(finding);
     };
-    if held.add(kind, key).is_err() {
+    if let Err(AllocError) = held.add(kind, key) {
         return Err(finding);
     }
-    if engine.block(alloc, finding.set(), side_of(kind)).is_err() {
+    if let Err(AllocError) = engine.block(alloc, finding.set(), side_of(kind)) {
         held.remove(kind, finding.set());
         return Err(finding);
     }
@@ -126,7 +126,7 @@ pub fn admit<M: MapEngine>(
             reply: Posted::Limit,
         };
     }
-    if history.reserve(workers + 1).is_err() {
+    if let Err(AllocError) = history.reserve(workers + 1) {
         return PostAnswer {
             turn: turn.retire(),
             set: finding.into_set(),

@@ -158,7 +158,7 @@ pub fn ask<M: MapEngine>(
     if full {
         return answer(turn.mark_limited().end(), None, Taken::Limit, Reply::Limit);
     }
-    if history.reserve(workers + 1).is_err() {
+    if let Err(AllocError) = history.reserve(workers + 1) {
         return answer(turn.retire(), None, Taken::Memory, Reply::Memory);
     }
     let number = history.len() as u64 + 1;

@@ -7,6 +7,7 @@ ghost use Rattle.map_core.specs.Replies.{refill_reply};
 use crate::entry::{Entry, Reply};
 use crate::replies::Refilled;
 use crate::turn::Turn;
+use std::alloc::AllocError;
 
 /// The reply, with the caller's part after the refill.
 #[derive(Clone, Copy)]
@@ -49,7 +50,7 @@ pub fn regrant(history: &mut Vec<Entry>, workers: usize, turn: Turn) -> RefillAn
             reply: Refilled::Dry,
         };
     }
-    if history.reserve(workers + 1).is_err() {
+    if let Err(AllocError) = history.reserve(workers + 1) {
         return RefillAnswer {
             turn: turn.retire(),
             reply: Refilled::Memory,
