@@ -1,5 +1,5 @@
 -- Witnesses and refutations, group by group, as a loop reads them.
-use Rattle.std.proofs.Common.{◌≡◌, ℕ, ◌+◌, ◌<◌, Bool, List, [], ◌∷◌, ◌++◌, length, drop, get_or, Result, Ok, Err, refl, sym, ◌∙◌, ap, append_assoc, add-one, drop-cons}
+use Rattle.std.proofs.Common.{◌≡◌, ℕ, ◌+◌, ◌<◌, Bool, List, [], ◌∷◌, ◌++◌, length, drop, get_or, Result, Ok, Err, refl, sym, subst, ◌∙◌, ap, append_assoc, add-one, drop-cons}
 use Rattle.std.proofs.lemmas.List.{append-nil}
 use Rattle.std.proofs.Math.Seq.{drop-length}
 use Rattle.sat_base.specs.Derivation.{Derivation}
@@ -8,7 +8,9 @@ use Rattle.evidence_text.specs.declared.offence.Offence.{Offence}
 use Rattle.evidence_text.specs.declared.offence.Stop.{Stop}
 use Rattle.evidence_text.specs.declared.offence.Stop.TheVariants as stop
 use Rattle.evidence_text.specs.Reading.{◌>>=◌, Below, proof_at, witness_line_at, witnesses_at, refutations_at}
-use Rattle.evidence_text.specs.Cursors.{Stops}
+use Rattle.std.proofs.lemmas.Bool.{false≢true}
+use Rattle.std.specs.Result.{IsErr, IsErrAnd}
+use Rattle.evidence_text.specs.Cursors.{Stops, Gives}
 
 -- what was read before, and what is still read
 abbrev pub after_front : {X : Type 0} → List X → Result (List X × Below) Offence → Result (List X × Below) Offence
@@ -79,3 +81,9 @@ refutations-end vars groups i front left total all so_far =
     sym so_far
     ∙ ap (λ gs. after_front front (refutations_at vars gs left.at left.lines)) (ap (λ n. drop n groups) all ∙ drop-length groups)
     ∙ ap (λ xs. Ok (xs, left)) (append-nil front)
+
+-- a stop that is handed on tells the same
+pub stopped : {X Y : Type 0} (view : X → Y) (result : Result X Stop) (s : Stop) (left : Below) (read : Result (Y × Below) Offence)
+    → IsErr result → IsErrAnd result (λ t. t ≡ s) → Stops s read → Gives view result left read
+stopped view (Ok x) s left read err is h = absurd (false≢true err)
+stopped view (Err t) s left read err is h = subst (λ u. Stops u read) (sym is) h

@@ -1,11 +1,14 @@
 -- What is left at a cursor, and what the reader's functions tell of it.
-use Rattle.std.specs.Prelude.{◌≡◌, ℕ, ℤ, Bool, true, false, List, [], ◌∷◌, ◌++◌, if◌then◌else◌, Option, Some, None, Result, Ok, Err}
+use Rattle.std.specs.Prelude.{◌≡◌, ℕ, ℤ, Bool, true, false, List, [], ◌∷◌, ◌++◌, if◌then◌else◌, Option, Some, None, Result, Ok, Err, codes}
 use Rattle.lrat_check.specs.declared.why.Why.{Why}
 use Rattle.lrat_check.specs.declared.why.Why.TheVariants.{BadLine, TrailingText}
 use Rattle.sat_base.specs.Derivation.{Step, Derivation, max_id}
 use Rattle.evidence_text.specs.Text.{Word, Line}
 use Rattle.evidence_text.specs.Lines.{lines_of, unended, words_of}
-use Rattle.evidence_text.specs.Reading.{Below, below, ◌>>=◌, ascending_at, items_at, is_over, with_trues, is_letter, behind, goal_at, proof_at, offence}
+use Rattle.gm_base.specs.Problem.{Problem}
+use Rattle.evidence_text.specs.Reading.{Below, below, ◌>>=◌, ascending_at, items_at, is_over, with_trues, is_letter, behind, goal_at, set_at, last_word_at, proof_at, conflict_at, correction_at, closing_at, nothing_behind, at_line, offence}
+use Rattle.evidence_text.specs.declared.answer.Answer.{Answer}
+use Rattle.evidence_text.specs.declared.answer.Answer.TheVariants as answer
 use Rattle.evidence_text.specs.declared.goal.Goal.{Goal}
 use Rattle.evidence_text.specs.declared.offence.Offence.{Offence}
 use Rattle.evidence_text.specs.declared.offence.Stop.{Stop}
@@ -153,3 +156,31 @@ GivesStep vars goal (Ok (Some id)) lits hints old left =
     × (goal_of goal old.lines ≡ goal_of goal left.lines)
 GivesStep vars goal (Ok None) lits hints old left = proof_of vars goal old ≡ Ok (record { steps = []; goal = goal_of goal old.lines }, left)
 GivesStep vars goal (Err s) lits hints old left = Stops s (proof_of vars goal old)
+
+-- ---- a record or the end, behind the first word of its first line: the words of that line, and the lines behind it
+
+-- a conflict
+abbrev pub conflict_behind : Problem → ℕ → List Word → Below → Result (Answer × Below) Offence
+conflict_behind p line ws b = do
+  set ← at_line line (set_at p.groups ws)
+  r ← conflict_at p set b.at b.lines
+  Ok (answer.Record r.0, r.1)
+
+-- a correction
+abbrev pub correction_behind : Problem → ℕ → List Word → Below → Result (Answer × Below) Offence
+correction_behind p line ws b = do
+  set ← at_line line (set_at p.groups ws)
+  r ← correction_at p set b.at b.lines
+  Ok (answer.Record r.0, r.1)
+
+-- the end of what is not closed
+abbrev pub partial_behind : List ℕ → ℕ → List Word → Below → Result (Answer × Below) Offence
+partial_behind rest line ws b = do
+  _end ← at_line line (last_word_at (codes "partial") ws)
+  nothing_behind rest None b
+
+-- the closing part, whose first line is among the lines
+abbrev pub closing_ahead : Problem → List ℕ → Below → Result (Answer × Below) Offence
+closing_ahead p rest b = do
+  d ← closing_at p b.at b.lines
+  nothing_behind rest (Some d.0) d.1

@@ -1,7 +1,7 @@
 //! Records.
 ghost use Rattle.std.specs.Prelude.{◌≡◌, ◌<◌, ◌+◌, ◌^◌, OnOk};
 ghost use Rattle.evidence_text.specs.Reading.{at_line, set_at, last_word_at, witness_line_at, witnesses_at, refutations_at, conflict_at, correction_at, closing_at, complete_at, piece_at, is_nothing};
-ghost use Rattle.evidence_text.specs.Cursors.{left_of, rest_of, words_left, Gives, GivesBelow, GivesLine, ReadsNothing};
+ghost use Rattle.evidence_text.specs.Cursors.{left_of, rest_of, words_left, Gives, GivesBelow, GivesLine, ReadsNothing, conflict_behind, correction_behind, partial_behind, closing_ahead};
 
 use crate::answer::Answer;
 use crate::fields::{read_last_word, read_set, read_witness};
@@ -177,6 +177,63 @@ fn read_nothing(lines: &Lines<'_>) -> Result<(), Stop>
     }
 }
 
+/// A conflict, from the words of its set's line on.
+fn read_conflict_behind(
+    alloc: Global,
+    lines: &mut Lines<'_>,
+    problem: &Problem,
+    at: u64,
+    words: Words<'_>,
+) -> Result<Answer, Stop>
+    ensures piece { Gives (λ a. a) result (left_of lines.new) (conflict_behind problem.now at (words_left words.entry) (left_of lines.old)) }
+    ensures rest { OnOk result (rest_of lines.new ≡ rest_of lines.old) }
+{
+    let set = read_set_line(alloc, words, problem.groups(), at)?;
+    let r = read_conflict(alloc, lines, problem, set)?;
+    Ok(Answer::Record(r))
+}
+
+/// A correction, from the words of its set's line on.
+fn read_correction_behind(
+    alloc: Global,
+    lines: &mut Lines<'_>,
+    problem: &Problem,
+    at: u64,
+    words: Words<'_>,
+) -> Result<Answer, Stop>
+    ensures piece { Gives (λ a. a) result (left_of lines.new) (correction_behind problem.now at (words_left words.entry) (left_of lines.old)) }
+    ensures rest { OnOk result (rest_of lines.new ≡ rest_of lines.old) }
+{
+    let set = read_set_line(alloc, words, problem.groups(), at)?;
+    let r = read_correction(alloc, lines, problem, set)?;
+    Ok(Answer::Record(r))
+}
+
+/// The end of what is not closed, from the words of its line on.
+fn read_partial_behind(lines: &Lines<'_>, at: u64, words: Words<'_>) -> Result<Answer, Stop>
+    ensures { Gives (λ a. a) result (left_of lines.now) (partial_behind (rest_of lines.now) at (words_left words.entry) (left_of lines.now)) }
+{
+    if let Err(why) = read_last_word(words, b"partial") {
+        return Err(refusal(at, why));
+    }
+    read_nothing(lines)?;
+    Ok(Answer::End(None))
+}
+
+/// The closing part and the end.
+fn read_closing_ahead(
+    alloc: Global,
+    lines: &mut Lines<'_>,
+    problem: &Problem,
+) -> Result<Answer, Stop>
+    ensures piece { Gives (λ a. a) result (left_of lines.new) (closing_ahead problem.now (rest_of lines.old) (left_of lines.old)) }
+    ensures rest { OnOk result (rest_of lines.new ≡ rest_of lines.old) }
+{
+    let closing = read_closing(alloc, lines, problem)?;
+    read_nothing(lines)?;
+    Ok(Answer::End(Some(closing)))
+}
+
 /// A record or the end.
 #[tactic(auto, unfolding(crate::specs::Reading::piece_at))]
 pub(crate) fn read_piece(
@@ -195,29 +252,17 @@ pub(crate) fn read_piece(
     let (letter, words) = first_word(line);
     match letter {
         b'u' => {
-            let set = read_set_line(alloc, words, problem.groups(), at)?;
             *lines = ahead;
-            let r = read_conflict(alloc, lines, problem, set)?;
-            Ok(Answer::Record(r))
+            read_conflict_behind(alloc, lines, problem, at, words)
         },
         b'm' => {
-            let set = read_set_line(alloc, words, problem.groups(), at)?;
             *lines = ahead;
-            let r = read_correction(alloc, lines, problem, set)?;
-            Ok(Answer::Record(r))
+            read_correction_behind(alloc, lines, problem, at, words)
         },
         b'e' => {
-            if let Err(why) = read_last_word(words, b"partial") {
-                return Err(refusal(at, why));
-            }
             *lines = ahead;
-            read_nothing(lines)?;
-            Ok(Answer::End(None))
+            read_partial_behind(lines, at, words)
         },
-        _ => {
-            let closing = read_closing(alloc, lines, problem)?;
-            read_nothing(lines)?;
-            Ok(Answer::End(Some(closing)))
-        },
+        _ => read_closing_ahead(alloc, lines, problem),
     }
 }
