@@ -96,10 +96,11 @@ impl Heap {
         ensures holds { (other : ℕ) → Holds self.old other → Holds self.new other }
     {
         let place = self.places[item as usize];
-        if place >= self.count {
-            self.swap(place, self.count);
-            self.count += 1;
+        if place < self.count {
+            return;
         }
+        self.swap(place, self.count);
+        self.count += 1;
     }
 
     /// How many items the heap holds.
