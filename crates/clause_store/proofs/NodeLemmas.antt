@@ -1,12 +1,13 @@
 -- Reading and writing a table by clause and place.
 use Rattle.std.proofs.Common.{◌≡◌, ◌≢◌, ℕ, suc, zero, ◌+◌, ◌-◌, ◌*◌, ◌/◌, ◌%◌, ◌<◌, ◌≤◌, inl, inr, List, [], ◌∷◌, ◌++◌, length, refl, ap, sym, ◌∙◌, arith, All, get_or, set, map, get_or-set_same, get_or-set_other}
-use Rattle.std.proofs.lemmas.Bool.{cases_eq}
-use Rattle.std.specs.Prelude.{ℤ, Option, None}
+use Rattle.std.proofs.lemmas.Bool.{cases_eq, true_from_ne_false}
+use Rattle.std.specs.Prelude.{ℤ, pos, Option, Some, None, Bool, true, if◌then◌else◌, slice_index_or}
 use Rattle.std.proofs.lemmas.List.{get_or-map, map-set, length-map, map_push}
 use Rattle.std.proofs.Math.Seq.{map-set_same}
 use Rattle.clause_store.specs.declared.store.ClauseRecord.{ClauseRecord}
 use Rattle.std.specs.List.{AllByRecursion}
-use Rattle.clause_store.specs.Inner.{IsWithin}
+use Rattle.clause_store.specs.Inner.{IsWithin, watched_by}
+use Rattle.clause_store.specs.Links.{literal_by}
 
 half : (id p : ℕ) → p < 2 → (2 * id + p) / 2 ≡ id
 half id p h = omega arith
@@ -146,3 +147,39 @@ from_recursion P (x ∷ xs) a = at (from_recursion P xs a.1)
     at : All P xs → (k : ℕ) (d : _) → k < length (x ∷ xs) → P (get_or (x ∷ xs) k d)
     at rest zero d h = a.0
     at rest (suc k) d h = rest k d (omega (arith, h))
+
+-- the watched literals of a record, or nothing
+pair_if : ClauseRecord → Bool → Option (ℤ × ℤ)
+pair_if r is = if is then Some (slice_index_or r.watched 0 (pos 0), slice_index_or r.watched 1 (pos 0)) else None
+
+is_watched-from : (r : ClauseRecord) → watched_by r ≢ None → r.is_watched ≡ true
+unfolding pair_if
+is_watched-from r some = true_from_ne_false r.is_watched (λ e. some (ap (pair_if r) e))
+
+literal-row : (r : ClauseRecord) (p : ℕ) (e : ℤ) → p < 2 → length r.watched ≡ 2 → r.is_watched ≡ true → literal_by (watched_by r) p ≡ get_or r.watched p e
+unfolding pair_if
+literal-row r p e two long is = ap (λ b. literal_by (pair_if r b) p) is ∙ by p two
+  where
+    by : (q : ℕ) → q < 2 → literal_by (Some (slice_index_or r.watched 0 (pos 0), slice_index_or r.watched 1 (pos 0))) q ≡ get_or r.watched q e
+    by zero h = any_default r.watched 0 (pos 0) e (omega (arith, long))
+    by (suc zero) h = any_default r.watched 1 (pos 0) e (omega (arith, long))
+    by (suc (suc q)) h = absurd (omega (arith, h))
+
+watched-row : (rows : List ClauseRecord) (r : ClauseRecord) (id : ℕ) → 0 < id → id ≤ length rows → r ≡ get_or rows (id - 1) r → get_or (None ∷ map watched_by rows) id None ≡ watched_by r
+watched-row rows r id from_one within is =
+    let i : id - 1 < length rows = omega (arith, within, from_one) in
+    behind None (map watched_by rows) id from_one ∙ get_or-map watched_by rows (id - 1) r None i ∙ sym (ap watched_by is)
+
+-- the record of a clause that watches something
+pub is_watched-at : (rows : List ClauseRecord) (r : ClauseRecord) (id : ℕ) → 0 < id → id ≤ length rows → r ≡ get_or rows (id - 1) r → get_or (None ∷ map watched_by rows) id None ≢ None → r.is_watched ≡ true
+is_watched-at rows r id from_one within is some = is_watched-from r (λ none. some (watched-row rows r id from_one within is ∙ none))
+
+-- what a clause that is watched watches by a place
+pub watch-read : (rows : List ClauseRecord) (r : ClauseRecord) (id p node : ℕ) (e : ℤ) → node ≡ 2 * id + p → p < 2 → 0 < id → id ≤ length rows → r ≡ get_or rows (id - 1) r → length r.watched ≡ 2
+    → get_or (None ∷ map watched_by rows) id None ≢ None → literal_by (get_or (None ∷ map watched_by rows) (node / 2) None) (node % 2) ≡ get_or r.watched p e
+watch-read rows r id p node e at two from_one within is long some =
+    ap (λ (n : ℕ). literal_by (get_or (None ∷ map watched_by rows) (n / 2) None) (n % 2)) at
+    ∙ ap (λ (n : ℕ). literal_by (get_or (None ∷ map watched_by rows) n None) ((2 * id + p) % 2)) (half id p two)
+    ∙ ap (λ (n : ℕ). literal_by (get_or (None ∷ map watched_by rows) id None) n) (rest id p two)
+    ∙ ap (λ w. literal_by w p) (watched-row rows r id from_one within is)
+    ∙ literal-row r p e two long (is_watched-at rows r id from_one within is some)
