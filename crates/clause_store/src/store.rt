@@ -16,7 +16,7 @@
 //! Where there are at most 64 variables, a table beside the records has the literals of each clause as a set (`words.rt`).
 //!
 //! Places in the list of literals and ids are kept in 32 bits. A store that would outgrow them answers want of memory.
-ghost use Rattle.std.specs.Prelude.{◌≡◌, ℕ, ℤ, ◌+◌, ◌<◌, ◌≤◌, ◌^◌, ◌++◌, ◌∷◌, [], None, length, IfOk, OnOk, OnErr, IsOk};
+ghost use Rattle.std.specs.Prelude.{◌≡◌, ℕ, ℤ, ◌+◌, ◌<◌, ◌≤◌, ◌^◌, ◌++◌, ◌∷◌, [], None, length, replicate, IfOk, OnOk, OnErr, IsOk};
 ghost use Rattle.sat_base.specs.Literals.{AreLiterals};
 ghost use Rattle.sat_base.specs.Database.{AreOver};
 ghost use Rattle.sat_base.specs.Forgotten.{forgotten};
@@ -76,6 +76,13 @@ impl Model for Store {
     ghost invariant = { IsLaidOut };
 }
 
+// A table of so many rows with no clause in any.
+fn no_clauses(alloc: Global, rows: usize) -> Result<Vec<u32>, AllocError>
+    ensures { IfOk result (λ table. table.items ≡ replicate rows 0) }
+{
+    vec![in alloc; 0u32; rows]
+}
+
 impl Store {
     /// An empty store for clauses over the variables 1 to `vars`.
     pub fn new(alloc: Global, vars: u32) -> Result<Store, AllocError>
@@ -95,9 +102,9 @@ impl Store {
             lits: Vec::new(alloc),
             records: Vec::new(alloc),
             words: Vec::new(alloc),
-            heads: vec![in alloc; 0u32; rows]?,
-            tails: vec![in alloc; 0u32; rows]?,
-            parks: vec![in alloc; 0u32; rows]?,
+            heads: no_clauses(alloc, rows)?,
+            tails: no_clauses(alloc, rows)?,
+            parks: no_clauses(alloc, rows)?,
             false_id: 0,
         })
     }
