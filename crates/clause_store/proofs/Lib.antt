@@ -1,4 +1,5 @@
 pub mod RecordLemmas
 pub mod NodeLemmas
+pub mod TableLemmas
 pub mod ThirdLemmas
 pub mod SetLemmas
