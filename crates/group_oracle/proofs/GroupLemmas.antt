@@ -4,7 +4,8 @@ use Rattle.std.specs.Prelude.{ℤ, pos, neg_ℤ, nat_abs, All}
 use Rattle.std.specs.List.Sorted.{IsNonDecreasingBy, IsPermutation}
 use Rattle.std.proofs.lemmas.Bool.{or_left, or_right, cases_Bool, eqb-true, eq-eqb}
 use Rattle.std.proofs.Math.Bool.{or-false}
-use Rattle.std.proofs.lemmas.List.{take_all}
+use Rattle.std.proofs.lemmas.List.{take_all, map-append}
+use Rattle.std.proofs.Math.Seq.{take-suc, take-length}
 use Rattle.std.proofs.lemmas.List.Folds.{list_any-append, list_any_more}
 use Rattle.std.proofs.lemmas.List.Sorted.{list_any-IsPermutation}
 use Rattle.sat_base.specs.Members.{In}
@@ -136,3 +137,15 @@ groups_from vars lits groups sorted set h is moved s =
         (λ i. same g ∙ in_has (map (group_of vars) lits) g (subst (λ k. In k (map (group_of vars) lits)) (group_off vars g) (In-map (group_of vars) (off vars g) lits i))),
       );
     }
+
+-- one more of a list has its value
+pub mapped_more : {A B : Type 0} (f : A → B) (xs : List A) (i : ℕ) (d : A) (ys new : List B) (y : B) → i < length xs → ys ≡ map f (take i xs) → new ≡ ys ++ y ∷ [] → y ≡ f (get_or xs i d)
+    → new ≡ map f (take (i + 1) xs)
+mapped_more f xs i d ys new y low so_far pushed is =
+    let more : suc i ≡ i + 1 = omega arith in
+    pushed ∙ ap (λ l. l ++ y ∷ []) so_far ∙ ap (λ z. map f (take i xs) ++ z ∷ []) is
+    ∙ sym (map-append f (take i xs) (get_or xs i d ∷ [])) ∙ ap (map f) (sym (take-suc xs i d low)) ∙ ap (λ n. map f (take n xs)) more
+
+-- all of them have
+pub mapped_all : {A B : Type 0} (f : A → B) (xs : List A) (i : ℕ) (ys : List B) → ys ≡ map f (take i xs) → i ≡ length xs → ys ≡ map f xs
+mapped_all f xs i ys so_far all = so_far ∙ ap (λ n. map f (take n xs)) all ∙ ap (map f) (take-length xs)
