@@ -2,9 +2,12 @@ pub mod OrderLemmas
 pub mod ReportLemmas
 pub mod ClosedLemmas
 pub mod DrillLemmas
-pub mod RunLemmas
 pub mod CheckLemmas
 pub mod WritingLemmas
 pub mod EvidenceLemmas
-pub mod ResumeLemmas
 pub mod MadeLemmas
+pub mod StatusLemmas
+pub mod ReadingLemmas
+pub mod AcceptedLemmas
+pub mod RunLemmas
+pub mod GetsLemmas

@@ -1,229 +1,504 @@
--- What is said of a named file, said of the file that the words name.
-use Rattle.std.proofs.Common.{◌≡◌, ◌≢◌, ◌⊎◌, ℕ, List, [], ◌∷◌, Bool, true, false, Option, Some, None, is_some, ◌==◌, inl, inr, ap, ap₂, sym, subst, refl, ◌∙◌}
-use Rattle.std.specs.Prelude.{MatchOption}
-use Rattle.std.proofs.lemmas.Bool.{true≢false, false≢true, eqb-true}
-use Rattle.evidence_rec.specs.declared.record.Record.{Record}
-use Rattle.map_core.specs.declared.closing.Verdict.{Verdict}
-use Rattle.map_core.specs.declared.closing.Verdict.TheVariants as verdict
-use Rattle.gcnf_text.specs.Grammar.{Reads}
-use Rattle.gcnf_text.specs.Read.{IsRefused}
-use Rattle.gcnf_text.specs.declared.offence.Offence.{Offence}
-use Rattle.gm_audit.specs.Refusals.{first_refusal}
-use Rattle.sat_base.specs.Members.{In}
-use Rattle.sat_base.proofs.Members.{any_from}
+-- What the steps of each command promise, said of a whole run.
+use Rattle.std.proofs.Common.{◌≡◌, ◌≢◌, ◌⊎◌, ℕ, Bool, List, [], ◌∷◌, Option, Some, None, inl, inr, ap, sym, subst, refl, ◌∙◌, arith}
+use Rattle.std.specs.Prelude.{IfSome}
+use Rattle.std.proofs.lemmas.Bool.{false≢true}
 use Rattle.gm_base.specs.Problem.{Problem}
 use Rattle.gm_ports.specs.Faults.{Rose}
-use Rattle.gm_ports.specs.FilesState.{FilesState}
+use Rattle.gm_ports.specs.FilesState.{FilesState, ReadingLeaves, WritingLeaves, StaysAsTold}
+use Rattle.gm_ports.specs.Told.{ToldAppends, ToldGrowsWithin}
+use Rattle.gm_ports.proofs.ToldLemmas.{ReadingLeaves-nothing}
+use Rattle.gcnf_text.specs.Chain.{made_case}
 use Rattle.gm_words.specs.Reading.{Asked, Listing, Checking, Drilling, listing, checking, drilling}
+use Rattle.lrat_steps.specs.Log.{LogStep}
+use Rattle.evidence_rec.specs.declared.record.Record.{Record}
+use Rattle.map_core.specs.declared.closing.Closing.{Closing}
+use Rattle.gm_tool.specs.declared.beginning.Beginning.{Beginning}
 use Rattle.gm_tool.specs.declared.enumeration.Bounds.{Bounds}
+use Rattle.gm_tool.specs.declared.enumeration.Enumerated.{Enumerated}
 use Rattle.gm_tool.specs.declared.ending.Ending.{Ending}
-use Rattle.gm_tool.specs.declared.ending.Ending.TheVariants.{BadWords, Refused, ReadFault, EvidenceFault, EvidenceRefused, Checked, CheckCutOff, Memory, Listed, CutOff, EvidenceCutOff}
+use Rattle.gm_tool.specs.declared.ending.Ending.TheVariants.{BadWords, Checked, CheckCutOff, Memory, Listed, CutOff, EvidenceCutOff, EvidenceMemory}
 use Rattle.gm_tool.specs.declared.ending.Finish.{Finish}
-use Rattle.gm_tool.specs.Checking.{IsChecked, IsEvidenceRefusal}
-use Rattle.gm_tool.specs.Drilling.{TellsDrilling}
-use Rattle.gm_tool.specs.Endings.{finish_of, status_by, report_cut_line, evidence_cut_line}
-use Rattle.gm_tool.specs.Evidence.{TellsEvidence, LeavesBegun, IsReportFault, IsEvidenceFault}
-use Rattle.gm_tool.specs.Input.{OfFile, IsReadFor}
-use Rattle.gm_tool.specs.Listing.{IsAfterwards, IsAmong, TellsListing}
-use Rattle.gm_tool.specs.Resuming.{GoesOnFrom}
-use Rattle.gm_tool.proofs.EvidenceLemmas.{evidence-told}
-use Rattle.gm_tool.specs.Run.{OfNamed, IsToldFile, IsStatus, AreAccepted, bounds_for, file_asked}
+use Rattle.gm_tool.specs.Checking.{IsChecking, IsChecked, shown_report}
+use Rattle.gm_tool.specs.Closed.{learned_in, report_for}
+use Rattle.gm_tool.specs.Drilling.{IsDrilling, IsDrilled, drill_bounds, held_counts}
+use Rattle.gm_tool.specs.Endings.{bare, after, error_line, finish_of, line_of, status_by}
+use Rattle.gm_tool.specs.Evidence.{IsValid, HasSmallIds}
+use Rattle.gm_tool.specs.Judging.{IsJudged, AreAccepted}
+use Rattle.gm_tool.specs.Listing.{IsListing, IsListed, IsListedFrom, bounds_for}
+use Rattle.gm_tool.specs.Outside.{Outside, outside, NoneRose}
+use Rattle.gm_tool.specs.Prepared.{IsOver}
+use Rattle.gm_tool.specs.Run.{IsRun, IsReportFault, IsEvidenceFault}
+use Rattle.gm_tool.specs.Statuses.{IsAmong, IsStatus, IsSilent, IsBefore, IsFaultless, IsReported, IsAfterwards, IsToldByStatus}
+use Rattle.gm_tool.specs.Steps.{IsBegun, Stops, Lists, Drills, Reports}
+use Rattle.gm_tool.specs.Taking.{stays-same, stays-then}
+use Rattle.gm_tool.specs.Words.{EndsAs, IsObeyed, bounds_of, evidence_asked}
+use Rattle.gm_tool.proofs.AcceptedLemmas.{not_refused, not_refused-evidence}
+use Rattle.gm_tool.proofs.ClosedLemmas.{complete_by, enumerated, is_reported, whole-text, partial-text}
+use Rattle.gm_tool.proofs.DrillLemmas.{full_counts-from}
+use Rattle.gm_tool.proofs.EvidenceLemmas.{valid-from}
+use Rattle.gm_tool.proofs.ReadingLemmas.{IsStopped, stopped, read-for, read-alone}
+use Rattle.gm_tool.proofs.StatusLemmas.{among-by}
 
-pub named-from : (asked : Asked) (words : Option Asked) (name : List ℕ) (files : FilesState) (P : List ℕ → Type 0)
-    → Some asked ≡ words → file_asked (Some asked) ≡ Some name → OfFile (files.held name) P → OfNamed words files P
-named-from asked words name files P is named h =
-    subst (λ w. OfNamed w files P) is (subst (λ n. MatchOption n ⊥ (λ m. OfFile (files.held m) P)) (sym named) h)
+-- ---- endings without an enumeration
 
--- the words ask for one thing
-listing_or : Listing → Option Asked → Listing
-listing_or l None = l
-listing_or l (Some (listing k)) = k
-listing_or l (Some (checking c)) = l
-listing_or l (Some (drilling d)) = l
-
-pub same_listing : (words : Option Asked) (l k : Listing) → Some (listing l) ≡ words → words ≡ Some (listing k) → l ≡ k
-unfolding listing_or
-same_listing words l k is asked = ap (listing_or l) (is ∙ asked)
-
-checking_or : Checking → Option Asked → Checking
-checking_or c None = c
-checking_or c (Some (listing l)) = c
-checking_or c (Some (checking d)) = d
-checking_or c (Some (drilling d)) = c
-
-pub same_checking : (words : Option Asked) (c d : Checking) → Some (checking c) ≡ words → words ≡ Some (checking d) → c ≡ d
-unfolding checking_or
-same_checking words c d is asked = ap (checking_or c) (is ∙ asked)
-
-drilling_or : Drilling → Option Asked → Drilling
-drilling_or d None = d
-drilling_or d (Some (listing l)) = d
-drilling_or d (Some (checking c)) = d
-drilling_or d (Some (drilling k)) = k
-
-pub same_drilling : (words : Option Asked) (d k : Drilling) → Some (drilling d) ≡ words → words ≡ Some (drilling k) → d ≡ k
-unfolding drilling_or
-same_drilling words d k is asked = ap (drilling_or d) (is ∙ asked)
-
--- and not for two
-command_of : Option Asked → ℕ
-command_of None = 0
-command_of (Some (listing l)) = 1
-command_of (Some (checking c)) = 2
-command_of (Some (drilling d)) = 3
-
-pub not_both : (words : Option Asked) (l : Listing) (c : Checking) → Some (listing l) ≡ words → words ≡ Some (checking c) → ⊥
-unfolding command_of
-not_both words l c is asked = true≢false (ap (λ (w : Option Asked). command_of w == 1) (is ∙ asked))
-
-pub lists-not_drills : (words : Option Asked) (l : Listing) (d : Drilling) → Some (listing l) ≡ words → words ≡ Some (drilling d) → ⊥
-unfolding command_of
-lists-not_drills words l d is asked = true≢false (ap (λ (w : Option Asked). command_of w == 1) (is ∙ asked))
-
-pub checks-not_drills : (words : Option Asked) (c : Checking) (d : Drilling) → Some (checking c) ≡ words → words ≡ Some (drilling d) → ⊥
-unfolding command_of
-checks-not_drills words c d is asked = true≢false (ap (λ (w : Option Asked). command_of w == 2) (is ∙ asked))
-
-pub not_named : (name : List ℕ) → Some name ≡ None → ⊥
-not_named name is = cc
-
--- words that ask for a listing or a checking name a file
-pub names_file : (words : Option Asked) (asked : Asked) (name : List ℕ) → Some asked ≡ words → file_asked (Some asked) ≡ Some name → file_asked words ≡ None → ⊥
-names_file words asked name is named none = let never : Some name ≡ None = sym named ∙ ap file_asked is ∙ none in cc
-
-asks : Option Asked → Bool
-asks None = false
-asks (Some asked) = true
-
-pub not_none : (words : Option Asked) (asked : Asked) → None ≡ words → words ≡ Some asked → ⊥
-unfolding asks
-not_none words asked is other = true≢false (sym (ap asks (is ∙ other)))
-
--- what is told of a file, and what is said of it
-pub told : (held : Option (Option (List ℕ))) (P Q : List ℕ → Type 0) → IsToldFile held P → OfFile held Q → (text : List ℕ) × P text × Q text
-told None P Q p q = absurd p
-told (Some None) P Q p q = absurd p
-told (Some (Some text)) P Q p q = (text, p, q)
-
-pub listing-from : (files : FilesState) (k l : Listing) (b : Bounds) (asked resume : Option (List ℕ)) (mine last : FilesState) (old new got : Option (List ℕ))
-    (Gets Has : List ℕ → Type 0) (finish answer : Finish)
-    → k ≡ l → b ≡ bounds_for k → asked ≡ k.evidence → resume ≡ k.resume → last ≡ mine → got ≡ new → answer ≡ finish → ((line : List ℕ) → Gets line → Has line)
-    → (IsAfterwards finish.status → (p : Problem) × (first : List Record) × OfFile (files.held k.file) (IsReadFor asked resume p mine.unread)
-    × GoesOnFrom p resume files.held first × TellsListing p first b old new finish × TellsEvidence p asked mine Gets finish)
-    → IsAfterwards answer.status
-    → (p : Problem) × (first : List Record) × OfFile (files.held l.file) (IsReadFor l.evidence l.resume p last.unread)
-    × GoesOnFrom p l.resume files.held first × TellsListing p first (bounds_for l) old got answer × TellsEvidence p l.evidence last Has answer
-listing-from files k l b asked resume mine last old new got Gets Has finish answer same bounds asks goes m n f line h =
-    rw (← same, m, n, f)
-    (rw (← bounds, ← asks, ← goes) (λ after. let t = h after in (t.0, t.1, t.2, t.3, t.4, evidence-told t.0 asked mine Gets Has finish line t.5)))
-
-pub begun-from : (files : FilesState) (k l : Listing) (mine last : FilesState) (finish answer : Finish) → k ≡ l → last ≡ mine → answer ≡ finish
-    → (finish.status ≡ 8 → LeavesBegun (files.held k.file) files mine) → answer.status ≡ 8 → LeavesBegun (files.held l.file) files last
-begun-from files k l mine last finish answer same m f h = rw (← same, m, f) h
-
--- a fault of writing, told of what the files and the sink are behind the call
-pub report_fault-from : (Gets Has : List ℕ → Type 0) (before now later : ℕ) → later ≡ now → ((line : List ℕ) → Gets line → Has line)
-    → IsReportFault Gets before now → IsReportFault Has before later
-report_fault-from Gets Has before now later same f h = record { rose = subst (Rose before) (sym same) h.rose; line = f report_cut_line h.line }
-
-pub evidence_fault-from : (asked words : Option (List ℕ)) (Gets Has : List ℕ → Type 0) (before now later : ℕ) (old new got : Option (List ℕ))
-    → asked ≡ words → later ≡ now → got ≡ new → ((line : List ℕ) → Gets line → Has line)
-    → IsEvidenceFault asked Gets before now old new → IsEvidenceFault words Has before later old got
-evidence_fault-from asked words Gets Has before now later old new got asks same n f h = record {
-  wanted = λ none. h.wanted (asks ∙ none);
-  rose = subst (Rose before) (sym same) h.rose;
-  line = f evidence_cut_line h.line;
-  silent = n ∙ h.silent;
+-- where files were read alone, and the status tells all
+run-bare : (b : Bounds) (evidence : Option (List ℕ)) (old new : FilesState) (got : Option (List ℕ)) (faults : ℕ) (Gets : List ℕ → Type 0) (status : ℕ)
+    → IsSilent status → ReadingLeaves old new → (status ≢ 6 → new.read_faults ≡ old.read_faults) → (IsToldByStatus status → Gets (error_line b status))
+    → IsRun b evidence (outside old got faults) (outside new got faults) Gets (bare status)
+run-bare b evidence old new got faults Gets status silent leaves quiet line = record {
+  known = among-by IsStatus (2 ∷ 5 ∷ 6 ∷ 8 ∷ 9 ∷ []) status silent (refl, (refl, (refl, (refl, (refl, tt)))));
+  learned = refl;
+  nothing_listed = λ _. refl;
+  before = λ _. leaves;
+  silent = λ _. refl;
+  no_fault_dropped =
+      λ faultless. record { reads = quiet (λ six. false≢true (subst IsFaultless six faultless)); evidence = leaves.write_faults; report = refl };
+  write_fault =
+      λ seven.
+      absurd
+      (among-by (λ s. s ≢ 7) (2 ∷ 5 ∷ 6 ∷ 8 ∷ 9 ∷ []) status silent (omega arith, (omega arith, (omega arith, (omega arith, (omega arith, tt))))) seven);
+  error_line = line;
+  unasked = λ _. leaves;
+  names = λ name other. subst (λ held. StaysAsTold (old.held name) (held name)) (sym leaves.names) (stays-same (old.held name));
 }
 
-pub checking-from : (files : FilesState) (c d : Checking) (old new got : Option (List ℕ)) (status answer : ℕ)
-    → c ≡ d → got ≡ new → answer ≡ status
-    → (IsAfterwards status → (p : Problem) × OfFile (files.held c.file) (λ text. Reads text p) × IsChecked p (files.held c.evidence) status old new)
-    → IsAfterwards answer → (p : Problem) × OfFile (files.held d.file) (λ text. Reads text p) × IsChecked p (files.held d.evidence) answer old got
-checking-from files c d old new got status answer same n f h = rw (← same, n, f) h
+-- what stopped a command where it began
+run-stopped : (b : Bounds) (evidence : Option (List ℕ)) (file : List ℕ) (named : Option (List ℕ)) (old new : FilesState) (got : Option (List ℕ)) (faults : ℕ) (e : Ending)
+    → IsStopped b file named old new e → ReadingLeaves old new
+    → IsRun b evidence (outside old got faults) (outside new got faults) (λ told. line_of e ≡ told) (finish_of e)
+run-stopped b evidence file named old new got faults e h leaves =
+    subst (IsRun b evidence (outside old got faults) (outside new got faults) (λ told. line_of e ≡ told)) (sym h.bare)
+    (run-bare b evidence old new got faults (λ told. line_of e ≡ told) (finish_of e).status
+    (among-by IsSilent (5 ∷ 6 ∷ 8 ∷ 9 ∷ []) (finish_of e).status h.statuses (refl, (refl, (refl, (refl, tt))))) leaves h.quiet h.line)
 
-pub drilling-from : (d k : Drilling) (old new got : Option (List ℕ)) (finish answer : Finish) → d ≡ k → got ≡ new → answer ≡ finish
-    → (IsAfterwards finish.status → TellsDrilling d old new finish) → IsAfterwards answer.status → TellsDrilling k old got answer
-drilling-from d k old new got finish answer same n f h = rw (← same, n, f) h
+unjudged : (file : List ℕ) (evidence : Option (List ℕ)) (old new : FilesState) (Gets : List ℕ → Type 0) (status : ℕ) → status ≢ 5 → status ≢ 6 → status ≢ 9
+    → IsJudged file evidence old new Gets status
+unjudged file evidence old new Gets status five six nine = record {
+  refused = λ e. absurd (five e);
+  read_fault = λ e. absurd (six e);
+  fault_line = λ e. absurd (six e);
+  evidence_refused = λ e. absurd (nine e);
+}
 
--- each ending has one of the statuses
-verdict_status : (v : Verdict) → IsStatus (status_by v)
-verdict_status verdict.Complete = refl
-verdict_status verdict.Budget = refl
-verdict_status verdict.Limit = refl
-verdict_status verdict.Memory = refl
+-- of statuses that come where a command begins, an accepted file leaves 8 alone
+left-of : (file : List ℕ) (evidence : Option (List ℕ)) (old new : Outside) (Gets : List ℕ → Type 0) (status : ℕ) → IsAmong (5 ∷ 6 ∷ 8 ∷ 9 ∷ []) status
+    → IsJudged file evidence old.files new.files Gets status → NoneRose old new → AreAccepted old.files.held file evidence → status ≡ 8
+left-of file evidence old new Gets status among judged none accepted =
+    among-by (λ s. s ≢ 5 → s ≢ 6 → s ≢ 9 → s ≡ 8) (5 ∷ 6 ∷ 8 ∷ 9 ∷ []) status among
+    ((λ five six nine. absurd (five refl)), ((λ five six nine. absurd (six refl)), ((λ five six nine. refl), ((λ five six nine. absurd (nine refl)), tt))))
+    (λ five. let h = judged.refused five in not_refused old.files.held file evidence h.offence accepted h.first) (λ six. none.0 (judged.read_fault six))
+    (λ nine. not_refused-evidence old.files.held file evidence Gets accepted (judged.evidence_refused nine))
 
-pub ending_status : (e : Ending) → IsStatus (finish_of e).status
-ending_status BadWords = refl
-ending_status (Refused line) = refl
-ending_status ReadFault = refl
-ending_status EvidenceFault = refl
-ending_status (EvidenceRefused line) = refl
-ending_status Checked = refl
-ending_status CheckCutOff = refl
-ending_status Memory = refl
-ending_status (Listed line left) = verdict_status left.closing.verdict
-ending_status (CutOff left) = refl
-ending_status (EvidenceCutOff left) = refl
+pub listing-stopped : (l : Listing) (old new : FilesState) (got : Option (List ℕ)) (faults : ℕ) (e : Ending) → Stops l.file l.resume old new e → ReadingLeaves old new
+    → EndsAs (Some (listing l)) (outside old got faults) (outside new got faults) e
+listing-stopped l old new got faults e stops leaves =
+    let h = stopped (bounds_for l) l.file l.resume old new e stops in
+    let status = (finish_of e).status in
+    record {
+      every = run-stopped (bounds_for l) l.evidence l.file l.resume old new got faults e h leaves;
+      done =
+          record {
+            statuses = among-by (IsAmong (0 ∷ 3 ∷ 4 ∷ 5 ∷ 6 ∷ 7 ∷ 8 ∷ 9 ∷ [])) (5 ∷ 6 ∷ 8 ∷ 9 ∷ []) status h.statuses (refl, (refl, (refl, (refl, tt))));
+            listed =
+                λ after.
+                absurd
+                (among-by (λ s. IsAfterwards s → ⊥) (5 ∷ 6 ∷ 8 ∷ 9 ∷ []) status h.statuses (false≢true, (false≢true, (false≢true, (false≢true, tt)))) after);
+            memory = λ eight. inl (leaves, h.bare ∙ ap bare eight);
+            judged = h.judged;
+            accepted =
+                λ none ok.
+                subst (IsAmong (0 ∷ 3 ∷ 4 ∷ 8 ∷ []))
+                (sym (left-of l.file l.resume (outside old got faults) (outside new got faults) (λ told. line_of e ≡ told) status h.statuses h.judged none ok)) refl;
+          };
+    }
 
--- what is left of them without a fault and without a refusal
-pub left_of : (status : ℕ) → IsStatus status → status ≢ 2 → status ≢ 5 → status ≢ 6 → status ≢ 7 → status ≢ 9 → IsAmong (0 ∷ 3 ∷ 4 ∷ 8 ∷ []) status
-left_of status known two five six seven nine =
-    let (s, i, e) = any_from (λ (k : ℕ). status == k) (0 ∷ 2 ∷ 3 ∷ 4 ∷ 5 ∷ 6 ∷ 7 ∷ 8 ∷ 9 ∷ []) known in
-    let is : status ≡ s = eqb-true status s e in
-    by s i is
+pub checking-stopped : (c : Checking) (old new : FilesState) (got : Option (List ℕ)) (faults : ℕ) (e : Ending) → Stops c.file (Some c.evidence) old new e → ReadingLeaves old new
+    → EndsAs (Some (checking c)) (outside old got faults) (outside new got faults) e
+checking-stopped c old new got faults e stops leaves =
+    let h = stopped (bounds_of (Some (checking c))) c.file (Some c.evidence) old new e stops in
+    let status = (finish_of e).status in
+    record {
+      every = run-stopped (bounds_of (Some (checking c))) None c.file (Some c.evidence) old new got faults e h leaves;
+      done =
+          record {
+            statuses = among-by (IsAmong (0 ∷ 5 ∷ 6 ∷ 7 ∷ 8 ∷ 9 ∷ [])) (5 ∷ 6 ∷ 8 ∷ 9 ∷ []) status h.statuses (refl, (refl, (refl, (refl, tt))));
+            nothing_listed = h.bare;
+            checked =
+                λ after.
+                absurd
+                (among-by (λ s. IsAmong (0 ∷ 7 ∷ []) s → ⊥) (5 ∷ 6 ∷ 8 ∷ 9 ∷ []) status h.statuses (false≢true, (false≢true, (false≢true, (false≢true, tt)))) after);
+            judged = h.judged;
+            accepted =
+                λ none ok.
+                subst (IsAmong (0 ∷ 8 ∷ []))
+                (sym (left-of c.file (Some c.evidence) (outside old got faults) (outside new got faults) (λ told. line_of e ≡ told) status h.statuses h.judged none ok)) refl;
+          };
+    }
+
+-- ---- want of memory, where no output was opened
+
+listing-memory : (l : Listing) (old new : Outside) (Gets : List ℕ → Type 0) → ReadingLeaves old.files new.files → IsListing l old new Gets (bare 8)
+listing-memory l old new Gets leaves = record {
+  statuses = refl;
+  listed = λ after. absurd (false≢true after);
+  memory = λ _. inl (leaves, refl);
+  judged = unjudged l.file l.resume old.files new.files Gets 8 (omega arith) (omega arith) (omega arith);
+  accepted = λ _ _. refl;
+}
+
+checking-memory : (c : Checking) (old new : Outside) (Gets : List ℕ → Type 0) → IsChecking c old new Gets (bare 8)
+checking-memory c old new Gets = record {
+  statuses = refl;
+  nothing_listed = refl;
+  checked = λ after. absurd (false≢true after);
+  judged = unjudged c.file (Some c.evidence) old.files new.files Gets 8 (omega arith) (omega arith) (omega arith);
+  accepted = λ _ _. refl;
+}
+
+drilling-memory : (d : Drilling) (o : Outside) (Gets : List ℕ → Type 0) → IsDrilling d o o Gets (bare 8)
+drilling-memory d o Gets = record {
+  statuses = refl;
+  drilled = λ after. absurd (false≢true after);
+  memory = λ _. refl;
+  written = λ _. refl;
+  untouched = refl;
+}
+
+every-memory : (b : Bounds) (evidence : Option (List ℕ)) (o : Outside) → IsRun b evidence o o (λ told. line_of Memory ≡ told) (bare 8)
+every-memory b evidence o =
+    run-bare b evidence o.files o.files o.got o.faults (λ told. line_of Memory ≡ told) 8 refl (ReadingLeaves-nothing o.files) (λ _. refl) (λ _. refl)
+
+-- before the words are read
+pub memory-at_once : (asked : Option Asked) (o : Outside) → EndsAs asked o o Memory
+memory-at_once None o = record {
+  every = every-memory (bounds_of None) None o;
+  done = record { statuses = refl; nothing_listed = refl; untouched = refl };
+}
+memory-at_once (Some (listing l)) o = record {
+  every = every-memory (bounds_for l) l.evidence o;
+  done = listing-memory l o o (λ told. line_of Memory ≡ told) (ReadingLeaves-nothing o.files);
+}
+memory-at_once (Some (checking c)) o = record {
+  every = every-memory (bounds_of (Some (checking c))) None o;
+  done = checking-memory c o o (λ told. line_of Memory ≡ told);
+}
+memory-at_once (Some (drilling d)) o = record {
+  every = every-memory (drill_bounds d.jobs) None o;
+  done = drilling-memory d o (λ told. line_of Memory ≡ told);
+}
+
+-- words without a reading
+pub bad_words : (o : Outside) → EndsAs None o o BadWords
+bad_words o = record {
+  every =
+      run-bare (bounds_of None) None o.files o.files o.got o.faults (λ told. line_of BadWords ≡ told) 2 refl (ReadingLeaves-nothing o.files) (λ _. refl) (λ _. refl);
+  done = record { statuses = refl; nothing_listed = refl; untouched = refl };
+}
+
+-- ---- endings behind what was read
+
+writes-nothing : (May : List ℕ → Type 0) (files : FilesState) → WritingLeaves May files files
+writes-nothing May files = record { names = λ name other. stays-same (files.held name); read_faults = refl }
+
+-- where files were read, and then written perhaps
+run-after : (b : Bounds) (evidence : Option (List ℕ)) (old : FilesState) (mid new : Outside) (Gets : List ℕ → Type 0) (finish : Finish)
+    → ReadingLeaves old mid.files → mid.files.read_faults ≡ old.read_faults → IsAmong (0 ∷ 3 ∷ 4 ∷ 7 ∷ 8 ∷ []) finish.status → finish.spent ≡ learned_in finish.logs
+    → WritingLeaves (λ name. evidence ≡ Some name) mid.files new.files → (evidence ≡ None → new.files ≡ mid.files) → (finish.status ≡ 8 → new.got ≡ mid.got)
+    → (IsReported finish.status → (new.files.write_faults ≡ mid.files.write_faults) × (new.faults ≡ mid.faults))
+    → (finish.status ≡ 7 → IsReportFault Gets (outside old mid.got mid.faults) new ⊎ IsEvidenceFault evidence Gets (outside old mid.got mid.faults) new)
+    → (IsToldByStatus finish.status → Gets (error_line b finish.status))
+    → IsRun b evidence (outside old mid.got mid.faults) new Gets finish
+run-after b evidence old mid new Gets finish reads quiet_reads among learned writes same silent quiet fault line = record {
+  known = among-by IsStatus (0 ∷ 3 ∷ 4 ∷ 7 ∷ 8 ∷ []) finish.status among (refl, (refl, (refl, (refl, (refl, tt)))));
+  learned = learned;
+  nothing_listed = λ early. absurd (late early);
+  before = λ early. absurd (late early);
+  silent =
+      λ s.
+      silent
+      (among-by (λ n. IsSilent n → n ≡ 8) (0 ∷ 3 ∷ 4 ∷ 7 ∷ 8 ∷ []) finish.status among
+      ((λ t. absurd (false≢true t)), ((λ t. absurd (false≢true t)), ((λ t. absurd (false≢true t)), ((λ t. absurd (false≢true t)), ((λ t. refl), tt))))) s);
+  no_fault_dropped =
+      λ faultless.
+      let q = quiet
+      (among-by (λ n. IsFaultless n → IsReported n) (0 ∷ 3 ∷ 4 ∷ 7 ∷ 8 ∷ []) finish.status among
+      ((λ t. refl), ((λ t. refl), ((λ t. refl), ((λ t. absurd (false≢true t)), ((λ t. absurd (false≢true t)), tt))))) faultless) in
+      record { reads = writes.read_faults ∙ quiet_reads; evidence = q.0 ∙ reads.write_faults; report = q.1 };
+  write_fault = fault;
+  error_line = line;
+  unasked = λ none. subst (ReadingLeaves old) (sym (same none)) reads;
+  names = λ name other. subst (λ held. StaysAsTold (held name) (new.files.held name)) reads.names (writes.names name other);
+}
   where
-    by : (s : ℕ) → In s (0 ∷ 2 ∷ 3 ∷ 4 ∷ 5 ∷ 6 ∷ 7 ∷ 8 ∷ 9 ∷ []) → status ≡ s → IsAmong (0 ∷ 3 ∷ 4 ∷ 8 ∷ []) status
-    by s (inl z) is = subst (IsAmong (0 ∷ 3 ∷ 4 ∷ 8 ∷ [])) (sym (is ∙ z)) refl
-    by s (inr (inl z)) is = absurd (two (is ∙ z))
-    by s (inr (inr (inl z))) is = subst (IsAmong (0 ∷ 3 ∷ 4 ∷ 8 ∷ [])) (sym (is ∙ z)) refl
-    by s (inr (inr (inr (inl z)))) is = subst (IsAmong (0 ∷ 3 ∷ 4 ∷ 8 ∷ [])) (sym (is ∙ z)) refl
-    by s (inr (inr (inr (inr (inl z))))) is = absurd (five (is ∙ z))
-    by s (inr (inr (inr (inr (inr (inl z)))))) is = absurd (six (is ∙ z))
-    by s (inr (inr (inr (inr (inr (inr (inl z))))))) is = absurd (seven (is ∙ z))
-    by s (inr (inr (inr (inr (inr (inr (inr (inl z)))))))) is = subst (IsAmong (0 ∷ 3 ∷ 4 ∷ 8 ∷ [])) (sym (is ∙ z)) refl
-    by s (inr (inr (inr (inr (inr (inr (inr (inr (inl z))))))))) is = absurd (nine (is ∙ z))
-    by s (inr (inr (inr (inr (inr (inr (inr (inr (inr none))))))))) is = absurd none
+    late : IsBefore finish.status → ⊥
+    late =
+        among-by (λ n. IsBefore n → ⊥) (0 ∷ 3 ∷ 4 ∷ 7 ∷ 8 ∷ []) finish.status among (false≢true, (false≢true, (false≢true, (false≢true, (false≢true, tt)))))
 
--- what is left of a drilling's without a fault
-pub written_of : (status : ℕ) → (status ≡ 8) ⊎ IsAfterwards status → status ≢ 7 → IsAmong (0 ∷ 3 ∷ 4 ∷ 8 ∷ []) status
-written_of status (inl eight) seven = subst (IsAmong (0 ∷ 3 ∷ 4 ∷ 8 ∷ [])) (sym eight) refl
-written_of status (inr after) seven =
-    let (s, i, e) = any_from (λ (k : ℕ). status == k) (0 ∷ 3 ∷ 4 ∷ 7 ∷ []) after in
-    let is : status ≡ s = eqb-true status s e in
-    by s i is
-  where
-    by : (s : ℕ) → In s (0 ∷ 3 ∷ 4 ∷ 7 ∷ []) → status ≡ s → IsAmong (0 ∷ 3 ∷ 4 ∷ 8 ∷ []) status
-    by s (inl z) is = subst (IsAmong (0 ∷ 3 ∷ 4 ∷ 8 ∷ [])) (sym (is ∙ z)) refl
-    by s (inr (inl z)) is = subst (IsAmong (0 ∷ 3 ∷ 4 ∷ 8 ∷ [])) (sym (is ∙ z)) refl
-    by s (inr (inr (inl z))) is = subst (IsAmong (0 ∷ 3 ∷ 4 ∷ 8 ∷ [])) (sym (is ∙ z)) refl
-    by s (inr (inr (inr (inl z)))) is = absurd (seven (is ∙ z))
-    by s (inr (inr (inr (inr none)))) is = absurd none
+-- the status of a verdict is none of these
+reported-not : (status n : ℕ) → IsReported status → 0 ≢ n → 3 ≢ n → 4 ≢ n → status ≢ n
+reported-not status n among zero three four = among-by (λ s. s ≢ n) (0 ∷ 3 ∷ 4 ∷ []) status among (zero, (three, (four, tt)))
 
--- a drilling has no other status
-pub not_drilled : (status n : ℕ) → (status ≡ 8) ⊎ IsAfterwards status → status ≡ n → n ≢ 8 → (IsAfterwards n → ⊥) → ⊥
-not_drilled status n (inl eight) is not_eight not_after = not_eight (sym is ∙ eight)
-not_drilled status n (inr after) is not_eight not_after = not_after (subst IsAfterwards is after)
+reported-known : (status : ℕ) → IsReported status → IsAmong (0 ∷ 3 ∷ 4 ∷ 7 ∷ 8 ∷ []) status
+reported-known status among = among-by (IsAmong (0 ∷ 3 ∷ 4 ∷ 7 ∷ 8 ∷ [])) (0 ∷ 3 ∷ 4 ∷ []) status among (refl, (refl, (refl, tt)))
 
--- an accepted file is not refused
-pub not_refused : (held : Option (Option (List ℕ))) (P : List ℕ → Type 0) (offence : Offence)
-    → IsToldFile held (λ text. ((p : Problem) × Reads text p) × P text) → OfFile held (λ text. IsRefused text offence) → ⊥
-not_refused held P offence accepted refused =
-    let (text, a, r) = told held (λ text. ((p : Problem) × Reads text p) × P text) (λ text. IsRefused text offence) accepted refused in
-    r.unread a.0.0 a.0.1
+-- ---- a listing
 
--- nor is evidence that has nothing to be refused for
-pub not_refused-evidence : (held : List ℕ → Option (Option (List ℕ))) (file : List ℕ) (evidence : Option (List ℕ)) (name : List ℕ) (p : Problem) (Gets : List ℕ → Type 0)
-    → evidence ≡ Some name → AreAccepted held file evidence
-    → OfFile (held file) (λ text. Reads text p) → IsEvidenceRefusal p (held name) Gets → ⊥
-not_refused-evidence held file evidence name p Gets named accepted reads refusal =
-    let P : List ℕ → Type 0 = λ text. ((q : Problem) × Reads text q) × ((q : Problem) → Reads text q → IsToldFile (held name) (λ shown. first_refusal q shown ≡ None)) in
-    let (text, a, r) = told (held file) P (λ text. Reads text p) (subst (AreAccepted held file) named accepted) reads in
-    let (shown, none, some) = told (held name) (λ shown. first_refusal p shown ≡ None) (λ shown. first_refusal p shown ≡ Some refusal.refusal) (a.1 p r) refusal.first in
-    false≢true (ap is_some (sym none ∙ some))
+-- what holds where evidence is asked for
+where-asked : (asked : Option (List ℕ)) (A : Type 0) → (asked ≢ None → A) → IfSome asked (λ _. A)
+where-asked None A f = tt
+where-asked (Some name) A f = f (λ e. let never : Some name ≡ None = e in cc)
 
--- bounds that have these parts
-pub bounds-from : (b : Bounds) (jobs conflicts limit : ℕ) → b.jobs ≡ jobs → b.conflicts ≡ conflicts → b.limit ≡ limit → b ≡ record { jobs = jobs; conflicts = conflicts; limit = limit }
-bounds-from b jobs conflicts limit one two three =
-    ap₂ (λ (j c : ℕ). record { jobs = j; conflicts = c; limit = b.limit }) one two
-    ∙ ap (λ (l : ℕ). record { jobs = jobs; conflicts = conflicts; limit = l }) three
+module _ (l : Listing) (old : FilesState) (mid new : Outside) (begun : Beginning) (reads : ReadingLeaves old mid.files)
+    (is : IsBegun l.file l.resume old mid.files begun) where
+  run-listed : (Gets : List ℕ → Type 0) (finish : Finish)
+      → IsAmong (0 ∷ 3 ∷ 4 ∷ 7 ∷ 8 ∷ []) finish.status → (l.evidence ≡ None → new.files ≡ mid.files)
+      → IsRun (bounds_for l) l.evidence (outside old mid.got mid.faults) new Gets finish
+      → IsListed begun.problem begun.records (bounds_for l) l.evidence (outside old mid.got mid.faults) new Gets finish
+      → IsObeyed (Some (listing l)) (outside old mid.got mid.faults) new Gets finish
+  run-listed Gets finish among same run h = record {
+    every = run;
+    done =
+        record {
+          statuses =
+              among-by (IsAmong (0 ∷ 3 ∷ 4 ∷ 5 ∷ 6 ∷ 7 ∷ 8 ∷ 9 ∷ [])) (0 ∷ 3 ∷ 4 ∷ 7 ∷ 8 ∷ []) finish.status among (refl, (refl, (refl, (refl, (refl, tt)))));
+          listed = λ _. from;
+          memory = λ _. inr from;
+          judged =
+              unjudged l.file l.resume old new.files Gets finish.status
+              (among-by (λ s. s ≢ 5) (0 ∷ 3 ∷ 4 ∷ 7 ∷ 8 ∷ []) finish.status among (omega arith, (omega arith, (omega arith, (omega arith, (omega arith, tt))))))
+              (among-by (λ s. s ≢ 6) (0 ∷ 3 ∷ 4 ∷ 7 ∷ 8 ∷ []) finish.status among (omega arith, (omega arith, (omega arith, (omega arith, (omega arith, tt))))))
+              (among-by (λ s. s ≢ 9) (0 ∷ 3 ∷ 4 ∷ 7 ∷ 8 ∷ []) finish.status among (omega arith, (omega arith, (omega arith, (omega arith, (omega arith, tt))))));
+          accepted =
+              λ none ok.
+              among-by (λ s. s ≢ 7 → IsAmong (0 ∷ 3 ∷ 4 ∷ 8 ∷ []) s) (0 ∷ 3 ∷ 4 ∷ 7 ∷ 8 ∷ []) finish.status among
+              ((λ _. refl), ((λ _. refl), ((λ _. refl), ((λ seven. absurd (seven refl)), ((λ _. refl), tt)))))
+              (λ seven. elim (run.write_fault seven) [ inl report ↦ none.2 report.rose | inr evidence ↦ none.1 evidence.rose ]);
+        };
+  }
+    where
+      from : IsListedFrom l (outside old mid.got mid.faults) new Gets finish
+      from = record {
+        problem = begun.problem;
+        reads = read-for (old.held l.file) begun.problem l.evidence l.resume mid.files new.files is.reads same;
+        first = begun.records;
+        complete = begun.complete;
+        goes_on = is.goes_on;
+        listed = h;
+      }
+
+  pub listing-lists : (e : Ending) → Lists begun.problem begun.records (bounds_for l) l.evidence mid new e
+      → EndsAs (Some (listing l)) (outside old mid.got mid.faults) new e
+  listing-lists (Listed line left) h =
+      let c = left.closing in
+      let status = status_by c.verdict in
+      let reported = is_reported c.verdict h.0.enough_memory in
+      let among = reported-known status reported in
+      let seven = reported-not status 7 reported (omega arith) (omega arith) (omega arith) in
+      let eight = reported-not status 8 reported (omega arith) (omega arith) (omega arith) in
+      let Line : List ℕ → Type 0 = λ told. line.items ≡ told in
+      run-listed Line (after status left) among h.2.unasked
+      (run-after (bounds_for l) l.evidence old mid new Line (after status left) reads is.quiet among h.0.left.spent h.2.leaves h.2.unasked (λ e. absurd (eight e))
+      (λ _. (h.2.quiet, h.4)) (λ e. absurd (seven e)) (λ _. h.1))
+      (record {
+        closing = c;
+        left = refl;
+        enumerated = enumerated h.0.left.closed h.0.enough_memory;
+        valid = where-asked l.evidence (IsValid begun.problem c) (λ wanted. valid-from c h.0.left.closed (h.2.ids wanted));
+        verdict = λ _. refl;
+        evidence = λ _. h.2.written;
+        whole = λ zero. subst (ToldAppends mid.got new.got) (whole-text begun.problem c zero) h.3;
+        partial = λ partial. subst (ToldAppends mid.got new.got) (partial-text begun.problem c partial) h.3;
+        cut_off = λ e. absurd (seven e);
+        memory = λ e. absurd (eight e);
+      })
+  listing-lists (CutOff left) h =
+      let c = left.closing in
+      let Line : List ℕ → Type 0 = λ told. line_of (CutOff left) ≡ told in
+      let fault : IsReportFault Line (outside old mid.got mid.faults) new = record { rose = h.3; line = refl } in
+      run-listed Line (after 7 left) refl h.1.unasked
+      (run-after (bounds_for l) l.evidence old mid new Line (after 7 left) reads is.quiet refl h.0.left.spent h.1.leaves h.1.unasked (λ e. absurd (omega arith))
+      (λ e. absurd (false≢true e)) (λ _. inl fault) (λ e. absurd (false≢true e)))
+      (record {
+        closing = c;
+        left = refl;
+        enumerated = enumerated h.0.left.closed h.0.enough_memory;
+        valid = where-asked l.evidence (IsValid begun.problem c) (λ wanted. valid-from c h.0.left.closed (h.1.ids wanted));
+        verdict = λ e. absurd (false≢true e);
+        evidence = λ e. absurd (false≢true e);
+        whole = λ e. absurd (omega arith);
+        partial = λ e. absurd (false≢true e);
+        cut_off = λ _. inl (record { fault = fault; front = h.2; evidence = h.1.written });
+        memory = λ e. absurd (omega arith);
+      })
+  listing-lists (EvidenceCutOff left) h =
+      let c = left.closing in
+      let Line : List ℕ → Type 0 = λ told. line_of (EvidenceCutOff left) ≡ told in
+      let fault : IsEvidenceFault l.evidence Line (outside old mid.got mid.faults) new =
+      record { wanted = h.1.wanted; rose = subst (λ n. Rose n new.files.write_faults) reads.write_faults h.2; line = refl; silent = h.3 } in
+      run-listed Line (after 7 left) refl (λ none. absurd (h.1.wanted none))
+      (run-after (bounds_for l) l.evidence old mid new Line (after 7 left) reads is.quiet refl h.0.left.spent h.1.leaves (λ none. absurd (h.1.wanted none))
+      (λ e. absurd (omega arith)) (λ e. absurd (false≢true e)) (λ _. inr fault) (λ e. absurd (false≢true e)))
+      (record {
+        closing = c;
+        left = refl;
+        enumerated = enumerated h.0.left.closed h.0.enough_memory;
+        valid = where-asked l.evidence (IsValid begun.problem c) (λ wanted. valid-from c h.0.left.closed h.1.ids);
+        verdict = λ e. absurd (false≢true e);
+        evidence = λ e. absurd (false≢true e);
+        whole = λ e. absurd (omega arith);
+        partial = λ e. absurd (false≢true e);
+        cut_off = λ _. inr (record { fault = fault; front = h.1.front });
+        memory = λ e. absurd (omega arith);
+      })
+  listing-lists (EvidenceMemory left) h =
+      let c = left.closing in
+      let Line : List ℕ → Type 0 = λ told. line_of (EvidenceMemory left) ≡ told in
+      run-listed Line (after 8 left) refl (λ none. absurd (h.1.wanted none))
+      (run-after (bounds_for l) l.evidence old mid new Line (after 8 left) reads is.quiet refl h.0.left.spent h.1.leaves (λ none. absurd (h.1.wanted none))
+      (λ _. h.2) (λ e. absurd (false≢true e)) (λ e. absurd (omega arith)) (λ _. refl))
+      (record {
+        closing = c;
+        left = refl;
+        enumerated = enumerated h.0.left.closed h.0.enough_memory;
+        valid = where-asked l.evidence (IsValid begun.problem c) (λ wanted. valid-from c h.0.left.closed h.1.ids);
+        verdict = λ e. absurd (false≢true e);
+        evidence = λ e. absurd (false≢true e);
+        whole = λ e. absurd (omega arith);
+        partial = λ e. absurd (false≢true e);
+        cut_off = λ e. absurd (omega arith);
+        memory = λ _. (h.1.wanted, h.1.front);
+      })
+  listing-lists Memory h =
+      subst (λ o. EndsAs (Some (listing l)) (outside old mid.got mid.faults) o Memory) (sym h)
+      (record {
+        every =
+            run-bare (bounds_for l) l.evidence old mid.files mid.got mid.faults (λ told. line_of Memory ≡ told) 8 refl reads (λ _. is.quiet) (λ _. refl);
+        done = listing-memory l (outside old mid.got mid.faults) mid (λ told. line_of Memory ≡ told) reads;
+      })
+  listing-lists _ h = absurd h
+
+-- ---- a checking
+
+module _ (c : Checking) (old : FilesState) (mid new : Outside) (begun : Beginning) (reads : ReadingLeaves old mid.files)
+    (is : IsBegun c.file (Some c.evidence) old mid.files begun) (untouched : new.files ≡ mid.files) where
+  abbrev report : List ℕ
+  report = shown_report begun.problem begun.complete begun.records
+
+  run-checked : (Gets : List ℕ → Type 0) (status : ℕ) → IsAmong (0 ∷ 7 ∷ []) status → (status ≡ 0 → (new.faults ≡ mid.faults) × ToldAppends mid.got new.got report)
+      → (status ≡ 7 → IsReportFault Gets (outside old mid.got mid.faults) new × ToldGrowsWithin mid.got new.got report)
+      → (status ≡ 0 → Gets [])
+      → IsObeyed (Some (checking c)) (outside old mid.got mid.faults) new Gets (bare status)
+  run-checked Gets status among whole cut line = record {
+    every =
+        run-after (bounds_of (Some (checking c))) None old mid new Gets (bare status) reads is.quiet
+        (among-by (IsAmong (0 ∷ 3 ∷ 4 ∷ 7 ∷ 8 ∷ [])) (0 ∷ 7 ∷ []) status among (refl, (refl, tt))) refl
+        (subst (WritingLeaves (λ name. None ≡ Some name) mid.files) (sym untouched) (writes-nothing (λ name. None ≡ Some name) mid.files)) (λ _. untouched)
+        (λ eight. absurd (among-by (λ s. s ≢ 8) (0 ∷ 7 ∷ []) status among (omega arith, (omega arith, tt)) eight))
+        (λ r. (ap (λ (f : FilesState). f.write_faults) untouched, (whole (zero (λ seven. false≢true (subst IsReported seven r)))).0))
+        (λ seven. inl (cut seven).0)
+        (λ t. subst (λ s. Gets (error_line (bounds_of (Some (checking c))) s)) (sym (zero (λ seven. false≢true (subst IsToldByStatus seven t))))
+        (line (zero (λ seven. false≢true (subst IsToldByStatus seven t)))));
+    done =
+        record {
+          statuses = among-by (IsAmong (0 ∷ 5 ∷ 6 ∷ 7 ∷ 8 ∷ 9 ∷ [])) (0 ∷ 7 ∷ []) status among (refl, (refl, tt));
+          nothing_listed = refl;
+          checked =
+              λ _.
+              record {
+                problem = begun.problem;
+                reads = read-alone (old.held c.file) begun.problem None (Some c.evidence) mid.files.unread is.reads;
+                complete = begun.complete;
+                records = begun.records;
+                shown = is.goes_on;
+                whole = λ e. (whole e).1;
+                cut_off = cut;
+              };
+          judged =
+              unjudged c.file (Some c.evidence) old new.files Gets status (among-by (λ s. s ≢ 5) (0 ∷ 7 ∷ []) status among (omega arith, (omega arith, tt)))
+              (among-by (λ s. s ≢ 6) (0 ∷ 7 ∷ []) status among (omega arith, (omega arith, tt)))
+              (among-by (λ s. s ≢ 9) (0 ∷ 7 ∷ []) status among (omega arith, (omega arith, tt)));
+          accepted = λ none ok. subst (IsAmong (0 ∷ 8 ∷ [])) (sym (zero (λ seven. none.2 (cut seven).0.rose))) refl;
+        };
+  }
+    where
+      zero : status ≢ 7 → status ≡ 0
+      zero = among-by (λ s. s ≢ 7 → s ≡ 0) (0 ∷ 7 ∷ []) status among ((λ _. refl), ((λ seven. absurd (seven refl)), tt))
+
+  pub checking-reports : (e : Ending) → Reports report mid new e → EndsAs (Some (checking c)) (outside old mid.got mid.faults) new e
+  checking-reports Checked h =
+      run-checked (λ told. line_of Checked ≡ told) 0 refl (λ _. (h.1, h.0)) (λ e. absurd (omega arith)) (λ _. refl)
+  checking-reports CheckCutOff h =
+      run-checked (λ told. line_of CheckCutOff ≡ told) 7 refl (λ e. absurd (omega arith)) (λ _. (record { rose = h.1; line = refl }, h.0)) (λ e. absurd (omega arith))
+  checking-reports Memory h =
+      subst (λ o. EndsAs (Some (checking c)) (outside old mid.got mid.faults) o Memory) (sym h)
+      (record {
+        every =
+            run-bare (bounds_of (Some (checking c))) None old mid.files mid.got mid.faults (λ told. line_of Memory ≡ told) 8 refl reads (λ _. is.quiet) (λ _. refl);
+        done = checking-memory c (outside old mid.got mid.faults) mid (λ told. line_of Memory ≡ told);
+      })
+  checking-reports _ h = absurd h
+
+-- ---- a drilling
+
+module _ (d : Drilling) (old new : Outside) (untouched : new.files ≡ old.files) where
+  run-drilled : (Gets : List ℕ → Type 0) (finish : Finish) → IsAmong (0 ∷ 3 ∷ 4 ∷ 7 ∷ []) finish.status → finish.spent ≡ learned_in finish.logs
+      → IsDrilled (made_case d.seed d.size) (drill_bounds d.jobs) old new Gets finish → (IsReported finish.status → new.faults ≡ old.faults)
+      → (IsToldByStatus finish.status → Gets (error_line (drill_bounds d.jobs) finish.status))
+      → IsObeyed (Some (drilling d)) old new Gets finish
+  run-drilled Gets finish among learned h quiet line = record {
+    every =
+        run-after (drill_bounds d.jobs) None old.files old new Gets finish (ReadingLeaves-nothing old.files) refl known learned
+        (subst (WritingLeaves (λ name. None ≡ Some name) old.files) (sym untouched) (writes-nothing (λ name. None ≡ Some name) old.files)) (λ _. untouched)
+        (λ eight. absurd (other eight)) (λ r. (ap (λ (f : FilesState). f.write_faults) untouched, quiet r)) (λ seven. inl (h.cut_off seven).0) line;
+    done =
+        record {
+          statuses = known;
+          drilled = λ _. h;
+          memory = λ eight. absurd (other eight);
+          written =
+              λ none.
+              among-by (λ s. s ≢ 7 → IsAmong (0 ∷ 3 ∷ 4 ∷ 8 ∷ []) s) (0 ∷ 3 ∷ 4 ∷ 7 ∷ []) finish.status among
+              ((λ _. refl), ((λ _. refl), ((λ _. refl), ((λ seven. absurd (seven refl)), tt)))) (λ seven. none (h.cut_off seven).0.rose);
+          untouched = untouched;
+        };
+  }
+    where
+      known : IsAmong (0 ∷ 3 ∷ 4 ∷ 7 ∷ 8 ∷ []) finish.status
+      known = among-by (IsAmong (0 ∷ 3 ∷ 4 ∷ 7 ∷ 8 ∷ [])) (0 ∷ 3 ∷ 4 ∷ 7 ∷ []) finish.status among (refl, (refl, (refl, (refl, tt))))
+
+      other : finish.status ≢ 8
+      other = among-by (λ s. s ≢ 8) (0 ∷ 3 ∷ 4 ∷ 7 ∷ []) finish.status among (omega arith, (omega arith, (omega arith, (omega arith, tt))))
+
+  pub drilling-drills : (e : Ending) → Drills (made_case d.seed d.size) (drill_bounds d.jobs) old new e → EndsAs (Some (drilling d)) old new e
+  drilling-drills (Listed line left) h =
+      let c = left.closing in
+      let status = status_by c.verdict in
+      let reported = is_reported c.verdict h.0.enough_memory in
+      run-drilled (λ told. line.items ≡ told) (after status left)
+      (among-by IsAfterwards (0 ∷ 3 ∷ 4 ∷ []) status reported (refl, (refl, (refl, tt)))) h.0.left.spent
+      (record {
+        closing = c;
+        left = refl;
+        enumerated = enumerated h.0.left.closed h.0.enough_memory;
+        verdict = λ _. refl;
+        whole = λ zero. subst (ToldAppends old.got new.got) (full_counts-from h.0.left.closed (complete_by c.verdict zero)) h.2;
+        partial = λ _. h.2;
+        cut_off = λ seven. absurd (reported-not status 7 reported (omega arith) (omega arith) (omega arith) seven);
+      })
+      (λ _. h.3) (λ _. h.1)
+  drilling-drills (CutOff left) h =
+      run-drilled (λ told. line_of (CutOff left) ≡ told) (after 7 left) refl h.0.left.spent
+      (record {
+        closing = left.closing;
+        left = refl;
+        enumerated = enumerated h.0.left.closed h.0.enough_memory;
+        verdict = λ e. absurd (false≢true e);
+        whole = λ e. absurd (omega arith);
+        partial = λ e. absurd (false≢true e);
+        cut_off = λ _. (record { rose = h.2; line = refl }, h.1);
+      })
+      (λ e. absurd (false≢true e)) (λ e. absurd (false≢true e))
+  drilling-drills Memory h =
+      subst (λ o. EndsAs (Some (drilling d)) old o Memory) (sym h)
+      (record { every = every-memory (drill_bounds d.jobs) None old; done = drilling-memory d old (λ told. line_of Memory ≡ told) })
+  drilling-drills _ h = absurd h

@@ -91,10 +91,12 @@ named-still name None (Some x) named stays = cc
 named-still name (Some y) (Some x) named stays = let same : y ≡ x = cc in sym same ∙ named
 
 pub written-finished : (opened last new : FilesState) (name text : List ℕ) → IfSome opened.output (λ o. o ≡ Some name) → IsEmptyWhereTold opened.written
-    → HoldsWhatIsWritten opened → IsTaken opened last text → new.written ≡ last.written → new.held ≡ last.held → IsWritten name text new
-written-finished opened last new name text named empty holds took written held = record {
+    → HoldsWhatIsWritten opened → IsTaken opened last text → new.written ≡ last.written → new.held ≡ last.held
+    → IfSome new.output (λ output. output ≡ None) → IsWritten name text new
+written-finished opened last new name text named empty holds took written held ended = record {
   written = subst (λ told. IfSome told (λ bytes. bytes ≡ text)) (sym written) (grown opened.written last.written text empty took.grew);
   held = by last.written refl;
+  ended = ended;
 }
   where
     named-last : IfSome last.output (λ o. o ≡ Some name)

@@ -1,5 +1,5 @@
 -- What is left of an enumeration, and what it says of the problem.
-use Rattle.std.specs.Prelude.{◌≡◌, ℕ, ◌<◌, Bool, true, false, List, [], ◌∷◌, ◌++◌, slice_index_or, if◌then◌else◌}
+use Rattle.std.specs.Prelude.{◌≡◌, ◌≢◌, ℕ, ◌<◌, max, length, Bool, true, false, List, [], ◌∷◌, ◌++◌, slice_index_or, if◌then◌else◌}
 use Rattle.std.specs.List.{filter, AllByRecursion}
 use Rattle.gm_base.specs.Problem.{Problem}
 use Rattle.gm_base.specs.declared.kind.Kind.TheVariants.{Conflict, Correction}
@@ -17,6 +17,7 @@ use Rattle.map_core.specs.declared.entry.Opening.{Opening}
 use Rattle.map_core.specs.declared.closing.Verdict.{Verdict}
 use Rattle.map_core.specs.declared.closing.Verdict.TheVariants as verdict
 use Rattle.map_core.specs.declared.closing.Closing.{Closing}
+use Rattle.map_core.specs.Closings.{HoldsAll}
 use Rattle.map_core.specs.Core.{is_held}
 use Rattle.map_core.specs.Own.{calls_of}
 use Rattle.map_core.specs.Sound.{AreNew}
@@ -73,6 +74,23 @@ pub record IsBudgetSpent (p : Problem) (b : Bounds) (logs : List (List LogStep))
   pub dry : last.reply ≡ Dry
   pub map_undecided : last.call ≡ Take → Undecided (db_of map_log) []
   pub workers_undecided : (w : ℕ) (d : List LogStep) → w < b.jobs → EndsUndecided p (slice_index_or worker_logs w d) (calls_of w closing.history)
+
+-- there are just as many records as were wanted, or as it began with, where those were more
+abbrev pub HasLimit : List Record → Bounds → Closing → Type 0
+HasLimit first b closing = length closing.records ≡ max b.limit (length first)
+
+-- what the logs and the closing of an enumeration that had memory tell of the problem
+pub record IsEnumerated (p : Problem) (first : List Record) (b : Bounds) (logs : List (List LogStep)) (closing : Closing) : Type 0 where
+  pub closed : IsClosedFor p first b logs closing
+  -- the records that it began with come first
+  pub begins : (more : List Record) × (closing.records ≡ first ++ more)
+  -- the records are of minimal conflicts and minimal corrections, no two the same
+  pub minimal : AreDistinctMinimal p closing.records
+  pub enough_memory : closing.verdict ≢ verdict.Memory
+  -- nothing is missing, the budget is spent, or there are as many as were wanted
+  pub all : closing.verdict ≡ verdict.Complete → HoldsAll p closing.records
+  pub budget : closing.verdict ≡ verdict.Budget → IsBudgetSpent p b logs closing
+  pub limit : closing.verdict ≡ verdict.Limit → HasLimit first b closing
 
 -- the report of an enumeration that is over: of all, where nothing is missing, else of what the records hold
 abbrev pub report_for : Problem → Closing → List ℕ

@@ -1,15 +1,15 @@
 -- How a run ends: what it answers, and what it tells on standard error.
 --
--- Another command joins by a line in `finish_of` for each new ending, with its text in `plain_line`; if it enumerates, its
--- endings hold an `Enumerated`, and it promises `IsEnumerated` of its problem and, in a record beside `IsListed`, its texts, as
--- `IsDrilled` does.
+-- Another command is a file beside `Listing`, with its record; a line in `IsDone`, and one in `run`. It brings a line in
+-- `finish_of` for each ending that is new, with its text in `plain_line`. If it enumerates, its endings hold an `Enumerated`,
+-- and its record says `IsEnumerated` of its problem, as `IsDrilled` does.
 use Rattle.std.specs.Prelude.{ℕ, List, [], ◌==◌, codes, if◌then◌else◌, Some, None}
 use Rattle.map_core.specs.declared.closing.Verdict.{Verdict}
 use Rattle.map_core.specs.declared.closing.Verdict.TheVariants as verdict
 use Rattle.gm_tool.specs.declared.enumeration.Bounds.{Bounds}
 use Rattle.gm_tool.specs.declared.enumeration.Enumerated.{Enumerated}
 use Rattle.gm_tool.specs.declared.ending.Ending.{Ending}
-use Rattle.gm_tool.specs.declared.ending.Ending.TheVariants.{BadWords, Refused, ReadFault, EvidenceFault, EvidenceRefused, Checked, CheckCutOff, Memory, Listed, CutOff, EvidenceCutOff}
+use Rattle.gm_tool.specs.declared.ending.Ending.TheVariants.{BadWords, Refused, ReadFault, EvidenceFault, EvidenceRefused, Checked, CheckCutOff, Memory, Listed, CutOff, EvidenceCutOff, EvidenceMemory}
 use Rattle.gm_tool.specs.declared.ending.Finish.{Finish}
 use Rattle.gm_tool.specs.Lines.{budget_line, limit_line}
 
@@ -41,6 +41,7 @@ finish_of Memory = bare 8
 finish_of (Listed line left) = after (status_by left.closing.verdict) left
 finish_of (CutOff left) = after 7 left
 finish_of (EvidenceCutOff left) = after 7 left
+finish_of (EvidenceMemory left) = after 8 left
 
 -- the texts that tell which file could not be read
 abbrev pub input_fault_line : List ℕ

@@ -1,70 +1,72 @@
--- What a listing tells of its problem, by the status that it ends with.
-use Rattle.std.specs.Prelude.{◌≡◌, ◌≢◌, ◌⊎◌, ℕ, max, List, [], ◌∷◌, ◌++◌, length, ◌==◌, Option, MatchOption, IsTrue}
-use Rattle.std.specs.List.{list_any}
+-- What a listing tells: what each status says, its cause, and what has to come.
+use Rattle.std.specs.Prelude.{◌≡◌, ◌≢◌, ◌⊎◌, ℕ, Bool, List, [], ◌∷◌, Option, Some, None, IfSome}
 use Rattle.gm_base.specs.Problem.{Problem}
+use Rattle.gm_ports.specs.FilesState.{ReadingLeaves}
 use Rattle.gm_ports.specs.Told.{ToldAppends, ToldGrowsWithin}
-use Rattle.gcnf_text.specs.declared.offence.Offence.{Offence}
-use Rattle.lrat_steps.specs.Log.{LogStep}
+use Rattle.gm_words.specs.Reading.{Listing}
 use Rattle.evidence_rec.specs.declared.record.Record.{Record}
-use Rattle.map_core.specs.declared.closing.Verdict.TheVariants as verdict
 use Rattle.map_core.specs.declared.closing.Closing.{Closing}
-use Rattle.map_core.specs.Closings.{HoldsAll}
 use Rattle.gm_tool.specs.declared.enumeration.Bounds.{Bounds}
-use Rattle.gm_tool.specs.declared.file_report.Prepared.{Prepared}
-use Rattle.gm_tool.specs.declared.ending.Ending.{Ending}
-use Rattle.gm_tool.specs.declared.ending.Ending.TheVariants.{Memory}
 use Rattle.gm_tool.specs.declared.ending.Finish.{Finish}
-use Rattle.gm_tool.specs.Closed.{IsLeft, IsClosedFor, IsBudgetSpent, AreDistinctMinimal, full_report, held_report, report_for}
-use Rattle.gm_tool.specs.Endings.{bare, error_line, finish_of, line_of, status_by}
-use Rattle.gm_tool.specs.Refusals.{refusal_line}
+use Rattle.gm_tool.specs.Closed.{IsEnumerated, full_report, held_report, report_for}
+use Rattle.gm_tool.specs.Endings.{bare, status_by}
+use Rattle.gm_tool.specs.Evidence.{evidence_of, IsValid}
+use Rattle.gm_tool.specs.Input.{OfFile, IsReadFor}
+use Rattle.gm_tool.specs.Judging.{IsJudged, AreAccepted}
+use Rattle.gm_tool.specs.Outside.{Outside, NoneRose}
+use Rattle.gm_tool.specs.Resuming.{GoesOnFrom}
+use Rattle.gm_tool.specs.Run.{IsReportFault, IsEvidenceFault}
+use Rattle.gm_tool.specs.Statuses.{IsAmong, IsAfterwards, IsReported, IsPartial}
+use Rattle.gm_tool.specs.Writing.{IsWritten, IsFront}
 
-abbrev pub IsAmong : List ℕ → ℕ → Type 0
-IsAmong statuses status = IsTrue (list_any (λ s. status == s) statuses)
+-- the bounds that a listing is asked for
+abbrev pub bounds_for : Listing → Bounds
+bounds_for l = record { jobs = l.jobs; conflicts = l.conflicts; limit = l.limit }
 
--- the statuses that come after an enumeration
-abbrev pub IsAfterwards : ℕ → Type 0
-IsAfterwards status = IsAmong (0 ∷ 3 ∷ 4 ∷ 7 ∷ []) status
+-- the report was cut off, behind evidence that stands whole where it was asked for
+pub record IsReportCut (p : Problem) (asked : Option (List ℕ)) (closing : Closing) (old new : Outside) (Gets : List ℕ → Type 0) : Type 0 where
+  pub fault : IsReportFault Gets old new
+  pub front : ToldGrowsWithin old.got new.got (report_for p closing)
+  pub evidence : IfSome asked (λ name. IsWritten name (evidence_of p closing) new.files)
 
--- those with a partial report
-abbrev pub IsPartial : ℕ → Type 0
-IsPartial status = IsAmong (3 ∷ 4 ∷ []) status
+-- the evidence was cut off, and the report got nothing
+pub record IsEvidenceCut (p : Problem) (asked : Option (List ℕ)) (closing : Closing) (old new : Outside) (Gets : List ℕ → Type 0) : Type 0 where
+  pub fault : IsEvidenceFault asked Gets old new
+  pub front : IsFront (evidence_of p closing) new.files
 
--- there are just as many records as were wanted, or as it began with, where those were more
-abbrev pub HasLimit : List Record → Bounds → Closing → Type 0
-HasLimit first b closing = length closing.records ≡ max b.limit (length first)
+-- the enumeration of a problem is over, which began with these records and was asked for evidence under this name, if any
+pub record IsListed (p : Problem) (first : List Record) (b : Bounds) (asked : Option (List ℕ)) (old new : Outside) (Gets : List ℕ → Type 0) (finish : Finish) : Type 0 where
+  -- what is left of it, and that as evidence it is valid
+  pub closing : Closing
+  pub left : finish.closing ≡ Some closing
+  pub enumerated : IsEnumerated p first b finish.logs closing
+  pub valid : IfSome asked (λ _. IsValid p closing)
+  -- with 0, 3 and 4 the status is that of the verdict, and the evidence is written; with 0 then the whole report, with 3 and 4
+  -- the partial one, and nothing else
+  pub verdict : IsReported finish.status → status_by closing.verdict ≡ finish.status
+  pub evidence : IsReported finish.status → IfSome asked (λ name. IsWritten name (evidence_of p closing) new.files)
+  pub whole : finish.status ≡ 0 → ToldAppends old.got new.got (full_report p)
+  pub partial : IsPartial finish.status → ToldAppends old.got new.got (held_report p closing.records)
+  -- with 7 either of the two was cut off, and with 8 the evidence, of which a front part was written
+  pub cut_off : finish.status ≡ 7 → IsReportCut p asked closing old new Gets ⊎ IsEvidenceCut p asked closing old new Gets
+  pub memory : finish.status ≡ 8 → (asked ≢ None) × IsFront (evidence_of p closing) new.files
 
--- what the logs and the closing of an enumeration tell of the problem, with each status that comes after one
-pub record IsEnumerated (p : Problem) (first : List Record) (b : Bounds) (status : ℕ) (logs : List (List LogStep)) (closing : Closing) : Type 0 where
-  pub closed : IsClosedFor p first b logs closing
-  -- the records that it began with come first
-  pub begins : (more : List Record) × (closing.records ≡ first ++ more)
-  -- the records are of minimal conflicts and minimal corrections, no two the same; with status 0 of all
-  pub minimal : AreDistinctMinimal p closing.records
-  pub all : status ≡ 0 → HoldsAll p closing.records
-  pub enough_memory : closing.verdict ≢ verdict.Memory
-  -- the status is that of the verdict, unless the report could not be written
-  pub verdict : status ≢ 7 → status_by closing.verdict ≡ status
-  pub budget : status ≡ 3 → IsBudgetSpent p b logs closing
-  pub limit : status ≡ 4 → HasLimit first b closing
+-- the file is a text of this problem, which was listed from the records that it goes on from
+pub record IsListedFrom (l : Listing) (old new : Outside) (Gets : List ℕ → Type 0) (finish : Finish) : Type 0 where
+  pub problem : Problem
+  pub reads : OfFile (old.files.held l.file) (IsReadFor l.evidence l.resume problem new.files.unread)
+  pub first : List Record
+  -- whether the evidence that it goes on from, if any, is complete
+  pub complete : Bool
+  pub goes_on : GoesOnFrom problem l.resume old.files.held complete first
+  pub listed : IsListed problem first (bounds_for l) l.evidence old new Gets finish
 
--- and what the report's sink got: the whole report, or the partial one, and nothing else; or a front part of either
-pub record IsListed (p : Problem) (first : List Record) (b : Bounds) (status : ℕ) (logs : List (List LogStep)) (old new : Option (List ℕ)) (closing : Closing) : Type 0 where
-  pub enumerated : IsEnumerated p first b status logs closing
-  pub whole : status ≡ 0 → ToldAppends old new (full_report p)
-  pub partial : IsPartial status → ToldAppends old new (held_report p closing.records)
-  pub cut_off : status ≡ 7 → ToldGrowsWithin old new (report_for p closing)
-
--- where the status is one that comes after an enumeration: the problem was listed, and the answer has what is left
-abbrev pub TellsListing : Problem → List Record → Bounds → Option (List ℕ) → Option (List ℕ) → Finish → Type 0
-TellsListing p first b old new finish = MatchOption finish.closing ⊥ (IsListed p first b finish.status finish.logs old new)
-
--- all that is to be written is made, with the text for what is left
-pub record IsPrepared (p : Problem) (first : List Record) (b : Bounds) (text_for : Closing → List ℕ) (prepared : Prepared) : Type 0 where
-  pub left : IsLeft p first b prepared.left
-  pub enough_memory : prepared.left.closing.verdict ≢ verdict.Memory
-  pub line : prepared.line.items ≡ error_line b (status_by prepared.left.closing.verdict)
-  pub text : prepared.text.items ≡ text_for prepared.left.closing
-
--- the ending tells this offence, or memory was wanting for its line
-abbrev pub IsRefusing : Offence → Ending → Type 0
-IsRefusing offence ending = (ending ≡ Memory) ⊎ ((finish_of ending ≡ bare 5) × (line_of ending ≡ refusal_line offence))
+pub record IsListing (l : Listing) (old new : Outside) (Gets : List ℕ → Type 0) (finish : Finish) : Type 0 where
+  pub statuses : IsAmong (0 ∷ 3 ∷ 4 ∷ 5 ∷ 6 ∷ 7 ∷ 8 ∷ 9 ∷ []) finish.status
+  pub listed : IsAfterwards finish.status → IsListedFrom l old new Gets finish
+  -- memory was wanting before any output was opened, and nothing is told of an enumeration; or for the evidence
+  pub memory : finish.status ≡ 8 → (ReadingLeaves old.files new.files × (finish ≡ bare 8)) ⊎ IsListedFrom l old new Gets finish
+  -- 5, 6 and 9 have their causes
+  pub judged : IsJudged l.file l.resume old.files new.files Gets finish.status
+  -- where file and evidence are accepted, and no fault was met, no refusal and no fault is told
+  pub accepted : NoneRose old new → AreAccepted old.files.held l.file l.resume → IsAmong (0 ∷ 3 ∷ 4 ∷ 8 ∷ []) finish.status

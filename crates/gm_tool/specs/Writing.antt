@@ -1,5 +1,5 @@
 -- What it is to write a text to the opened output: what was taken of it, and what a cut leaves.
-use Rattle.std.specs.Prelude.{◌≡◌, ℕ, List, ◌++◌, Some, IfSome}
+use Rattle.std.specs.Prelude.{◌≡◌, ℕ, List, ◌++◌, Some, None, IfSome}
 use Rattle.gm_ports.specs.Faults.{Rose}
 use Rattle.gm_ports.specs.FilesState.{FilesState, WritingLeaves, HoldsWhatIsWritten, StaysAsTold}
 use Rattle.gm_ports.specs.Told.{ToldAppends, ToldGrowsWithin}
@@ -36,10 +36,12 @@ pub record IsCutOff (old new : FilesState) (text : List ℕ) (why : CutOff) : Ty
   pub cause : CutHasCause why old.write_faults new.write_faults
   pub writes : WritesOn old new
 
--- what was written to the output that was opened last is this text; and what the name holds, as far as both are told
+-- what was written to the output that was opened last is this text; and what the name holds, as far as both are told; and it
+-- is ended: where told, no output is opened any more
 pub record IsWritten (name text : List ℕ) (files : FilesState) : Type 0 where
   pub written : IfSome files.written (λ bytes. bytes ≡ text)
   pub held : IfSome files.written (λ bytes. IfSome (files.held name) (λ file. file ≡ Some bytes))
+  pub ended : IfSome files.output (λ output. output ≡ None)
 
 -- what was written to the output that was opened last is a front part of this text
 abbrev pub IsFront : List ℕ → FilesState → Type 0

@@ -22,7 +22,7 @@ pub enum Ending {
     Checked,
     /// It could not be written to its end.
     CheckCutOff,
-    /// Memory was wanting. What an enumeration learnt before is not told.
+    /// Memory was wanting before anything was written. What an enumeration learnt is not told.
     Memory,
     /// The report is written. With the line that tells which bound was reached, if any.
     Listed(Vec<u8>, Enumerated),
@@ -30,6 +30,8 @@ pub enum Ending {
     CutOff(Enumerated),
     /// The evidence could not be written to its end, and no report is written.
     EvidenceCutOff(Enumerated),
+    /// Memory was wanting while the evidence was written, and no report is written.
+    EvidenceMemory(Enumerated),
 }
 
 /// How a run ended: 0 complete or accepted, 2 bad command line, 3 budget spent, 4 limit reached, 5 input refused, 6 read
@@ -94,5 +96,6 @@ pub fn finish_of(alloc: Global, ending: Ending) -> Finish
         Ending::Memory => bare(alloc, 8),
         Ending::Listed(_, left) => after(status_by(left.closing.verdict), left),
         Ending::CutOff(left) | Ending::EvidenceCutOff(left) => after(7, left),
+        Ending::EvidenceMemory(left) => after(8, left),
     }
 }

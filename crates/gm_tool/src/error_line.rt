@@ -1,7 +1,7 @@
 //! The lines on standard error.
 ghost use Rattle.std.specs.Prelude.{◌≡◌};
 ghost use Rattle.gm_tool.specs.Endings.{line_of};
-ghost use Rattle.gm_tool.specs.Run.{GetsLine};
+ghost use Rattle.gm_tool.specs.Outside.{GetsLine};
 
 use crate::ending::Ending;
 use gm_ports::{Sink, write_all};
@@ -18,7 +18,7 @@ fn text_of(ending: &Ending) -> &[u8]
         Ending::ReadFault => b"gmus: read fault on input\n",
         Ending::EvidenceFault => b"gmus: read fault on evidence\n",
         Ending::Checked => b"",
-        Ending::Memory => b"gmus: out of memory\n",
+        Ending::Memory | Ending::EvidenceMemory(_) => b"gmus: out of memory\n",
         Ending::CutOff(_) | Ending::CheckCutOff => b"gmus: write fault on report\n",
         Ending::EvidenceCutOff(_) => b"gmus: write fault on evidence\n",
     }
@@ -26,7 +26,7 @@ fn text_of(ending: &Ending) -> &[u8]
 
 /// Writes the line that comes with an ending. A fault of this sink changes nothing.
 pub fn write_error_line<E: Sink>(err: &mut E, ending: &Ending)
-    ensures { GetsLine (line_of ending.now) (E.got err.old) (E.got err.new) (E.faults err.old) (E.faults err.new) }
+    ensures { GetsLine (E.got err.old) (E.got err.new) (E.faults err.old) (E.faults err.new) (line_of ending.now) }
 {
     let _ = write_all(err, text_of(ending));
 }

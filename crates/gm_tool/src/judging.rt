@@ -2,10 +2,8 @@
 ghost use Rattle.std.specs.Prelude.{◌≡◌, ◌≢◌};
 ghost use Rattle.gm_ports.specs.Faults.{Rose};
 ghost use Rattle.gm_ports.specs.FilesState.{ReadingLeaves};
-ghost use Rattle.gm_tool.specs.Checking.{IsRefusingEvidence, Judges};
+ghost use Rattle.gm_tool.specs.Steps.{Judges};
 
-use crate::ending::Ending;
-use crate::refusal::line_of_evidence;
 use gm_audit::{Audited, audit};
 use gm_base::Problem;
 use gm_ports::{Files, Reading, read_whole};
@@ -41,15 +39,5 @@ pub fn judge<F: Files>(alloc: Global, problem: &Problem, name: &str, files: &mut
         }),
         Reading::Failed => Judged::Failed,
         Reading::Memory => Judged::Memory,
-    }
-}
-
-/// Ends with the line of a refusal.
-pub fn refuse_evidence(alloc: Global, line: u64, why: &Why) -> Ending
-    ensures { IsRefusingEvidence (record { line = line; why = why.now }) result }
-{
-    match line_of_evidence(alloc, line, why) {
-        Ok(line) => Ending::EvidenceRefused(line),
-        Err(AllocError) => Ending::Memory,
     }
 }

@@ -9,25 +9,28 @@
 //!
 //! Or it checks evidence about the file, or makes a case from two numbers and counts its minimal sets.
 //!
-//! Start reading at `run` in `program` and at `specs/Run.antt` and `specs/Listing.antt`, which say what each status tells of
-//! the words, the file, the problem and the report; `specs/Endings.antt` says how another command joins. Then
+//! Start reading at `run` in `program`, at `specs/Run.antt`, which says what holds of every run, and at `specs/Listing.antt`,
+//! which says what each status of `list` tells of the file, the problem, the evidence and the report; `specs/Endings.antt`
+//! says how another command joins. Then `list`, `check` and `drill`, a file a command, and
 //! `enumeration`: an oracle over the learning solver for each worker, a map, and what the workers of `worker_pool` leave of
 //! them, when no set of groups is left, the budget is spent or as many sets are recorded as were wanted.
 //!
 //! Nothing is promised of time, and want of memory may end any run.
 #![tactic(auto)]
 
+mod beginning;
 mod bounds_line;
-mod check_report;
+mod check;
+mod drill;
 mod drill_line;
-mod drill_report;
 mod ending;
 mod enumeration;
 mod error_line;
 mod evidence_file;
-mod file_report;
 mod input;
 mod judging;
+mod list;
+mod prepared;
 mod program;
 mod record_ids;
 mod records_report;

@@ -2,10 +2,9 @@
 //!
 //! No id is above the greatest one that a text can hold: the type of a derivation keeps that. It is asked of each of them
 //! once, before its evidence is written.
-ghost use Rattle.std.specs.Prelude.{All, IfSome};
 ghost use Rattle.std.specs.List.{AllByRecursion};
-ghost use Rattle.sat_base.specs.Derivation.{HasIds};
 ghost use Rattle.evidence_text.specs.Readable.{HasRecordIds};
+ghost use Rattle.gm_tool.specs.Evidence.{HasSmallIds};
 
 use evidence_rec::Record;
 use evidence_text::record_fits;
@@ -13,8 +12,7 @@ use map_core::Closing;
 
 /// That the ids of a closing are small enough. It does nothing: the facts are what its callers want.
 pub fn ids_fit(closing: &Closing)
-    ensures records { AllByRecursion HasRecordIds closing.now.records }
-    ensures proof { IfSome closing.now.proof HasIds }
+    ensures { HasSmallIds closing.now }
 {
     records_fit(closing.records.as_slice());
     if let Some(proof) = &closing.proof {

@@ -1,15 +1,14 @@
 use Rattle.gm_tool.specs.Closed.{is_complete}
 use Rattle.gm_tool.proofs.ReportLemmas.{report_for-from}
 use Rattle.gm_tool.proofs.CheckLemmas.{report_with}
-use Rattle.gm_tool.proofs.file_report.prepare.Goals as goal
+use Rattle.gm_tool.proofs.list.prepare.Goals as goal
 
 -- the text is the report of the sets of the closing's records
 pub returns : goal.returns
 returns g c =
     let left = c.in_ok-left.left in
     record {
-      left = c.in_ok-left.ensures;
-      enough_memory = c.in_ok-line.ensures.enough_memory;
+      over = record { left = c.in_ok-left.ensures; enough_memory = c.in_ok-line.ensures.enough_memory };
       line = c.in_ok-line.ensures.line;
       text =
           report_for-from c.args.problem.now c.args.first c.args.bounds left.logs left.closing c.groups.result c.in_ok-text.text.items

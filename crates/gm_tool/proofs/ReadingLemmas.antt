@@ -1,0 +1,184 @@
+-- What a command begins with, and what stops it before.
+use Rattle.std.proofs.Common.{◌≡◌, ◌≢◌, ℕ, Bool, List, [], ◌∷◌, Option, Some, None, inl, inr, refl, sym, ◌∙◌, ap, subst, arith}
+use Rattle.std.proofs.lemmas.Bool.{false≢true}
+use Rattle.gm_base.specs.Problem.{Problem}
+use Rattle.gm_ports.specs.Faults.{Rose}
+use Rattle.gm_ports.specs.FilesState.{FilesState, ReadingLeaves}
+use Rattle.gcnf_text.specs.Grammar.{Reads}
+use Rattle.gcnf_text.specs.Read.{IsRefused}
+use Rattle.gcnf_text.specs.declared.offence.Offence.{Offence}
+use Rattle.evidence_rec.specs.declared.record.Record.{Record}
+use Rattle.evidence_text.specs.declared.offence.Offence.{Offence as Refusal}
+use Rattle.gm_audit.specs.Refusals.{first_refusal}
+use Rattle.gm_tool.specs.declared.beginning.Beginning.{Beginning}
+use Rattle.gm_tool.specs.declared.enumeration.Bounds.{Bounds}
+use Rattle.gm_tool.specs.declared.ending.Ending.{Ending}
+use Rattle.gm_tool.specs.declared.ending.Ending.TheVariants.{Refused, ReadFault, EvidenceFault, EvidenceRefused, Memory}
+use Rattle.gm_tool.specs.Endings.{bare, error_line, evidence_fault_line, finish_of, line_of}
+use Rattle.gm_tool.specs.Input.{OfFile, IsReadAs, IsReadFor}
+use Rattle.gm_tool.specs.Judging.{IsJudged, IsRefusal, IsEvidenceRefusal, IsEvidenceUnread}
+use Rattle.gm_tool.specs.Resuming.{AreGoodFirst, AreShown, GoesOnFrom}
+use Rattle.gm_tool.specs.Statuses.{IsAmong, IsToldByStatus}
+use Rattle.gm_tool.specs.Steps.{IsBegun, Refuses, RefusesEvidence, Stops}
+
+-- ---- the records that are gone on from
+
+pub good-from : (p : Problem) (evidence : Option (List ℕ)) (held : List ℕ → Option (Option (List ℕ))) (complete : Bool) (first : List Record)
+    → GoesOnFrom p evidence held complete first → AreGoodFirst p first
+good-from p None held complete first none = subst (AreGoodFirst p) (sym none) (record { accepted = tt; distinct = tt })
+good-from p (Some name) held complete first shows = record { accepted = shows.shown.accepted; distinct = shows.shown.distinct }
+
+-- ---- the file
+
+-- the same fact of other bytes, as far as they are told
+pub file-by : (held : Option (Option (List ℕ))) (P Q : List ℕ → Type 0) → ((text : List ℕ) → P text → Q text) → OfFile held P → OfFile held Q
+file-by None P Q f h = tt
+file-by (Some None) P Q f h = h
+file-by (Some (Some text)) P Q f h = f text h
+
+-- what is left unread is told still where no other file was opened
+pub read-for : (held : Option (Option (List ℕ))) (p : Problem) (evidence resume : Option (List ℕ)) (mid new : FilesState)
+    → OfFile held (IsReadFor None resume p mid.unread) → (evidence ≡ None → new ≡ mid) → OfFile held (IsReadFor evidence resume p new.unread)
+read-for held p evidence resume mid new h same =
+    file-by held (IsReadFor None resume p mid.unread) (IsReadFor evidence resume p new.unread)
+    (λ text r. (r.0, λ none nowhere. ap (λ (f : FilesState). f.unread) (same none) ∙ r.1 refl nowhere)) h
+
+pub read-alone : (held : Option (Option (List ℕ))) (p : Problem) (evidence resume unread : Option (List ℕ)) → OfFile held (IsReadFor evidence resume p unread)
+    → OfFile held (λ text. Reads text p)
+read-alone held p evidence resume unread h = file-by held (IsReadFor evidence resume p unread) (λ text. Reads text p) (λ text r. r.0) h
+
+-- ---- the evidence that is named
+
+module _ (p : Problem) (evidence : Option (List ℕ)) (old new : FilesState) (file : List ℕ) where
+  -- none is
+  pub begun-alone : (begun : Beginning) → begun.problem ≡ p → evidence ≡ None → begun.records ≡ [] → OfFile (old.held file) (IsReadAs p old.unread)
+      → IsBegun file evidence old old begun
+  begun-alone begun same none empty reads = record {
+    reads =
+        subst (λ q. OfFile (old.held file) (IsReadFor None evidence q old.unread)) (sym same)
+        (file-by (old.held file) (IsReadAs p old.unread) (IsReadFor None evidence p old.unread) (λ text r. (r.0, λ _ _. r.1)) reads);
+    goes_on = subst (λ e. GoesOnFrom begun.problem e old.held begun.complete begun.records) (sym none) empty;
+    quiet = refl;
+  }
+
+  -- it shows these records
+  pub begun-shown : (begun : Beginning) (name : List ℕ) → begun.problem ≡ p → evidence ≡ Some name → AreShown p (old.held name) begun.complete begun.records
+      → new.read_faults ≡ old.read_faults → OfFile (old.held file) (IsReadAs p old.unread) → IsBegun file evidence old new begun
+  begun-shown begun name same named shows quiet reads = record {
+    reads =
+        subst (λ q. OfFile (old.held file) (IsReadFor None evidence q new.unread)) (sym same)
+        (file-by (old.held file) (IsReadAs p old.unread) (IsReadFor None evidence p new.unread)
+        (λ text r. (r.0, λ _ none. let never : Some name ≡ None = sym named ∙ none in cc)) reads);
+    goes_on =
+        subst (λ e. GoesOnFrom begun.problem e old.held begun.complete begun.records) (sym named)
+        (subst (λ q. AreShown q (old.held name) begun.complete begun.records) (sym same) shows);
+    quiet = quiet;
+  }
+
+  -- it is refused, unless memory is wanting for the line
+  pub stops-refused : (name : List ℕ) (refusal : Refusal) (e : Ending) → evidence ≡ Some name → OfFile (old.held name) (λ text. first_refusal p text ≡ Some refusal)
+      → new.read_faults ≡ old.read_faults → RefusesEvidence refusal e → OfFile (old.held file) (IsReadAs p old.unread) → Stops file evidence old new e
+  stops-refused name refusal (EvidenceRefused line) named first quiet told reads = (
+    quiet,
+    record {
+      name = name;
+      named = named;
+      problem = p;
+      reads = file-by (old.held file) (IsReadAs p old.unread) (λ text. Reads text p) (λ text r. r.0) reads;
+      refusal = refusal;
+      first = first;
+      line = told;
+    },
+  )
+  stops-refused name refusal Memory named first quiet told reads = quiet
+  stops-refused name refusal _ named first quiet told reads = absurd told
+
+  -- it could not be read
+  pub stops-unread : (name : List ℕ) → evidence ≡ Some name → Rose old.read_faults new.read_faults → OfFile (old.held file) (IsReadAs p old.unread)
+      → Stops file evidence old new EvidenceFault
+  stops-unread name named rose reads = (
+    rose,
+    record {
+      named = λ none. let never : Some name ≡ None = sym named ∙ none in cc;
+      problem = p;
+      reads = file-by (old.held file) (IsReadAs p old.unread) (λ text. Reads text p) (λ text r. r.0) reads;
+      line = refl;
+    },
+  )
+
+-- ---- behind the file that is read
+
+module _ (file : List ℕ) (evidence : Option (List ℕ)) (old mid new : FilesState) (leaves : ReadingLeaves old mid) (quiet : mid.read_faults ≡ old.read_faults) where
+  pub begun-behind : (begun : Beginning) → IsBegun file evidence mid new begun → IsBegun file evidence old new begun
+  begun-behind begun h = record {
+    reads = subst (λ held. OfFile (held file) (IsReadFor None evidence begun.problem new.unread)) leaves.names h.reads;
+    goes_on = subst (λ held. GoesOnFrom begun.problem evidence held begun.complete begun.records) leaves.names h.goes_on;
+    quiet = h.quiet ∙ quiet;
+  }
+
+  pub stops-behind : (e : Ending) → Stops file evidence mid new e → Stops file evidence old new e
+  stops-behind (Refused line) h = (h.0 ∙ quiet, subst (λ held. IsRefusal (held file) (λ told. line.items ≡ told)) leaves.names h.1)
+  stops-behind ReadFault h = subst (λ n. Rose n new.read_faults) quiet h
+  stops-behind EvidenceFault h = (
+    subst (λ n. Rose n new.read_faults) quiet h.0,
+    subst (λ held. IsEvidenceUnread held file evidence (λ told. evidence_fault_line ≡ told)) leaves.names h.1,
+  )
+  stops-behind (EvidenceRefused line) h =
+      (h.0 ∙ quiet, subst (λ held. IsEvidenceRefusal held file evidence (λ told. line.items ≡ told)) leaves.names h.1)
+  stops-behind Memory h = h ∙ quiet
+  stops-behind _ h = absurd h
+
+-- the file itself is refused, unless memory is wanting for the line
+pub stops-offence : (file : List ℕ) (evidence : Option (List ℕ)) (old new : FilesState) (offence : Offence) (e : Ending)
+    → OfFile (old.held file) (λ text. IsRefused text offence) → new.read_faults ≡ old.read_faults → Refuses offence e → Stops file evidence old new e
+stops-offence file evidence old new offence (Refused line) first quiet told = (quiet, record { offence = offence; first = first; line = told })
+stops-offence file evidence old new offence Memory first quiet told = quiet
+stops-offence file evidence old new offence _ first quiet told = absurd told
+
+-- ---- what stopped a command, said by its status
+
+pub record IsStopped (b : Bounds) (file : List ℕ) (evidence : Option (List ℕ)) (old new : FilesState) (e : Ending) : Type 0 where
+  pub statuses : IsAmong (5 ∷ 6 ∷ 8 ∷ 9 ∷ []) (finish_of e).status
+  pub bare : finish_of e ≡ bare (finish_of e).status
+  pub quiet : (finish_of e).status ≢ 6 → new.read_faults ≡ old.read_faults
+  pub line : IsToldByStatus (finish_of e).status → line_of e ≡ error_line b (finish_of e).status
+  pub judged : IsJudged file evidence old new (λ told. line_of e ≡ told) (finish_of e).status
+
+pub stopped : (b : Bounds) (file : List ℕ) (evidence : Option (List ℕ)) (old new : FilesState) (e : Ending) → Stops file evidence old new e
+    → IsStopped b file evidence old new e
+stopped b file evidence old new (Refused line) h = record {
+  statuses = refl;
+  bare = refl;
+  quiet = λ _. h.0;
+  line = λ told. absurd (false≢true told);
+  judged = record { refused = λ _. h.1; read_fault = λ n. absurd (omega arith); fault_line = λ n. absurd (omega arith); evidence_refused = λ n. absurd (omega arith) };
+}
+stopped b file evidence old new ReadFault h = record {
+  statuses = refl;
+  bare = refl;
+  quiet = λ other. absurd (other refl);
+  line = λ told. absurd (false≢true told);
+  judged = record { refused = λ n. absurd (omega arith); read_fault = λ _. h; fault_line = λ _. inl refl; evidence_refused = λ n. absurd (omega arith) };
+}
+stopped b file evidence old new EvidenceFault h = record {
+  statuses = refl;
+  bare = refl;
+  quiet = λ other. absurd (other refl);
+  line = λ told. absurd (false≢true told);
+  judged = record { refused = λ n. absurd (omega arith); read_fault = λ _. h.0; fault_line = λ _. inr h.1; evidence_refused = λ n. absurd (omega arith) };
+}
+stopped b file evidence old new (EvidenceRefused line) h = record {
+  statuses = refl;
+  bare = refl;
+  quiet = λ _. h.0;
+  line = λ told. absurd (false≢true told);
+  judged = record { refused = λ n. absurd (omega arith); read_fault = λ n. absurd (omega arith); fault_line = λ n. absurd (omega arith); evidence_refused = λ _. h.1 };
+}
+stopped b file evidence old new Memory h = record {
+  statuses = refl;
+  bare = refl;
+  quiet = λ _. h;
+  line = λ _. refl;
+  judged = record { refused = λ n. absurd (omega arith); read_fault = λ n. absurd (omega arith); fault_line = λ n. absurd (omega arith); evidence_refused = λ n. absurd (omega arith) };
+}
+stopped b file evidence old new _ h = absurd h

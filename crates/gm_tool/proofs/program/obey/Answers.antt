@@ -1,0 +1,41 @@
+use Rattle.std.proofs.Common.{Some, ◌∙◌, ap, option_map, subst, sym}
+use Rattle.gm_words.specs.Requests.{asked_by}
+use Rattle.gm_tool.specs.declared.ending.Ending.TheVariants.{BadWords}
+use Rattle.gm_tool.specs.Outside.{outside}
+use Rattle.gm_tool.specs.Words.{EndsAs, asked_in}
+use Rattle.gm_tool.proofs.RunLemmas.{bad_words, memory-at_once}
+use Rattle.gm_tool.proofs.program.obey.Goals as goal
+
+-- each command is the one that the words ask for
+pub returns-in-Ok-Some-List : goal.returns-in-Ok-Some-List
+returns-in-Ok-Some-List g c =
+    let w = c.in-Ok-Some-List in
+    let old = outside (g.F.Files.state c.args.files.now) (g.O.Sink.got c.args.out.now) (g.O.Sink.faults c.args.out.now) in
+    let new = outside (g.F.Files.state c.list_file.new.files) (g.O.Sink.got c.list_file.new.out) (g.O.Sink.faults c.list_file.new.out) in
+    subst (λ asked. EndsAs asked old new c.list_file.result) (sym (ap (option_map asked_by) (w.field-0-is ∙ ap Some w.field-0-0-is)) ∙ w.ensures.asked) c.list_file.ensures
+
+pub returns-in-Ok-Some-Check : goal.returns-in-Ok-Some-Check
+returns-in-Ok-Some-Check g c =
+    let w = c.in-Ok-Some-Check in
+    let old = outside (g.F.Files.state c.args.files.now) (g.O.Sink.got c.args.out.now) (g.O.Sink.faults c.args.out.now) in
+    let new = outside (g.F.Files.state c.check_file.new.files) (g.O.Sink.got c.check_file.new.out) (g.O.Sink.faults c.check_file.new.out) in
+    subst (λ asked. EndsAs asked old new c.check_file.result) (sym (ap (option_map asked_by) (w.field-0-is ∙ ap Some w.field-0-0-is)) ∙ w.ensures.asked) c.check_file.ensures
+
+pub returns-in-Ok-Some-Drill : goal.returns-in-Ok-Some-Drill
+returns-in-Ok-Some-Drill g c =
+    let w = c.in-Ok-Some-Drill in
+    let old = outside (g.F.Files.state c.args.files.now) (g.O.Sink.got c.args.out.now) (g.O.Sink.faults c.args.out.now) in
+    let new = outside (g.F.Files.state c.args.files.now) (g.O.Sink.got c.drill_case.new.out) (g.O.Sink.faults c.drill_case.new.out) in
+    subst (λ asked. EndsAs asked old new c.drill_case.result) (sym (ap (option_map asked_by) (w.field-0-is ∙ ap Some w.field-0-0-is)) ∙ w.ensures.asked)
+    (c.drill_case.ensures (g.F.Files.state c.args.files.now))
+
+-- words without a reading touch nothing
+pub returns-in-Ok-None : goal.returns-in-Ok-None
+returns-in-Ok-None g c =
+    let old = outside (g.F.Files.state c.args.files.now) (g.O.Sink.got c.args.out.now) (g.O.Sink.faults c.args.out.now) in
+    subst (λ asked. EndsAs asked old old BadWords) (sym (ap (option_map asked_by) c.in-Ok-None.field-0-is) ∙ c.in-Ok-None.ensures.asked) (bad_words old)
+
+-- nor do those for which memory is wanting
+pub returns-in-Err : goal.returns-in-Err
+returns-in-Err g c =
+    memory-at_once (asked_in c.args.words.now) (outside (g.F.Files.state c.args.files.now) (g.O.Sink.got c.args.out.now) (g.O.Sink.faults c.args.out.now))

@@ -1,0 +1,54 @@
+-- What the words of a run ask for, and what is then true.
+use Rattle.std.specs.Prelude.{◌≡◌, ℕ, List, [], ◌∷◌, map, Option, Some, None, String}
+use Rattle.std.specs.String.{string_bytes}
+use Rattle.gm_words.specs.Reading.{Asked, words_read, listing, checking, drilling}
+use Rattle.gm_tool.specs.declared.enumeration.Bounds.{Bounds}
+use Rattle.gm_tool.specs.declared.ending.Ending.{Ending}
+use Rattle.gm_tool.specs.declared.ending.Finish.{Finish}
+use Rattle.gm_tool.specs.Checking.{IsChecking}
+use Rattle.gm_tool.specs.Drilling.{IsDrilling, drill_bounds}
+use Rattle.gm_tool.specs.Endings.{bare, finish_of, line_of}
+use Rattle.gm_tool.specs.Listing.{IsListing, bounds_for}
+use Rattle.gm_tool.specs.Outside.{Outside}
+use Rattle.gm_tool.specs.Run.{IsRun}
+use Rattle.gm_tool.specs.Statuses.{IsAmong}
+
+-- what the words ask for, if they have a reading
+abbrev pub asked_in : {Z : Type 0} → List (String Z) → Option Asked
+asked_in words = words_read (map string_bytes words)
+
+-- the bounds that they ask for; no bound is named where they ask for no enumeration, and a drilling has the greatest
+abbrev pub bounds_of : Option Asked → Bounds
+bounds_of None = record { jobs = 0; conflicts = 0; limit = 0 }
+bounds_of (Some (listing l)) = bounds_for l
+bounds_of (Some (checking c)) = record { jobs = 0; conflicts = 0; limit = 0 }
+bounds_of (Some (drilling d)) = drill_bounds d.jobs
+
+-- the name under which they ask for evidence
+abbrev pub evidence_asked : Option Asked → Option (List ℕ)
+evidence_asked None = None
+evidence_asked (Some (listing l)) = l.evidence
+evidence_asked (Some (checking c)) = None
+evidence_asked (Some (drilling d)) = None
+
+-- words without a reading touch nothing
+pub record IsUnread (old new : Outside) (finish : Finish) : Type 0 where
+  pub statuses : IsAmong (2 ∷ 8 ∷ []) finish.status
+  pub nothing_listed : finish ≡ bare finish.status
+  pub untouched : new ≡ old
+
+-- the record of the command that is asked for
+abbrev pub IsDone : Option Asked → Outside → Outside → (List ℕ → Type 0) → Finish → Type 0
+IsDone None old new Gets finish = IsUnread old new finish
+IsDone (Some (listing l)) old new Gets finish = IsListing l old new Gets finish
+IsDone (Some (checking c)) old new Gets finish = IsChecking c old new Gets finish
+IsDone (Some (drilling d)) old new Gets finish = IsDrilling d old new Gets finish
+
+-- that, and what holds of every run
+pub record IsObeyed (asked : Option Asked) (old new : Outside) (Gets : List ℕ → Type 0) (finish : Finish) : Type 0 where
+  pub every : IsRun (bounds_of asked) (evidence_asked asked) old new Gets finish
+  pub done : IsDone asked old new Gets finish
+
+-- the same of a run before its line is written
+abbrev pub EndsAs : Option Asked → Outside → Outside → Ending → Type 0
+EndsAs asked old new ending = IsObeyed asked old new (λ line. line_of ending ≡ line) (finish_of ending)

@@ -1,0 +1,99 @@
+//! What a command over a named file begins with: the problem of the file, and what evidence about it shows, where some is
+//! named.
+ghost use Rattle.std.specs.Prelude.{◌≡◌, ℕ, List, IfOk, IfErr};
+ghost use Rattle.gm_ports.specs.FilesState.{ReadingLeaves};
+ghost use Rattle.gm_words.specs.Requests.{text_of};
+ghost use Rattle.gm_tool.specs.Input.{OfFile, IsReadAs};
+ghost use Rattle.gm_tool.specs.Steps.{IsBegun, Refuses, RefusesEvidence, Stops};
+
+use crate::ending::Ending;
+use crate::input::read_file;
+use crate::judging::{Judged, judge};
+use crate::refusal::{line_of_evidence, line_of_refusal};
+use evidence_rec::Records;
+use gcnf_text::{Offence, Read};
+use gm_audit::Audited;
+use gm_base::Problem;
+use gm_ports::{Failed, Files};
+use lrat_check::Why;
+use std::alloc::{AllocError, Global};
+
+/// A problem, and the records that evidence shows of it; none where no evidence is named.
+#[derive(Drop)]
+pub struct Beginning {
+    pub problem: Problem,
+    /// Whether the evidence is complete.
+    pub complete: bool,
+    pub records: Records,
+}
+
+/// Reads the file of this name, and judges the evidence that is named. Or ends with what stopped it.
+pub fn begin<F: Files>(
+    alloc: Global,
+    name: &str,
+    evidence: Option<&str>,
+    files: &mut F,
+) -> Result<Beginning, Ending>
+    ensures begun { IfOk result (IsBegun name.now (text_of evidence.entry) (F.state files.old) (F.state files.new)) }
+    ensures stopped { IfErr result (Stops name.now (text_of evidence.entry) (F.state files.old) (F.state files.new)) }
+    ensures leaves { ReadingLeaves (F.state files.old) (F.state files.new) }
+{
+    match read_file(alloc, name, files) {
+        Ok(Read::Problem(problem)) => judge_named(alloc, problem, evidence, files),
+        Ok(Read::Refused(offence)) => Err(refuse(alloc, offence)),
+        Ok(Read::Memory) => Err(Ending::Memory),
+        Err(Failed) => Err(Ending::ReadFault),
+    }
+}
+
+/// Judges the evidence that is named, about the problem of a file that is read.
+fn judge_named<F: Files>(
+    alloc: Global,
+    problem: Problem,
+    evidence: Option<&str>,
+    files: &mut F,
+) -> Result<Beginning, Ending>
+    ensures begun { (file : List ℕ) → OfFile ((F.state files.old).held file) (IsReadAs problem (F.state files.old).unread) →
+        IfOk result (IsBegun file (text_of evidence.entry) (F.state files.old) (F.state files.new)) }
+    ensures stopped { (file : List ℕ) → OfFile ((F.state files.old).held file) (IsReadAs problem (F.state files.old).unread) →
+        IfErr result (Stops file (text_of evidence.entry) (F.state files.old) (F.state files.new)) }
+    ensures leaves { ReadingLeaves (F.state files.old) (F.state files.new) }
+{
+    let Some(name) = evidence else {
+        return Ok(Beginning {
+            problem,
+            complete: false,
+            records: Records::new(alloc),
+        });
+    };
+    match judge(alloc, &problem, name, files) {
+        Judged::Audited(Audited::Yes { complete, records }) => Ok(Beginning {
+            problem,
+            complete,
+            records,
+        }),
+        Judged::Audited(Audited::No { line, why }) => Err(refuse_evidence(alloc, line, &why)),
+        Judged::Failed => Err(Ending::EvidenceFault),
+        Judged::Memory => Err(Ending::Memory),
+    }
+}
+
+/// Ends with the line of an offence.
+pub fn refuse(alloc: Global, offence: Offence) -> Ending
+    ensures { Refuses offence result }
+{
+    match line_of_refusal(alloc, offence) {
+        Ok(line) => Ending::Refused(line),
+        Err(AllocError) => Ending::Memory,
+    }
+}
+
+/// Ends with the line of a refusal.
+pub fn refuse_evidence(alloc: Global, line: u64, why: &Why) -> Ending
+    ensures { RefusesEvidence (record { line = line; why = why.now }) result }
+{
+    match line_of_evidence(alloc, line, why) {
+        Ok(line) => Ending::EvidenceRefused(line),
+        Err(AllocError) => Ending::Memory,
+    }
+}

@@ -1,0 +1,94 @@
+//! The command `drill`: a listing of a case that two numbers make, of which only the counts are written.
+ghost use Rattle.std.specs.Prelude.{◌≡◌, ◌<◌, ◌≤◌, [], Some, IfOk};
+ghost use Rattle.gm_ports.specs.FilesState.{FilesState};
+ghost use Rattle.gm_words.specs.Requests.{AreGoodJobs, asked_by};
+ghost use Rattle.gm_words.specs.Reading.{greatest_size};
+ghost use Rattle.gm_tool.specs.Drilling.{drill_bounds, held_counts};
+ghost use Rattle.gm_tool.specs.Outside.{outside};
+ghost use Rattle.gm_tool.specs.Prepared.{IsPrepared};
+ghost use Rattle.gm_tool.specs.Steps.{Drills};
+ghost use Rattle.gm_tool.specs.Words.{EndsAs};
+
+use crate::ending::Ending;
+use crate::enumeration::{Bounds, list_sets};
+use crate::prepared::{Prepared, line_by};
+use crate::records_report::counts_of;
+use evidence_rec::Records;
+use gcnf_text::make_case;
+use gm_base::Problem;
+use gm_ports::{Failed, Gate, Sink, write_all};
+use gm_words::{Drilling, Request};
+use std::alloc::{AllocError, Global};
+use std::sync::Wait;
+use std::thread::Threads;
+
+/// Makes the case, enumerates its minimal sets, and writes how many they are.
+pub fn drill_case<O: Sink, G: Gate, R: Threads + Wait + Sync>(
+    rt: &R,
+    alloc: Global,
+    drilling: Drilling,
+    out: &mut O,
+    gate: &G,
+) -> Ending
+    requires jobs { AreGoodJobs drilling.jobs }
+    requires some { 0 < drilling.size }
+    requires few { drilling.size ≤ greatest_size }
+    ensures { (files : FilesState) → EndsAs (Some (asked_by (Request.Drill drilling))) (outside files (O.got out.old) (O.faults out.old))
+        (outside files (O.got out.new) (O.faults out.new)) result }
+{
+    let Ok(problem) = make_case(alloc, drilling.seed, drilling.size) else {
+        return Ending::Memory;
+    };
+    drill_problem(rt, alloc, &problem, bounds_for(drilling.jobs), out, gate)
+}
+
+/// The greatest bounds, for so many workers.
+fn bounds_for(jobs: u32) -> Bounds
+    ensures { result ≡ drill_bounds jobs }
+{
+    Bounds {
+        jobs,
+        conflicts: u64::MAX,
+        limit: 1_000_000_000,
+    }
+}
+
+/// Enumerates the minimal sets of a problem, and writes how many they are.
+fn drill_problem<O: Sink, G: Gate, R: Threads + Wait + Sync>(
+    rt: &R,
+    alloc: Global,
+    problem: &Problem,
+    bounds: Bounds,
+    out: &mut O,
+    gate: &G,
+) -> Ending
+    requires { AreGoodJobs bounds.jobs }
+    ensures { (files : FilesState) → Drills problem.now bounds (outside files (O.got out.old) (O.faults out.old))
+        (outside files (O.got out.new) (O.faults out.new)) result }
+{
+    let Ok(prepared) = prepare(rt, alloc, problem, bounds, gate) else {
+        return Ending::Memory;
+    };
+    let Prepared { line, text, left } = prepared;
+    match write_all(out, text.as_slice()) {
+        Ok(()) => Ending::Listed(line, left),
+        Err(Failed) => Ending::CutOff(left),
+    }
+}
+
+/// Enumerates, and makes the line of what was found.
+fn prepare<G: Gate, R: Threads + Wait + Sync>(
+    rt: &R,
+    alloc: Global,
+    problem: &Problem,
+    bounds: Bounds,
+    gate: &G,
+) -> Result<Prepared, AllocError>
+    requires { AreGoodJobs bounds.jobs }
+    ensures { IfOk result (IsPrepared problem.now [] bounds (λ closing. held_counts problem.now closing.records)) }
+{
+    let left = list_sets(rt, alloc, problem, Records::new(alloc), bounds, gate)?;
+    let line = line_by(alloc, bounds, left.closing.verdict)?;
+    let text = counts_of(alloc, problem.groups(), left.closing.records.as_slice())?;
+    Ok(Prepared { line, text, left })
+}
