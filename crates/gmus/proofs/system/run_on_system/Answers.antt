@@ -1,29 +1,32 @@
-use Rattle.std.proofs.Common.{inl, inr}
-use Rattle.gm_tool.specs.Drilling.{case_for, drill_bounds}
-use Rattle.gm_tool.specs.Run.{bounds_for}
-use Rattle.gmus.proofs.EvidenceLemmas.{enumerated-closing, drilled-closing, valid-evidence}
+use Rattle.std.proofs.Common.{Some, None}
+use Rattle.std.specs.Prelude.{⊤}
+use Rattle.gm_words.specs.Reading.{listing, checking, drilling}
+use Rattle.gm_tool.specs.Outside.{GetsLine, untold}
+use Rattle.gm_tool.specs.Words.{asked_in, bounds_of, evidence_asked}
+use Rattle.gm_tool.proofs.GetsLemmas.{run-gets, done-gets}
 use Rattle.gmus.proofs.system.run_on_system.Goals as goal
 
--- the files tell nothing of what was written, but that it is valid is told of the sets
-pub returns-clause-enumerated : goal.returns-clause-enumerated
-returns-clause-enumerated g c = λ l asked after.
-    let (p, first, of_file, goes_on, listed, evidence) = c.run.ensures.listing l asked after in (
-      p,
-      first,
-      goes_on,
-      enumerated-closing p first (bounds_for l) c.run.result.status c.run.result.logs _ _ c.run.result.closing listed,
-      valid-evidence p l.evidence _ _ c.run.result evidence,
-    )
+-- the same, of files and streams that tell no bytes
+pub returns-clause-every : goal.returns-clause-every
+returns-clause-every g c =
+    run-gets (GetsLine None None c.args.err.now.faults c.run.new.err.faults) (λ _. ⊤) (λ line told. tt) (bounds_of (asked_in c.args.words.now)) (evidence_asked (asked_in c.args.words.now))
+    (untold c.args.files.now.read_faults c.args.files.now.write_faults c.args.out.now.faults)
+    (untold c.run.new.files.read_faults c.run.new.files.write_faults c.run.new.out.faults) c.run.result c.run.ensures.every
 
--- nor what the report's sink got, but the sets of the case are told
+pub returns-clause-listing : goal.returns-clause-listing
+returns-clause-listing g c = λ l is.
+    done-gets (GetsLine None None c.args.err.now.faults c.run.new.err.faults) (λ _. ⊤) (λ line told. tt) (Some (listing l))
+    (untold c.args.files.now.read_faults c.args.files.now.write_faults c.args.out.now.faults)
+    (untold c.run.new.files.read_faults c.run.new.files.write_faults c.run.new.out.faults) c.run.result (c.run.ensures.listing l is)
+
+pub returns-clause-checking : goal.returns-clause-checking
+returns-clause-checking g c = λ k is.
+    done-gets (GetsLine None None c.args.err.now.faults c.run.new.err.faults) (λ _. ⊤) (λ line told. tt) (Some (checking k))
+    (untold c.args.files.now.read_faults c.args.files.now.write_faults c.args.out.now.faults)
+    (untold c.run.new.files.read_faults c.run.new.files.write_faults c.run.new.out.faults) c.run.result (c.run.ensures.checking k is)
+
 pub returns-clause-drilling : goal.returns-clause-drilling
-returns-clause-drilling g c = λ d asked after.
-    drilled-closing (case_for d) (drill_bounds d.jobs) c.run.result.status c.run.result.logs _ _ c.run.result.closing (c.run.ensures.drilling d asked after)
-
--- a fault on the report, or on the evidence that was asked for
-pub returns-clause-write_fault : goal.returns-clause-write_fault
-returns-clause-write_fault g c = λ seven.
-    elim (c.run.ensures.write_fault seven) [
-      | inl report ↦ inl report.rose
-      | inr evidence ↦ inr (evidence.wanted, evidence.rose)
-    ]
+returns-clause-drilling g c = λ d is.
+    done-gets (GetsLine None None c.args.err.now.faults c.run.new.err.faults) (λ _. ⊤) (λ line told. tt) (Some (drilling d))
+    (untold c.args.files.now.read_faults c.args.files.now.write_faults c.args.out.now.faults)
+    (untold c.run.new.files.read_faults c.run.new.files.write_faults c.run.new.out.faults) c.run.result (c.run.ensures.drilling d is)
