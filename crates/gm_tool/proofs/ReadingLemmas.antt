@@ -144,41 +144,51 @@ pub record IsStopped (b : Bounds) (file : List ℕ) (evidence : Option (List ℕ
   pub line : IsToldByStatus (finish_of e).status → line_of e ≡ error_line b (finish_of e).status
   pub judged : IsJudged file evidence old new (λ told. line_of e ≡ told) (finish_of e).status
 
-pub stopped : (b : Bounds) (file : List ℕ) (evidence : Option (List ℕ)) (old new : FilesState) (e : Ending) → Stops file evidence old new e
-    → IsStopped b file evidence old new e
-stopped b file evidence old new (Refused line) h = record {
-  statuses = refl;
-  bare = refl;
-  quiet = λ _. h.0;
-  line = λ told. absurd (false≢true told);
-  judged = record { refused = λ _. h.1; read_fault = λ n. absurd (omega arith); fault_line = λ n. absurd (omega arith); evidence_refused = λ n. absurd (omega arith) };
+-- none of the statuses that have a cause in what is read
+pub unjudged : (file : List ℕ) (evidence : Option (List ℕ)) (old new : FilesState) (Gets : List ℕ → Type 0) (status : ℕ)
+    → status ≢ 5 → status ≢ 6 → status ≢ 9 → IsJudged file evidence old new Gets status
+unjudged file evidence old new Gets status five six nine = record {
+  refused = λ e. absurd (five e);
+  read_fault = λ e. absurd (six e);
+  fault_line = λ e. absurd (six e);
+  evidence_refused = λ e. absurd (nine e);
 }
-stopped b file evidence old new ReadFault h = record {
-  statuses = refl;
-  bare = refl;
-  quiet = λ other. absurd (other refl);
-  line = λ told. absurd (false≢true told);
-  judged = record { refused = λ n. absurd (omega arith); read_fault = λ _. h; fault_line = λ _. inl refl; evidence_refused = λ n. absurd (omega arith) };
-}
-stopped b file evidence old new EvidenceFault h = record {
-  statuses = refl;
-  bare = refl;
-  quiet = λ other. absurd (other refl);
-  line = λ told. absurd (false≢true told);
-  judged = record { refused = λ n. absurd (omega arith); read_fault = λ _. h.0; fault_line = λ _. inr h.1; evidence_refused = λ n. absurd (omega arith) };
-}
-stopped b file evidence old new (EvidenceRefused line) h = record {
-  statuses = refl;
-  bare = refl;
-  quiet = λ _. h.0;
-  line = λ told. absurd (false≢true told);
-  judged = record { refused = λ n. absurd (omega arith); read_fault = λ n. absurd (omega arith); fault_line = λ n. absurd (omega arith); evidence_refused = λ _. h.1 };
-}
-stopped b file evidence old new Memory h = record {
-  statuses = refl;
-  bare = refl;
-  quiet = λ _. h;
-  line = λ _. refl;
-  judged = record { refused = λ n. absurd (omega arith); read_fault = λ n. absurd (omega arith); fault_line = λ n. absurd (omega arith); evidence_refused = λ n. absurd (omega arith) };
-}
-stopped b file evidence old new _ h = absurd h
+
+module _ (b : Bounds) (file : List ℕ) (evidence : Option (List ℕ)) (old new : FilesState) where
+  pub stopped : (e : Ending) → Stops file evidence old new e → IsStopped b file evidence old new e
+  stopped (Refused line) h = record {
+    statuses = refl;
+    bare = refl;
+    quiet = λ _. h.0;
+    line = λ told. absurd (false≢true told);
+    judged = record { refused = λ _. h.1; read_fault = λ n. absurd (omega arith); fault_line = λ n. absurd (omega arith); evidence_refused = λ n. absurd (omega arith) };
+  }
+  stopped ReadFault h = record {
+    statuses = refl;
+    bare = refl;
+    quiet = λ other. absurd (other refl);
+    line = λ told. absurd (false≢true told);
+    judged = record { refused = λ n. absurd (omega arith); read_fault = λ _. h; fault_line = λ _. inl refl; evidence_refused = λ n. absurd (omega arith) };
+  }
+  stopped EvidenceFault h = record {
+    statuses = refl;
+    bare = refl;
+    quiet = λ other. absurd (other refl);
+    line = λ told. absurd (false≢true told);
+    judged = record { refused = λ n. absurd (omega arith); read_fault = λ _. h.0; fault_line = λ _. inr h.1; evidence_refused = λ n. absurd (omega arith) };
+  }
+  stopped (EvidenceRefused line) h = record {
+    statuses = refl;
+    bare = refl;
+    quiet = λ _. h.0;
+    line = λ told. absurd (false≢true told);
+    judged = record { refused = λ n. absurd (omega arith); read_fault = λ n. absurd (omega arith); fault_line = λ n. absurd (omega arith); evidence_refused = λ _. h.1 };
+  }
+  stopped Memory h = record {
+    statuses = refl;
+    bare = refl;
+    quiet = λ _. h;
+    line = λ _. refl;
+    judged = unjudged file evidence old new (λ told. line_of Memory ≡ told) 8 (omega arith) (omega arith) (omega arith);
+  }
+  stopped _ h = absurd h

@@ -36,7 +36,7 @@ use Rattle.gm_tool.proofs.AcceptedLemmas.{not_refused, not_refused-evidence}
 use Rattle.gm_tool.proofs.ClosedLemmas.{complete_by, enumerated, is_reported, whole-text, partial-text}
 use Rattle.gm_tool.proofs.DrillLemmas.{full_counts-from}
 use Rattle.gm_tool.proofs.EvidenceLemmas.{valid-from}
-use Rattle.gm_tool.proofs.ReadingLemmas.{IsStopped, stopped, read-for, read-alone}
+use Rattle.gm_tool.proofs.ReadingLemmas.{IsStopped, stopped, unjudged, read-for, read-alone}
 use Rattle.gm_tool.proofs.StatusLemmas.{among-by}
 
 -- ---- endings without an enumeration
@@ -53,10 +53,7 @@ run-bare b evidence old new got faults Gets status silent leaves quiet line = re
   silent = λ _. refl;
   no_fault_dropped =
       λ faultless. record { reads = quiet (λ six. false≢true (subst IsFaultless six faultless)); evidence = leaves.write_faults; report = refl };
-  write_fault =
-      λ seven.
-      absurd
-      (among-by (λ s. s ≢ 7) (2 ∷ 5 ∷ 6 ∷ 8 ∷ 9 ∷ []) status silent (omega arith, (omega arith, (omega arith, (omega arith, (omega arith, tt))))) seven);
+  write_fault = λ seven. absurd (false≢true (subst IsSilent seven silent));
   error_line = line;
   unasked = λ _. leaves;
   names = λ name other. subst (λ held. StaysAsTold (old.held name) (held name)) (sym leaves.names) (stays-same (old.held name));
@@ -70,15 +67,6 @@ run-stopped b evidence file named old new got faults e h leaves =
     subst (IsRun b evidence (outside old got faults) (outside new got faults) (λ told. line_of e ≡ told)) (sym h.bare)
     (run-bare b evidence old new got faults (λ told. line_of e ≡ told) (finish_of e).status
     (among-by IsSilent (5 ∷ 6 ∷ 8 ∷ 9 ∷ []) (finish_of e).status h.statuses (refl, (refl, (refl, (refl, tt))))) leaves h.quiet h.line)
-
-unjudged : (file : List ℕ) (evidence : Option (List ℕ)) (old new : FilesState) (Gets : List ℕ → Type 0) (status : ℕ) → status ≢ 5 → status ≢ 6 → status ≢ 9
-    → IsJudged file evidence old new Gets status
-unjudged file evidence old new Gets status five six nine = record {
-  refused = λ e. absurd (five e);
-  read_fault = λ e. absurd (six e);
-  fault_line = λ e. absurd (six e);
-  evidence_refused = λ e. absurd (nine e);
-}
 
 -- of statuses that come where a command begins, an accepted file leaves 8 alone
 left-of : (file : List ℕ) (evidence : Option (List ℕ)) (old new : Outside) (Gets : List ℕ → Type 0) (status : ℕ) → IsAmong (5 ∷ 6 ∷ 8 ∷ 9 ∷ []) status
@@ -231,13 +219,9 @@ run-after b evidence old mid new Gets finish reads quiet_reads among learned wri
 }
   where
     late : IsBefore finish.status → ⊥
-    late =
-        among-by (λ n. IsBefore n → ⊥) (0 ∷ 3 ∷ 4 ∷ 7 ∷ 8 ∷ []) finish.status among (false≢true, (false≢true, (false≢true, (false≢true, (false≢true, tt)))))
+    late = among-by (λ n. IsBefore n → ⊥) (0 ∷ 3 ∷ 4 ∷ 7 ∷ 8 ∷ []) finish.status among (false≢true, (false≢true, (false≢true, (false≢true, (false≢true, tt)))))
 
--- the status of a verdict is none of these
-reported-not : (status n : ℕ) → IsReported status → 0 ≢ n → 3 ≢ n → 4 ≢ n → status ≢ n
-reported-not status n among zero three four = among-by (λ s. s ≢ n) (0 ∷ 3 ∷ 4 ∷ []) status among (zero, (three, (four, tt)))
-
+-- the status of a verdict
 reported-known : (status : ℕ) → IsReported status → IsAmong (0 ∷ 3 ∷ 4 ∷ 7 ∷ 8 ∷ []) status
 reported-known status among = among-by (IsAmong (0 ∷ 3 ∷ 4 ∷ 7 ∷ 8 ∷ [])) (0 ∷ 3 ∷ 4 ∷ []) status among (refl, (refl, (refl, tt)))
 
@@ -265,9 +249,9 @@ module _ (l : Listing) (old : FilesState) (mid new : Outside) (begun : Beginning
           memory = λ _. inr from;
           judged =
               unjudged l.file l.resume old new.files Gets finish.status
-              (among-by (λ s. s ≢ 5) (0 ∷ 3 ∷ 4 ∷ 7 ∷ 8 ∷ []) finish.status among (omega arith, (omega arith, (omega arith, (omega arith, (omega arith, tt))))))
-              (among-by (λ s. s ≢ 6) (0 ∷ 3 ∷ 4 ∷ 7 ∷ 8 ∷ []) finish.status among (omega arith, (omega arith, (omega arith, (omega arith, (omega arith, tt))))))
-              (among-by (λ s. s ≢ 9) (0 ∷ 3 ∷ 4 ∷ 7 ∷ 8 ∷ []) finish.status among (omega arith, (omega arith, (omega arith, (omega arith, (omega arith, tt))))));
+              (λ e. false≢true (subst (IsAmong (0 ∷ 3 ∷ 4 ∷ 7 ∷ 8 ∷ [])) e among))
+              (λ e. false≢true (subst (IsAmong (0 ∷ 3 ∷ 4 ∷ 7 ∷ 8 ∷ [])) e among))
+              (λ e. false≢true (subst (IsAmong (0 ∷ 3 ∷ 4 ∷ 7 ∷ 8 ∷ [])) e among));
           accepted =
               λ none ok.
               among-by (λ s. s ≢ 7 → IsAmong (0 ∷ 3 ∷ 4 ∷ 8 ∷ []) s) (0 ∷ 3 ∷ 4 ∷ 7 ∷ 8 ∷ []) finish.status among
@@ -293,8 +277,8 @@ module _ (l : Listing) (old : FilesState) (mid new : Outside) (begun : Beginning
       let status = status_by c.verdict in
       let reported = is_reported c.verdict h.0.enough_memory in
       let among = reported-known status reported in
-      let seven = reported-not status 7 reported (omega arith) (omega arith) (omega arith) in
-      let eight = reported-not status 8 reported (omega arith) (omega arith) (omega arith) in
+      let seven : status ≢ 7 = λ e. false≢true (subst IsReported e reported) in
+      let eight : status ≢ 8 = λ e. false≢true (subst IsReported e reported) in
       let Line : List ℕ → Type 0 = λ told. line.items ≡ told in
       run-listed Line (after status left) among h.2.unasked
       (run-after (bounds_for l) l.evidence old mid new Line (after status left) reads is.quiet among h.0.left.spent h.2.leaves h.2.unasked (λ e. absurd (eight e))
@@ -393,7 +377,7 @@ module _ (c : Checking) (old : FilesState) (mid new : Outside) (begun : Beginnin
         run-after (bounds_of (Some (checking c))) None old mid new Gets (bare status) reads is.quiet
         (among-by (IsAmong (0 ∷ 3 ∷ 4 ∷ 7 ∷ 8 ∷ [])) (0 ∷ 7 ∷ []) status among (refl, (refl, tt))) refl
         (subst (WritingLeaves (λ name. None ≡ Some name) mid.files) (sym untouched) (writes-nothing (λ name. None ≡ Some name) mid.files)) (λ _. untouched)
-        (λ eight. absurd (among-by (λ s. s ≢ 8) (0 ∷ 7 ∷ []) status among (omega arith, (omega arith, tt)) eight))
+        (λ eight. absurd (false≢true (subst (IsAmong (0 ∷ 7 ∷ [])) eight among)))
         (λ r. (ap (λ (f : FilesState). f.write_faults) untouched, (whole (zero (λ seven. false≢true (subst IsReported seven r)))).0))
         (λ seven. inl (cut seven).0)
         (λ t. subst (λ s. Gets (error_line (bounds_of (Some (checking c))) s)) (sym (zero (λ seven. false≢true (subst IsToldByStatus seven t))))
@@ -414,9 +398,9 @@ module _ (c : Checking) (old : FilesState) (mid new : Outside) (begun : Beginnin
                 cut_off = cut;
               };
           judged =
-              unjudged c.file (Some c.evidence) old new.files Gets status (among-by (λ s. s ≢ 5) (0 ∷ 7 ∷ []) status among (omega arith, (omega arith, tt)))
-              (among-by (λ s. s ≢ 6) (0 ∷ 7 ∷ []) status among (omega arith, (omega arith, tt)))
-              (among-by (λ s. s ≢ 9) (0 ∷ 7 ∷ []) status among (omega arith, (omega arith, tt)));
+              unjudged c.file (Some c.evidence) old new.files Gets status (λ e. false≢true (subst (IsAmong (0 ∷ 7 ∷ [])) e among))
+              (λ e. false≢true (subst (IsAmong (0 ∷ 7 ∷ [])) e among))
+              (λ e. false≢true (subst (IsAmong (0 ∷ 7 ∷ [])) e among));
           accepted = λ none ok. subst (IsAmong (0 ∷ 8 ∷ [])) (sym (zero (λ seven. none.2 (cut seven).0.rose))) refl;
         };
   }
@@ -467,9 +451,9 @@ module _ (d : Drilling) (old new : Outside) (untouched : new.files ≡ old.files
       known = among-by (IsAmong (0 ∷ 3 ∷ 4 ∷ 7 ∷ 8 ∷ [])) (0 ∷ 3 ∷ 4 ∷ 7 ∷ []) finish.status among (refl, (refl, (refl, (refl, tt))))
 
       other : finish.status ≢ 8
-      other = among-by (λ s. s ≢ 8) (0 ∷ 3 ∷ 4 ∷ 7 ∷ []) finish.status among (omega arith, (omega arith, (omega arith, (omega arith, tt))))
+      other eight = false≢true (subst IsAfterwards eight among)
 
-  pub drilling-drills : (e : Ending) → Drills (made_case d.seed d.size) (drill_bounds d.jobs) old new e → EndsAs (Some (drilling d)) old new e
+  drilling-drills : (e : Ending) → Drills (made_case d.seed d.size) (drill_bounds d.jobs) old new e → EndsAs (Some (drilling d)) old new e
   drilling-drills (Listed line left) h =
       let c = left.closing in
       let status = status_by c.verdict in
@@ -483,7 +467,7 @@ module _ (d : Drilling) (old new : Outside) (untouched : new.files ≡ old.files
         verdict = λ _. refl;
         whole = λ zero. subst (ToldAppends old.got new.got) (full_counts-from h.0.left.closed (complete_by c.verdict zero)) h.2;
         partial = λ _. h.2;
-        cut_off = λ seven. absurd (reported-not status 7 reported (omega arith) (omega arith) (omega arith) seven);
+        cut_off = λ seven. absurd (false≢true (subst IsReported seven reported));
       })
       (λ _. h.3) (λ _. h.1)
   drilling-drills (CutOff left) h =
@@ -502,3 +486,9 @@ module _ (d : Drilling) (old new : Outside) (untouched : new.files ≡ old.files
       subst (λ o. EndsAs (Some (drilling d)) old o Memory) (sym h)
       (record { every = every-memory (drill_bounds d.jobs) None old; done = drilling-memory d old (λ told. line_of Memory ≡ told) })
   drilling-drills _ h = absurd h
+
+-- a problem that is the case, within bounds that are the greatest
+pub drilling-case : (d : Drilling) (old new : Outside) (p : Problem) (b : Bounds) (e : Ending) → p ≡ made_case d.seed d.size → b ≡ drill_bounds d.jobs
+    → new.files ≡ old.files → Drills p b old new e → EndsAs (Some (drilling d)) old new e
+drilling-case d old new p b e made bounds untouched h =
+    drilling-drills d old new untouched e (subst (λ q. Drills q (drill_bounds d.jobs) old new e) made (subst (λ c. Drills p c old new e) bounds h))
