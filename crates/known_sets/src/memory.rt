@@ -41,12 +41,10 @@ impl Memory {
         ensures { IfOk result (IsRightFor problem.now) }
     {
         let groups = problem.groups();
-        let models = ModelMaker::new(alloc, problem)?;
-        let satisfied = SatisfiedSets::new(alloc, groups, most / 2)?;
         Ok(Memory {
             refuted: RefutedSets::new(alloc, groups, most / 2)?,
-            satisfied,
-            models,
+            satisfied: SatisfiedSets::new(alloc, groups, most / 2)?,
+            models: ModelMaker::new(alloc, problem)?,
         })
     }
 

@@ -58,6 +58,7 @@ impl ModelMaker {
     pub fn new(alloc: Global, problem: &Problem) -> Result<ModelMaker, AllocError>
         ensures { IfOk result (MakesModelsOf problem.now) }
     {
+        let marks = no_marks(alloc, problem.groups())?;
         Ok(ModelMaker {
             problem: problem.copy()?,
             literals: literals_of(problem),
@@ -66,7 +67,7 @@ impl ModelMaker {
             turns: 0,
             repairs: 0,
             answers: 0,
-            marks: no_marks(alloc, problem.groups())?,
+            marks,
         })
     }
 

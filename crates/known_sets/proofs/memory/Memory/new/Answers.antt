@@ -8,6 +8,6 @@ pub returns : goal.returns
 returns c =
     record {
       refuted = c.in_ok-new.ensures c.args.problem.now;
-      satisfied = subst (All (IsSatisfied c.args.problem.now)) (sym c.in_ok-satisfied.ensures) (λ k d none. absurd (omega arith));
-      models = c.in_ok-models.ensures;
+      satisfied = subst (All (IsSatisfied c.args.problem.now)) (sym c.in_ok-new-2.ensures) (λ k d none. absurd (omega arith));
+      models = c.in_ok-new-3.ensures;
     }
