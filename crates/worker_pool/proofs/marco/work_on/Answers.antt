@@ -71,3 +71,31 @@ returns-in-Err-clause-ends g c =
     let within = spent-within e.spent in
     let full = i.full in
     λ _. retire_ends i.at e.spent (omega arith) c.retire.ensures.call c.retire.ensures.worker
+
+-- each call adds an entry to what the seat has seen
+pub returns-in-New-clause-same : goal.returns-in-New-clause-same
+returns-in-New-clause-same g c = same-seat c.loop-record.invariant.same c.post-posted.ensures.call
+
+pub returns-in-New-clause-longer : goal.returns-in-New-clause-longer
+returns-in-New-clause-longer g c = let more = longer c.post-posted.ensures.call in let before = c.loop-record.invariant.longer in omega arith
+
+pub returns-in-New-clause-short : goal.returns-in-New-clause-short
+returns-in-New-clause-short g c = c.post-posted.ensures.call.short
+
+pub returns-in_default-clause-same : goal.returns-in_default-clause-same
+returns-in_default-clause-same g c = same-seat c.loop-record.invariant.same c.post-posted.ensures.call
+
+pub returns-in_default-clause-longer : goal.returns-in_default-clause-longer
+returns-in_default-clause-longer g c = let more = longer c.post-posted.ensures.call in let before = c.loop-record.invariant.longer in omega arith
+
+pub returns-in_default-clause-short : goal.returns-in_default-clause-short
+returns-in_default-clause-short g c = c.post-posted.ensures.call.short
+
+pub returns-in-Err-clause-same : goal.returns-in-Err-clause-same
+returns-in-Err-clause-same g c = same-seat c.loop-record.invariant.same c.retire.ensures.call
+
+pub returns-in-Err-clause-longer : goal.returns-in-Err-clause-longer
+returns-in-Err-clause-longer g c = let more = longer c.retire.ensures.call in let before = c.loop-record.invariant.longer in omega arith
+
+pub returns-in-Err-clause-short : goal.returns-in-Err-clause-short
+returns-in-Err-clause-short g c = c.retire.ensures.call.short
