@@ -1,6 +1,6 @@
 -- From new workers to workers that are over, and what is left of them.
 use Rattle.std.proofs.Common.{◌≡◌, ℕ, zero, suc, ◌-◌, ◌^◌, ◌<◌, ◌≤◌, List, [], ◌∷◌, ◌++◌, min, length, map, get_or, take, drop, All, Some, append_assoc, refl, sym, ◌∙◌, ap, subst, arith}
-use Rattle.std.proofs.lemmas.List.{get_or-map, length-map, map-append}
+use Rattle.std.proofs.lemmas.List.{get_or-map, length-map, map-append, append-nil}
 use Rattle.std.proofs.Math.Seq.{take-append_seam}
 use Rattle.gm_base.specs.Problem.{Problem}
 use Rattle.lrat_steps.specs.Log.{LogStep}
@@ -32,6 +32,11 @@ pub taken_over : {A B : Type 0} (f : A → B) (front more : List B) (rest new : 
     → more ++ map f new ≡ all
 taken_over f front more rest new x y all was next pushed is =
     ap (λ l. l ++ map f new) pushed ∙ append_assoc front (y ∷ []) (map f new) ∙ ap (λ z. front ++ z ∷ map f new) is ∙ ap (λ l. front ++ map f l) (sym next) ∙ was
+
+-- where none is left, all are taken over
+pub all_taken : {A B : Type 0} (f : A → B) (front : List B) (rest : List A) (all : List B) → front ++ map f rest ≡ all → length rest ≡ 0 → front ≡ all
+all_taken f front [] all was none = sym (append-nil front) ∙ was
+all_taken f front (x ∷ rest) all was none = absurd (omega (arith, none))
 
 -- what is first, and what is behind it
 pub first_of : {A : Type 0} (xs new : List A) (x : A) → 0 < length xs → x ≡ get_or xs 0 x → new ≡ drop 1 xs → xs ≡ x ∷ new

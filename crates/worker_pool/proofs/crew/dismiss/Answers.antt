@@ -2,7 +2,7 @@ use Rattle.std.proofs.Common.{◌≡◌, ◌∷◌, [], length, All, refl, sym, 
 use Rattle.std.proofs.lemmas.List.Elements.{All-push, All-head, All-tail}
 use Rattle.evidence_rec.specs.Asking.{IsHonestOver}
 use Rattle.worker_pool.specs.Workers.{seat_of, log_of}
-use Rattle.worker_pool.proofs.Crewed.{taken_over}
+use Rattle.worker_pool.proofs.Crewed.{taken_over, all_taken}
 use Rattle.worker_pool.proofs.crew.dismiss.Goals as goal
 
 -- the worker's seat and its oracle's log come to the end of their lists
@@ -31,3 +31,31 @@ loop-worker-preserved g c =
       All-tail (λ u. (state u.oracle).problem ≡ c.args.problem.now) w rest asks,
       logs.capacity ∙ i.6,
     )
+
+-- there is room for those that are left
+pub push_reserved-requires : goal.push_reserved-requires
+push_reserved-requires g c =
+    let left = ap length c.in-Some.ensures.steps.0 in
+    let room = c.loop-worker.invariant.2 in
+    let size = c.loop-worker.seats.ok.0 in
+    omega arith
+
+pub push_reserved-requires-in-loop-worker : goal.push_reserved-requires-in-loop-worker
+push_reserved-requires-in-loop-worker g c =
+    let left = ap length c.in-Some.ensures.steps.0 in
+    let room = c.loop-worker.invariant.3 in
+    let size = c.loop-worker.logs.ok.0 in
+    omega arith
+
+-- none is left
+pub returns-clause-seats : goal.returns-clause-seats
+returns-clause-seats g c =
+    let size = c.loop-worker.worker-iterator.rest.ok.0 in
+    let none = c.in-None.ensures.steps.0 in
+    all_taken seat_of c.loop-worker.seats.items c.loop-worker.worker-iterator.rest.items _ c.loop-worker.invariant.0 (omega arith)
+
+pub returns-clause-logs : goal.returns-clause-logs
+returns-clause-logs g c =
+    let size = c.loop-worker.worker-iterator.rest.ok.0 in
+    let none = c.in-None.ensures.steps.0 in
+    all_taken (log_of g.O.Oracle.state) c.loop-worker.logs.items c.loop-worker.worker-iterator.rest.items _ c.loop-worker.invariant.1 (omega arith)

@@ -1,4 +1,4 @@
-use Rattle.std.proofs.Common.{◌≡◌, ◌∷◌, [], ◌∙◌, ap, length, arith, length-append}
+use Rattle.std.proofs.Common.{◌∷◌, [], ◌∙◌, ap, length, arith, length-append}
 use Rattle.worker_pool.specs.declared.worker.Worker.{Worker}
 use Rattle.worker_pool.specs.Workers.{oracle_of, seat_of}
 use Rattle.worker_pool.proofs.Crewed.{first_of, told_of}
