@@ -16,7 +16,68 @@ def sections(text, mark):
     return list(zip(parts[1::2], parts[2::2]))
 
 
+def lines_of(text, name):
+    """The numbers of a file's lines that are a definition, a record, a struct, a clause of a call (`call.clause`), a ghost
+    member (`ghost name`), or one field of a record with the record's first line (`Record.field`)."""
+    lines = text.split("\n")
+    first, _, rest = name.partition(".")
+    if re.search(rf"fn {first}\b", text) and rest:
+        at = next(i for i, line in enumerate(lines) if re.search(rf"fn {first}\b", line))
+        return clause_at(lines, next(i for i in range(at, len(lines)) if re.search(rf"ensures {rest} ", lines[i])))
+    if name.startswith("ghost "):
+        return clause_at(lines, next(i for i, line in enumerate(lines) if re.match(rf"\s*{name}\b", line)))
+    if re.search(rf"(?m)^pub struct {name} ", text):
+        return clause_at(lines, next(i for i, line in enumerate(lines) if line.startswith(f"pub struct {name} ")))
+    at = next(i for i, line in enumerate(lines) if re.match(rf"(?:\w+ )*{re.escape(first)} ", line))
+    # A definition goes on up to an empty line, and the lines of comment in it don't count.
+    end = next((i for i in range(at, len(lines)) if not lines[i]), len(lines))
+    found = [i for i in range(at, end) if not lines[i].strip().startswith("--")]
+    return [i for i in found if i == at or not rest or re.match(rf"  pub {rest} ", lines[i])]
+
+
+def clause_at(lines, at):
+    """The lines from this one on up to the one in which its braces are closed, or up to a semicolon before any is opened."""
+    depth = 0
+    for i in range(at, len(lines)):
+        depth += lines[i].count("{") - lines[i].count("}")
+        if depth == 0:
+            return list(range(at, i + 1))
+    return []
+
+
+def read_in(cell):
+    """The lines that a row of the reading list names, by file: `crate/path`: `name`, ..; a file alone is all of its lines that
+    are neither empty, comments nor imports, but those of the names behind 'without'. A path without a crate is beside the
+    file before it."""
+    found, folder = {}, ""
+    for part in cell.split("; "):
+        path, *names = re.findall(r"`([^`]+)`", part)
+        path = path if "/" in path else folder + path
+        folder = path[:path.rindex("/") + 1]
+        text = text_of("crates/" + path)
+        named = {i for name in names for i in lines_of(text, name)}
+        if not names or " without " in part:
+            every = {i for i, line in enumerate(text.split("\n")) if line and not re.match(r"\s*--|(pub )?use ", line)}
+            named = every - named
+        found.setdefault(path, set()).update(named)
+    return found
+
+
 class Documents(unittest.TestCase):
+    def test_the_reading_list_counts_its_lines(self):
+        proved = text_of("docs/PROVED.md").partition("## How to believe")[2].partition("\n## ")[0]
+        rows = re.findall(r"(?m)^\| \d+ \| (.*) \| (.*) \| (\d+) \|$", proved)
+        files, every = set(), 0
+        for cell, _, told in rows:
+            found = read_in(cell)
+            count = sum(map(len, found.values()))
+            self.assertEqual(int(told), count, cell)
+            files.update(found)
+            every += count
+        wanted = f"{len(files)} files, with {every} lines"
+        self.assertIn(wanted, proved)
+        self.assertIn(f"{len(files)} short files, {every} lines", text_of("README.md"))
+
     def test_links_lead_to_files(self):
         for name in DOCUMENTS:
             for link in re.findall(r"\]\(([^)#]+)[^)]*\)", text_of(name)):

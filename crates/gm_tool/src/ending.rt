@@ -37,8 +37,8 @@ pub enum Ending {
 /// How a run ended: 0 complete or accepted, 2 bad command line, 3 budget spent, 4 limit reached, 5 input refused, 6 read
 /// fault, 7 write fault, 8 want of memory, 9 evidence refused.
 ///
-/// After an enumeration, `closing` is what is left of it, `logs` are the steps of the worker's solver and of the map's, and
-/// `spent` is how many clauses were learnt in them.
+/// After an enumeration, `closing` is what is left of it, `logs` are the steps of each worker's solver, in the order of the
+/// workers, and last those of the map's, and `spent` is how many clauses were learnt in them.
 #[derive(Drop)]
 pub struct Finish {
     pub status: u8,

@@ -2,7 +2,7 @@
 //!
 //! They tell nothing of their bytes, so what `run` says of bytes says nothing here: not that the listed problem is the one
 //! in the file, nor that its report or its evidence was written, nor what evidence was read and checked, nor what standard
-//! error got. All else stays, in the same records: of each status its cause, as counts of faults and the words tell it; of a
+//! error got. What speaks of no bytes stays, in the same records: which causes counts of faults and the words tell; of a
 //! listing, with 0, 3, 4 and 7, and with 8 where memory was wanting for the evidence, what is left of its enumeration of some
 //! problem, that an audit says yes to its evidence, where that was asked for, and that a listing which goes on from evidence
 //! begins with the records of some text of which nothing is refused.
