@@ -5,7 +5,7 @@ use std::alloc::{AllocError, Global};
 use std::marker::Model;
 
 /// Numbers of calls, from 1, as a list in the order in which they were put in.
-#[derive(Debug, Drop)]
+#[derive(Drop)]
 pub struct Calls {
     numbers: Vec<u64>,
 }

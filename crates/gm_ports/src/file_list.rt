@@ -10,7 +10,7 @@ use crate::{Rooms, Texts};
 use std::alloc::{AllocError, Global};
 use std::marker::Model;
 
-#[derive(Debug, Drop)]
+#[derive(Drop)]
 pub(crate) struct FileList {
     files: Vec<MemFile>,
 }

@@ -10,7 +10,7 @@ use std::alloc::{AllocError, Global};
 use std::marker::Model;
 
 /// A name, whether there is such a file and what it holds, and its room where it may be written.
-#[derive(Debug, Drop)]
+#[derive(Drop)]
 pub(crate) struct MemFile {
     name: String,
     bytes: Vec<u8>,

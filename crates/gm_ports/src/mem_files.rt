@@ -19,7 +19,7 @@ use std::alloc::{AllocError, Global};
 use std::marker::Model;
 
 /// Named files that tell all, move at most so many bytes a call, and fail at the calls that they were told to fail at.
-#[derive(Debug, Drop)]
+#[derive(Drop)]
 pub struct MemFiles {
     files: FileList,
     input: Option<usize>,

@@ -10,7 +10,7 @@ use std::alloc::{AllocError, Global};
 use std::marker::Model;
 
 /// Keeps what it gets, up to its room, and fails at the calls that it was told to fail at.
-#[derive(Debug, Drop)]
+#[derive(Drop)]
 pub struct MemSink {
     got: Vec<u8>,
     per_write: usize,

@@ -6,13 +6,13 @@ use std::alloc::{AllocError, Global};
 use std::marker::Model;
 
 /// Names that may be written, each with its room in bytes, as a list in the order in which they were put in.
-#[derive(Debug, Drop)]
+#[derive(Drop)]
 pub struct Rooms {
     pub(crate) rooms: Vec<Room>,
 }
 
 /// A name and its room.
-#[derive(Debug, Drop)]
+#[derive(Drop)]
 pub(crate) struct Room {
     pub(crate) name: String,
     pub(crate) room: u64,

@@ -8,7 +8,7 @@ ghost use Rattle.gm_ports.specs.Schedule.{after_call, next_count};
 use crate::{Calls, Failed};
 use std::marker::Model;
 
-#[derive(Debug, Drop)]
+#[derive(Drop)]
 pub(crate) struct Schedule {
     failing: Calls,
     calls: u64,

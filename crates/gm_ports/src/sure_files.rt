@@ -15,7 +15,7 @@ use std::alloc::{AllocError, Global};
 use std::marker::Model;
 
 /// Named files that move at most so many bytes a call and never fail.
-#[derive(Debug, Drop)]
+#[derive(Drop)]
 pub struct SureFiles {
     files: MemFiles,
     tells: bool,

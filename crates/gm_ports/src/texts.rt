@@ -5,13 +5,13 @@ use std::alloc::{AllocError, Global};
 use std::marker::Model;
 
 /// Texts under their names, as a list in the order in which they were put in.
-#[derive(Debug, Drop)]
+#[derive(Drop)]
 pub struct Texts {
     pub(crate) texts: Vec<Text>,
 }
 
 /// A text and its name.
-#[derive(Debug, Drop)]
+#[derive(Drop)]
 pub(crate) struct Text {
     pub(crate) name: String,
     pub(crate) bytes: Vec<u8>,

@@ -13,7 +13,7 @@ use crate::{Failed, Files, Sink};
 use std::alloc::{AllocError, Global};
 
 /// What came of reading a whole file.
-#[derive(Debug, Drop)]
+#[derive(Drop)]
 pub enum Reading {
     Whole(Vec<u8>),
     TooLong,

@@ -1,7 +1,7 @@
 //! What is found at a place of a text.
 
 /// A token, or the end of the text.
-#[derive(Clone, Copy, Debug, PartialEq, Eq)]
+#[derive(Clone, Copy)]
 pub enum Found<'a> {
     /// A run of bytes that is no number.
     Word(&'a [u8]),
@@ -16,7 +16,7 @@ pub enum Found<'a> {
 }
 
 /// What is found, with its line and its byte in that line, both counted from 1.
-#[derive(Clone, Copy, Debug, PartialEq, Eq)]
+#[derive(Clone, Copy)]
 pub struct Answer<'a> {
     pub found: Found<'a>,
     pub line: u64,

@@ -7,7 +7,7 @@ ghost use Rattle.token_text.specs.Tokens.{is_space, newline};
 ghost use Rattle.token_text.specs.Cursor.{left_at, BeginsToken, IsWithin, Passes};
 
 /// What stands before a cursor in its line.
-#[derive(Clone, Copy, Debug, PartialEq, Eq)]
+#[derive(Clone, Copy, PartialEq, Eq)]
 pub(crate) enum Before {
     /// Blanks and tabs alone.
     Blanks,
@@ -18,7 +18,7 @@ pub(crate) enum Before {
 }
 
 /// A place in a text: the bytes before it and before its line, the line's number from 1, and what stands before it.
-#[derive(Clone, Copy, Debug)]
+#[derive(Clone, Copy)]
 pub(crate) struct Cursor {
     pub(crate) at: usize,
     pub(crate) line_start: usize,

@@ -18,7 +18,7 @@ const GREATEST: u64 = 9_223_372_036_854_775_807;
 const TENTH: u64 = GREATEST / 10;
 
 /// Where a run ends, whether it has digits alone, and then their value.
-#[derive(Clone, Copy, Debug)]
+#[derive(Clone, Copy)]
 struct Run {
     end: usize,
     digits: bool,

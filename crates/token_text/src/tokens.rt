@@ -13,7 +13,7 @@ use crate::run::found_at;
 use std::marker::Model;
 
 /// The tokens of a text that are left, and the place of its end.
-#[derive(Debug, Drop)]
+#[derive(Drop)]
 pub struct Tokens<'a> {
     text: &'a [u8],
     cursor: Cursor,
