@@ -76,7 +76,7 @@ def play(crate):
     with open(os.path.join(TOP, "crates", crate, "args"), encoding="utf-8") as file:
         args = file.read().split()
     given = [word for name in args for word in ("--data", f"{name}=data/{name}")]
-    status, printed, said = said_of(crate, ["rt", "try", *given, "--", *args])
+    status, printed, said = said_of(crate, ["rt", "try", "--seconds", "300", *given, "--", *args])
     with open(os.path.join(TOP, "crates", crate, "stdout"), "rb") as file:
         wanted = file.read()
     is_well = status == 0 and printed == wanted
