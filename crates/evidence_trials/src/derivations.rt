@@ -29,7 +29,8 @@ pub fn push_step(
     let Some(id) = id_at(step, 1) else {
         return Ok(false);
     };
-    if step.word(end) != "0" || !are_ids(hints.as_slice()) {
+    let behind = end.saturating_add(1).saturating_add(hints.len());
+    if step.word(end) != "0" || behind != step.words().len() || !are_ids(hints.as_slice()) {
         return Ok(false);
     }
     proof.push(id, lits.as_slice(), hints.as_slice())?;

@@ -4,7 +4,7 @@ ghost use Rattle.evidence_rec.specs.Records.{IsShaped, IsAccepted};
 
 use evidence_rec::{Record, Witnesses, check_record};
 use gm_base::{GroupSet, Problem};
-use std::alloc::{AllocError, Global};
+use std::alloc::{AllocError, AllocFailed, Global};
 
 /// What was wanting.
 #[derive(Clone, Copy, Debug, PartialEq, Eq)]
@@ -16,6 +16,12 @@ pub enum Lacking {
 
 impl From<AllocError> for Lacking {
     fn from(_: AllocError) -> Lacking {
+        Lacking::Memory
+    }
+}
+
+impl<T: Drop> From<AllocFailed<T>> for Lacking {
+    fn from(_: AllocFailed<T>) -> Lacking {
         Lacking::Memory
     }
 }
@@ -43,7 +49,8 @@ fn is_accepted(alloc: Global, problem: &Problem, record: &Record) -> Result<bool
     Ok(verdict.is_ok())
 }
 
-fn is_shaped(problem: &Problem, record: &Record) -> bool
+/// Whether the record has evidence for each of its groups, and assignments to the problem's variables.
+pub fn is_shaped(problem: &Problem, record: &Record) -> bool
     ensures { IsTrue result → IsShaped problem.now «record».now }
 {
     match record {

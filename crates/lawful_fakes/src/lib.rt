@@ -20,7 +20,7 @@ mod scripted_map;
 mod shy;
 mod table_oracle;
 
-pub use evidence::{Lacking, checked};
+pub use evidence::{Lacking, checked, is_shaped};
 pub use scripted_map::ScriptedMap;
 pub use shy::{ShyMap, ShyOracle};
 pub use table_oracle::TableOracle;

@@ -208,20 +208,15 @@ impl<O: Counted> Asker<'_, O> {
 }
 
 /// Adds a core to a line: its groups, or whether it holds one of the sets that the question names.
-fn tell_core(
-    alloc: Global,
-    step: &Step<'_>,
-    core: &GroupSet,
-    out: &mut String,
-) -> Result<(), AllocError> {
+fn tell_core(alloc: Global, step: &Step<'_>, core: &GroupSet, out: &mut String) -> Played {
     if parts_in(step) < 2 || step.word(0) != "ask" {
-        return add_numbers(out, core.as_slice());
+        return Ok(add_numbers(out, core.as_slice())?);
     }
     for part in 1..parts_in(step) {
         let wanted = numbers_in(alloc, step, part)?;
         if wanted.iter().all(|group| core.contains(*group)) {
-            return out.push_str(", one held");
+            return Ok(out.push_str(", one held")?);
         }
     }
-    out.push_str(", none held")
+    Ok(out.push_str(", none held")?)
 }

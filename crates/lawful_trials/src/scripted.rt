@@ -61,7 +61,7 @@ fn ending_of(alloc: Global, step: &Step<'_>) -> Result<Derivation, Lacking> {
     derivation(alloc, u64::from(id), &[], hints.as_slice())
 }
 
-fn ids_in(alloc: Global, step: &Step<'_>, part: usize) -> Result<Vec<u64>, AllocError> {
+fn ids_in(alloc: Global, step: &Step<'_>, part: usize) -> Result<Vec<u64>, Lacking> {
     let mut ids = Vec::new(alloc);
     for number in numbers_in(alloc, step, part)?.as_slice() {
         ids.push(u64::from(*number))?;

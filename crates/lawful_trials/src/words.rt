@@ -5,8 +5,8 @@ ghost use Rattle.std.specs.Prelude.{◌≡◌, IfOk, IfSome, length};
 use gm_base::{Assign, AssignBuilder, GroupSet};
 use lawful_fakes::Lacking;
 use lawful_fakes::example::set_of;
-use std::alloc::{AllocError, Global};
-use trial_script::Step;
+use std::alloc::Global;
+use trial_script::{Step, has_digit};
 
 /// The lines of the text of a call.
 pub fn lines_of<'a>(step: &'a Step<'_>) -> &'a str {
@@ -34,15 +34,25 @@ pub fn parts_in(step: &Step<'_>) -> usize {
     colons.saturating_add(1)
 }
 
-/// The numbers in a part. Other words are passed over.
-pub fn numbers_in(alloc: Global, step: &Step<'_>, part: usize) -> Result<Vec<u32>, AllocError> {
+/// The numbers in a part. Words without a digit are passed over.
+pub fn numbers_in(alloc: Global, step: &Step<'_>, part: usize) -> Result<Vec<u32>, Lacking> {
     let mut numbers = Vec::new(alloc);
     for word in part_of(step.words(), part) {
-        if let Ok(number) = word.parse::<u32>() {
-            numbers.push(number)?;
+        match word.parse::<u32>() {
+            Ok(number) => numbers.push(number)?,
+            Err(_) => without_digit(word)?,
         }
     }
     Ok(numbers)
+}
+
+/// Refuses a word with a digit, which was meant as a number, or as values.
+pub fn without_digit(word: &str) -> Result<(), Lacking> {
+    if has_digit(word) {
+        Err(Lacking::Evidence)
+    } else {
+        Ok(())
+    }
 }
 
 /// The number at a place of a part, where there is one.
@@ -80,16 +90,13 @@ pub fn values_in(alloc: Global, step: &Step<'_>, part: usize, vars: u32) -> Resu
     Ok(builder.finish(alloc)?)
 }
 
-/// The values of two variables that the words of a part are. Other words are passed over.
-pub fn pairs_in(
-    alloc: Global,
-    step: &Step<'_>,
-    part: usize,
-) -> Result<Vec<(bool, bool)>, AllocError> {
+/// The values of two variables that the words of a part are. Words without a digit are passed over.
+pub fn pairs_in(alloc: Global, step: &Step<'_>, part: usize) -> Result<Vec<(bool, bool)>, Lacking> {
     let mut pairs = Vec::new(alloc);
     for word in part_of(step.words(), part) {
-        if let Some(pair) = pair_of(word) {
-            pairs.push(pair)?;
+        match pair_of(word) {
+            Some(pair) => pairs.push(pair)?,
+            None => without_digit(word)?,
         }
     }
     Ok(pairs)

@@ -15,7 +15,7 @@ use crate::moves::Played;
 use crate::oracles::ALL;
 use crate::scripted::scripted_map;
 use crate::telling::{add_numbers, say};
-use crate::words::{lines_of, part_of};
+use crate::words::{lines_of, part_of, without_digit};
 use evidence_rec::Records;
 use gm_base::{Kind, Problem};
 use gm_ports::OpenGate;
@@ -102,13 +102,16 @@ fn enumerated<R: Threads + Wait + Sync>(
 }
 
 /// The numbers of calls in a part.
-fn numbers_of(alloc: Global, step: &Step<'_>, part: usize) -> Result<Vec<u64>, AllocError> {
+fn numbers_of(alloc: Global, step: &Step<'_>, part: usize) -> Result<Vec<u64>, Lacking> {
     let mut numbers = Vec::new(alloc);
     for word in part_of(step.words(), part) {
         if *word == "never" {
             numbers.push(NEVER)?;
-        } else if let Ok(number) = word.parse::<u64>() {
-            numbers.push(number)?;
+            continue;
+        }
+        match word.parse::<u64>() {
+            Ok(number) => numbers.push(number)?,
+            Err(_) => without_digit(word)?,
         }
     }
     Ok(numbers)

@@ -135,7 +135,7 @@ impl Setting {
     }
 
     fn add_room(&mut self, alloc: Global, step: &Step<'_>) -> Result<bool, AllocError> {
-        let Some(bytes) = count_at(step, 2) else {
+        let Some(bytes) = step.amount(2) else {
             return Ok(false);
         };
         let name = String::from_str(alloc, step.word(1))?;
@@ -144,7 +144,7 @@ impl Setting {
     }
 
     fn set_most(&mut self, step: &Step<'_>) -> bool {
-        let (Some(kind), Some(most)) = (kind_of(step.word(1)), count_at(step, 2)) else {
+        let (Some(kind), Some(most)) = (kind_of(step.word(1)), step.amount(2)) else {
             return false;
         };
         self.moves(kind).most = most as usize;
@@ -155,18 +155,27 @@ impl Setting {
         let Some(kind) = kind_of(step.word(1)) else {
             return Ok(false);
         };
-        let mut numbers = Vec::new(alloc);
-        for number in step.numbers(alloc, 2)? {
-            numbers.push(u64::try_from(number).unwrap_or(0))?;
-        }
-        self.fail(kind, numbers);
+        let Some(calls) = calls_of(alloc, step)? else {
+            return Ok(false);
+        };
+        self.fail(kind, calls);
         Ok(true)
     }
 }
 
-/// The number at this place, if it is one that is not negative.
-pub fn count_at(step: &Step<'_>, at: usize) -> Option<u64> {
-    u64::try_from(step.number(at)?).ok()
+/// The numbers of the calls that are to fail, if each is one.
+fn calls_of(alloc: Global, step: &Step<'_>) -> Result<Option<Vec<u64>>, AllocError> {
+    let Some(numbers) = step.numbers(alloc, 2)? else {
+        return Ok(None);
+    };
+    let mut calls = Vec::new(alloc);
+    for number in numbers {
+        let Ok(call) = u64::try_from(number) else {
+            return Ok(None);
+        };
+        calls.push(call)?;
+    }
+    Ok(Some(calls))
 }
 
 /// The texts that the call names, from its third word on, and the lines below it; nothing where there is no such text.

@@ -3,7 +3,7 @@ use crate::ask::{ask_files, ask_run};
 use crate::machine::Machine;
 use crate::outside::Outside;
 use crate::run::Left;
-use crate::setting::{Setting, count_at, kind_of, text_of};
+use crate::setting::{Setting, kind_of, text_of};
 use crate::shelf::Shelf;
 use crate::small::list_small;
 use crate::sweep::sweep;
@@ -85,7 +85,7 @@ impl Trials {
         with_evidence: bool,
         out: &mut String,
     ) -> Result<bool, AllocError> {
-        let (Some(count), Some(from)) = (count_at(step, 1), count_at(step, 2)) else {
+        let (Some(count), Some(from)) = (step.amount(1), step.amount(2)) else {
             return Ok(false);
         };
         let setting = &mut self.setting;

@@ -18,7 +18,7 @@ ghost use Rattle.std.specs.Prelude.{◌≡◌, ◌<◌, ◌^◌, true, length, I
 use lrat_check::{Checked, Checker, Counts, Mismatch, Why};
 use sat_base::Lits;
 use std::alloc::{AllocError, Global};
-use trial_lits::{MOST, add, behind, id_at, ids_at, lits_at, tell, tell_lit, tell_number, vars_at};
+use trial_lits::{MOST, add, behind, ids_at, lits_at, tell, tell_lit, tell_number, vars_at};
 use trial_script::{Player, Step};
 
 /// A checker, and whether no step came yet.
@@ -138,7 +138,7 @@ fn check(
     step: &Step<'_>,
     out: &mut String,
 ) -> Result<bool, AllocError> {
-    let Some(id) = id_at(step, 1) else {
+    let Some(id) = step.amount(1) else {
         return Ok(false);
     };
     let Some(lits) = lits_at(alloc, step, 2, MOST)? else {
@@ -155,7 +155,7 @@ fn check(
 }
 
 fn tell_clause(checker: &Checker, step: &Step<'_>, out: &mut String) -> Result<bool, AllocError> {
-    let Some(id) = id_at(step, 1) else {
+    let Some(id) = step.amount(1) else {
         return Ok(false);
     };
     let clause = checker.clause(id);
@@ -172,7 +172,7 @@ fn tell_clause(checker: &Checker, step: &Step<'_>, out: &mut String) -> Result<b
 }
 
 fn reserve(checker: &mut Checker, step: &Step<'_>) -> Result<bool, AllocError> {
-    let (Some(steps), Some(literals)) = (id_at(step, 1), id_at(step, 2)) else {
+    let (Some(steps), Some(literals)) = (step.amount(1), step.amount(2)) else {
         return Ok(false);
     };
     checker.reserve(steps, literals)?;

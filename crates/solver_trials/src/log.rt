@@ -23,7 +23,7 @@ ghost use Rattle.lrat_steps.specs.Log.{steps_of};
 use lrat_steps::{Log, LogStep, StepKind, may_forget};
 use sat_base::{Derivation, Lit};
 use std::alloc::{AllocError, Global};
-use trial_lits::{MOST, add, add_ids, add_lits, behind, id_at, ids_at, lits_at, tell, tell_number};
+use trial_lits::{MOST, add, add_ids, add_lits, behind, ids_at, lits_at, tell, tell_number};
 use trial_script::{Player, Step};
 
 /// A log.
@@ -119,7 +119,7 @@ fn worked(alloc: Global) -> Result<Log, AllocError>
 
 // Marks that a learnt clause is live no more. Where all learnt clauses are live, so is this one.
 fn forget(log: &mut Log, step: &Step<'_>) -> Result<bool, AllocError> {
-    let Some(id) = id_at(step, 1) else {
+    let Some(id) = step.amount(1) else {
         return Ok(false);
     };
     if id == 0 || id > log.len() || log.live_learned() != log.learned() {
@@ -133,7 +133,7 @@ fn forget(log: &mut Log, step: &Step<'_>) -> Result<bool, AllocError> {
 }
 
 fn trim(alloc: Global, step: &Step<'_>, out: &mut String) -> Result<bool, AllocError> {
-    let Some(goal) = id_at(step, 1) else {
+    let Some(goal) = step.amount(1) else {
         return Ok(false);
     };
     let log = worked(alloc)?;
@@ -160,7 +160,7 @@ fn tell_derivation(derivation: &Derivation, out: &mut String) -> Result<(), Allo
 }
 
 fn tell_may_forget(step: &Step<'_>, out: &mut String) -> Result<bool, AllocError> {
-    let (Some(live), Some(learned)) = (id_at(step, 1), id_at(step, 2)) else {
+    let (Some(live), Some(learned)) = (step.amount(1), step.amount(2)) else {
         return Ok(false);
     };
     tell(
@@ -181,7 +181,7 @@ fn counts(log: &Log, out: &mut String) -> Result<(), AllocError> {
 }
 
 fn tell_step(log: &Log, step: &Step<'_>, out: &mut String) -> Result<bool, AllocError> {
-    let Some(id) = id_at(step, 1) else {
+    let Some(id) = step.amount(1) else {
         return Ok(false);
     };
     if id == 0 || id > log.len() {

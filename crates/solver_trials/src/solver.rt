@@ -24,9 +24,7 @@ use cdcl_core::{Solved, Solver};
 use lrat_steps::Log;
 use sat_base::{Assign, Derivation, Lit, Purse};
 use std::alloc::{AllocError, Global};
-use trial_lits::{
-    behind, id_at, is_among, literal, number_at, tell, tell_lits, tell_number, tell_signed, vars_at,
-};
+use trial_lits::{behind, is_among, literal, tell, tell_lits, tell_number, tell_signed, vars_at};
 use trial_script::{Player, Step};
 
 /// What a search gave.
@@ -94,7 +92,7 @@ impl SolverPlayer {
         step: &Step<'_>,
         out: &mut String,
     ) -> Result<bool, AllocError> {
-        let (Some(count), Some(state)) = (number_at(step, 1), id_at(step, 2)) else {
+        let (Some(count), Some(state)) = (step.count(1), step.amount(2)) else {
             return Ok(false);
         };
         let mut random = Random { state };
@@ -163,12 +161,21 @@ fn on_solver(
     out: &mut String,
 ) -> Result<bool, AllocError> {
     match step.word(0) {
-        "add" => add_all(alloc, solver, &step.numbers(alloc, 1)?)?,
+        "add" => return add(alloc, solver, step),
         "learned" => tell_number(out, "learned", solver.log().learned())?,
         "steps" => tell_number(out, "steps", solver.log().len())?,
         "needed" => needed(alloc, solver.log(), out)?,
         _ => return Ok(false),
     }
+    Ok(true)
+}
+
+/// Adds the clauses that the call names.
+fn add(alloc: Global, solver: &mut Solver, step: &Step<'_>) -> Result<bool, AllocError> {
+    let Some(numbers) = step.numbers(alloc, 1)? else {
+        return Ok(false);
+    };
+    add_all(alloc, solver, &numbers)?;
     Ok(true)
 }
 
@@ -217,9 +224,11 @@ fn search(
     solver: &mut Solver,
     step: &Step<'_>,
 ) -> Result<Option<Reply>, AllocError> {
-    let numbers = step.numbers(alloc, 1)?;
-    let turn = id_at(step, behind(step, "turn")).unwrap_or(0);
-    let left = id_at(step, behind(step, "left")).unwrap_or(0);
+    let Some(numbers) = step.numbers(alloc, 1)? else {
+        return Ok(None);
+    };
+    let turn = step.amount(behind(step, "turn")).unwrap_or(0);
+    let left = step.amount(behind(step, "left")).unwrap_or(0);
     ask(alloc, solver, &numbers, turn, left)
 }
 

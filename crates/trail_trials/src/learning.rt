@@ -15,7 +15,7 @@ use clause_store::Store;
 use learn_step::{Learnt, Origin, core_of, learn};
 use std::alloc::{AllocError, Global};
 use trail_book::Trail;
-use trial_lits::{add_ids, add_lits, id_at, lit_at, tell_number, vars_at};
+use trial_lits::{add_ids, add_lits, lit_at, tell_number, vars_at};
 use trial_script::{Player, Step};
 
 /// Clauses and values, as somebody wrote them.
@@ -88,7 +88,7 @@ fn tell_learnt(
     step: &Step<'_>,
     out: &mut String,
 ) -> Result<bool, AllocError> {
-    let Some(id) = id_at(step, 1) else {
+    let Some(id) = step.amount(1) else {
         return Ok(false);
     };
     if store.vars() != trail.vars() || trail.top() == 0 {
@@ -125,7 +125,7 @@ fn tell_core(
 
 fn origin_at(trail: &Trail, step: &Step<'_>) -> Option<Origin> {
     if step.word(0) == "core" {
-        Some(Origin::Conflict(id_at(step, 1)?))
+        Some(Origin::Conflict(step.amount(1)?))
     } else {
         Some(Origin::Assumption(lit_at(step, 1, trail.vars())?))
     }

@@ -14,7 +14,7 @@
 use crate::bench::Bench;
 use crate::{store, trail};
 use std::alloc::{AllocError, Global};
-use trial_lits::{lit_at, lits_at, number_at, tell_id, vars_at};
+use trial_lits::{lit_at, lits_at, tell_id, vars_at};
 use trial_script::{Player, Step};
 
 /// Clauses and values, once they were made.
@@ -99,6 +99,6 @@ fn decide(bench: &mut Bench, step: &Step<'_>, out: &mut String) -> Result<bool, 
 }
 
 fn back(bench: &mut Bench, step: &Step<'_>) -> Option<()> {
-    bench.back(number_at(step, 1)?);
+    bench.back(step.count(1)?);
     Some(())
 }

@@ -28,8 +28,7 @@ use clause_store::Store;
 use sat_base::Lit;
 use std::alloc::{AllocError, Global};
 use trial_lits::{
-    add, add_lit, add_lits, behind, id_at, lit_at, lits_at, number_at, tell, tell_id, tell_lit,
-    tell_number, vars_at,
+    add, add_lit, add_lits, behind, lit_at, lits_at, tell, tell_id, tell_lit, tell_number, vars_at,
 };
 use trial_script::{Player, Step};
 
@@ -111,7 +110,7 @@ pub fn add_clause(
 }
 
 fn reserve(store: &mut Store, step: &Step<'_>, out: &mut String) -> Result<bool, AllocError> {
-    let (Some(count), Some(literals)) = (id_at(step, 1), id_at(step, 2)) else {
+    let (Some(count), Some(literals)) = (step.amount(1), step.amount(2)) else {
         return Ok(false);
     };
     match store.reserve(count, literals) {
@@ -171,7 +170,7 @@ fn add_two(store: &mut Store, first: &[Lit], second: &[Lit]) -> Result<(u64, u64
 pub fn clause_at(store: &Store, step: &Step<'_>, at: usize) -> Option<u64>
     ensures { IfSome result (IsId store.now.clauses) }
 {
-    let id = id_at(step, at)?;
+    let id = step.amount(at)?;
     if id > 0 && id <= store.len() {
         Some(id)
     } else {
@@ -190,7 +189,7 @@ fn link_at(store: &Store, step: &Step<'_>, at: usize) -> Option<u64>
 fn place_at(step: &Step<'_>, at: usize) -> Option<u32>
     ensures { IfSome result (λ place. place < 2) }
 {
-    let place = number_at(step, at)?;
+    let place = step.count(at)?;
     if place < 2 { Some(place) } else { None }
 }
 
@@ -209,9 +208,9 @@ fn change(store: &mut Store, step: &Step<'_>) -> Option<()> {
         }
         "set_position" => {
             let id = clause_at(store, step, 1)?;
-            store.set_position(id, number_at(step, 2)? as usize);
+            store.set_position(id, step.count(2)? as usize);
         }
-        "set_false" => store.set_false_id(id_at(step, 1)),
+        "set_false" => store.set_false_id(step.amount(1)),
         _ => return set_end(store, step),
     }
     Some(())

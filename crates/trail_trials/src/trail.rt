@@ -28,8 +28,7 @@ use sat_base::Lit;
 use std::alloc::{AllocError, Global};
 use trail_book::Trail;
 use trial_lits::{
-    add, add_id, add_lit, behind, id_at, lit_at, number_at, tell, tell_lit, tell_number, var_at,
-    vars_at,
+    add, add_id, add_lit, behind, lit_at, tell, tell_lit, tell_number, var_at, vars_at,
 };
 use trial_script::{Player, Step};
 
@@ -104,11 +103,11 @@ pub fn change(trail: &mut Trail, step: &Step<'_>) -> Option<()>
         "assign" => assign(trail, step),
         "unit" => set_unit(trail, step),
         "back_to" => {
-            trail.back_to(number_at(step, 1)?);
+            trail.back_to(step.count(1)?);
             Some(())
         }
         "start_at" => {
-            trail.start_at(id_at(step, 1)?);
+            trail.start_at(step.amount(1)?);
             Some(())
         }
         _ => None,
@@ -139,7 +138,7 @@ fn assign(trail: &mut Trail, step: &Step<'_>) -> Option<()>
     ensures { trail.new.vars ≡ trail.old.vars }
 {
     let lit = unset(trail, step)?;
-    let reason = id_at(step, 2)?;
+    let reason = step.amount(2)?;
     if reason == 0 {
         return None;
     }
@@ -151,7 +150,7 @@ fn set_unit(trail: &mut Trail, step: &Step<'_>) -> Option<()>
     ensures { trail.new.vars ≡ trail.old.vars }
 {
     let var = var_at(step, 1, trail.vars())?;
-    let id = id_at(step, 2)?;
+    let id = step.amount(2)?;
     let _value = trail.value(Lit::new(var as i32))?;
     if id == 0 {
         return None;
@@ -174,7 +173,9 @@ fn bump_all(trail: &mut Trail, vars: &[i128]) {
 }
 
 fn bump(alloc: Global, trail: &mut Trail, step: &Step<'_>) -> Result<bool, AllocError> {
-    let vars = step.numbers(alloc, 1)?;
+    let Some(vars) = step.numbers(alloc, 1)? else {
+        return Ok(false);
+    };
     bump_all(trail, &vars);
     Ok(true)
 }
@@ -193,10 +194,12 @@ fn rounds(
     step: &Step<'_>,
     out: &mut String,
 ) -> Result<bool, AllocError> {
-    let Some(count) = number_at(step, 1) else {
+    let Some(count) = step.count(1) else {
         return Ok(false);
     };
-    let vars = step.numbers(alloc, 2)?;
+    let Some(vars) = step.numbers(alloc, 2)? else {
+        return Ok(false);
+    };
     let mut fell = false;
     for round in 0..count {
         let before = activity(trail, round % 4 + 1);
@@ -307,7 +310,7 @@ fn tell_var(trail: &Trail, step: &Step<'_>, out: &mut String) -> Result<bool, Al
 }
 
 fn tell_place(trail: &Trail, step: &Step<'_>, out: &mut String) -> Result<bool, AllocError> {
-    let Some(place) = number_at(step, 1) else {
+    let Some(place) = step.count(1) else {
         return Ok(false);
     };
     if place >= trail.len() {

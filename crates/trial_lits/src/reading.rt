@@ -1,4 +1,4 @@
-//! What the words of a call say: numbers, ids, literals.
+//! What the words of a call say: variables, literals, ids.
 //!
 //! Each reader answers none where the word there is no such thing, and then the call is not known.
 ghost use Rattle.std.specs.Prelude.{◌≡◌, ◌<◌, ◌≤◌, ◌^◌, true, false, IfSome, IfOk};
@@ -12,21 +12,11 @@ use trial_script::Step;
 /// The greatest number of a variable.
 pub const MOST: u32 = 2_147_483_647;
 
-/// The number at this place of a call.
-pub fn number_at(step: &Step<'_>, at: usize) -> Option<u32> {
-    u32::try_from(step.number(at)?).ok()
-}
-
-/// The id at this place of a call.
-pub fn id_at(step: &Step<'_>, at: usize) -> Option<u64> {
-    u64::try_from(step.number(at)?).ok()
-}
-
 /// How many variables there are to be.
 pub fn vars_at(step: &Step<'_>, at: usize) -> Option<u32>
     ensures { IfSome result (λ vars. vars < 2 ^ 31) }
 {
-    let vars = number_at(step, at)?;
+    let vars = step.count(at)?;
     if vars <= MOST { Some(vars) } else { None }
 }
 
@@ -35,7 +25,7 @@ pub fn var_at(step: &Step<'_>, at: usize, vars: u32) -> Option<u32>
     ensures from_one { IfSome result (λ var. 0 < var) }
     ensures within { IfSome result (λ var. var ≤ vars) }
 {
-    let var = number_at(step, at)?;
+    let var = step.count(at)?;
     if var > 0 && var <= vars {
         Some(var)
     } else {
@@ -73,7 +63,9 @@ pub fn lits_at(
     requires { vars < 2 ^ 31 }
     ensures { IfOk result (λ found. IfSome found (λ lits. AreLiterals vars lits.items)) }
 {
-    let numbers = step.numbers(alloc, from)?;
+    let Some(numbers) = step.numbers(alloc, from)? else {
+        return Ok(None);
+    };
     let mut lits = Vec::with_capacity(alloc, numbers.len())?;
     for number in &numbers {
         let Some(lit) = literal(*number, vars) else {
@@ -86,7 +78,9 @@ pub fn lits_at(
 
 /// The ids of a call from this place on.
 pub fn ids_at(alloc: Global, step: &Step<'_>, from: usize) -> Result<Option<Vec<u64>>, AllocError> {
-    let numbers = step.numbers(alloc, from)?;
+    let Some(numbers) = step.numbers(alloc, from)? else {
+        return Ok(None);
+    };
     let mut ids = Vec::with_capacity(alloc, numbers.len())?;
     for number in &numbers {
         let Ok(id) = u64::try_from(*number) else {

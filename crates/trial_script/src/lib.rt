@@ -14,7 +14,8 @@
 //!
 //! What has to be printed is passed over here, so that no player can copy it: `tools/trials.py` takes it from there for the
 //! file `stdout` of the crate, with which the gate compares what was printed. A call that the player doesn't know is
-//! printed behind `? `. In a text `\r`, `\t`, `\\` and `\x0b` stand for a CR, a tab, a backslash and the byte 11.
+//! printed behind `? `, and so is one in which a word with a digit stands where a number is due and is none. In a text `\r`,
+//! `\t`, `\\` and `\x0b` stand for a CR, a tab, a backslash and the byte 11.
 //!
 //! Start reading at `step.rt`. Nothing is proved of a script but that it is played to its end.
 #![tactic(auto)]
@@ -28,4 +29,4 @@ mod step;
 pub use line::{Line, line_of};
 pub use script::{Player, play};
 pub use shown::show;
-pub use step::Step;
+pub use step::{Step, has_digit};

@@ -46,16 +46,21 @@ impl<'a> Step<'a> {
         self.word(at).parse::<i128>().ok()
     }
 
-    /// The numbers from this place on, up to the first word that is none.
-    pub fn numbers(&self, alloc: Global, from: usize) -> Result<Vec<i128>, AllocError> {
+    /// The numbers from this place on, up to the first word that is none; or nothing, where that word has a digit, since it
+    /// was meant as one.
+    pub fn numbers(&self, alloc: Global, from: usize) -> Result<Option<Vec<i128>>, AllocError> {
         let mut numbers = Vec::new(alloc);
         for at in from..self.words.len() {
             let Some(number) = self.number(at) else {
-                break;
+                return Ok(if has_digit(self.word(at)) {
+                    None
+                } else {
+                    Some(numbers)
+                });
             };
             numbers.push(number)?;
         }
-        Ok(numbers)
+        Ok(Some(numbers))
     }
 
     /// The text below the call.
@@ -78,6 +83,11 @@ impl<'a> Step<'a> {
         }
         Ok(())
     }
+}
+
+/// Whether a digit stands in the word, so that it is a number or was meant as one.
+pub fn has_digit(word: &str) -> bool {
+    word.bytes().any(|byte| byte.is_ascii_digit())
 }
 
 /// The byte that the text begins with, and what is behind it: `\r`, `\t`, `\\` and `\x0b` are each one byte.

@@ -1,10 +1,10 @@
 //! Records are checked.
-ghost use Rattle.std.specs.Prelude.{◌≡◌, All, IsTrue, List, Bool, length};
+ghost use Rattle.std.specs.Prelude.{◌≡◌};
 ghost use Rattle.evidence_rec.specs.Basis.{basis_of};
-ghost use Rattle.evidence_rec.specs.Records.{IsShaped};
 
-use evidence_rec::{Record, RecordChecker, Records, Verdict, Witnesses, check_record};
+use evidence_rec::{Record, RecordChecker, Records, Verdict, check_record};
 use gm_base::Problem;
+use lawful_fakes::is_shaped;
 use std::alloc::{AllocError, Global};
 use trial_script::show;
 
@@ -64,31 +64,4 @@ fn check_next(
         },
         out,
     )
-}
-
-/// Whether the record has evidence for each of its groups, and assignments to the problem's variables.
-fn is_shaped(problem: &Problem, record: &Record) -> bool
-    ensures { IsTrue result → IsShaped problem.now «record».now }
-{
-    match record {
-        Record::Conflict { set, witnesses, .. } => {
-            witnesses.len() == set.len() && have_len(problem.vars(), witnesses)
-        }
-        Record::Correction {
-            set,
-            witness,
-            proofs,
-        } => witness.len() == problem.vars() as usize && proofs.len() == set.len(),
-    }
-}
-
-fn have_len(vars: u32, witnesses: &Witnesses) -> bool
-    ensures { IsTrue result → All (λ (w : List Bool). length w ≡ vars) witnesses.now }
-{
-    for at in 0..witnesses.len() {
-        if witnesses.at(at).len() != vars as usize {
-            return false;
-        }
-    }
-    true
 }

@@ -38,8 +38,11 @@ fn show_answer(answer: Answer<'_>, out: &mut String) -> Result<bool, AllocError>
 
 /// Tells the digits of the numbers behind the first word, put behind one another, each with a blank behind it.
 pub fn show_digits(alloc: Global, step: &Step<'_>, out: &mut String) -> Result<bool, AllocError> {
+    let Some(numbers) = step.numbers(alloc, 1)? else {
+        return Ok(false);
+    };
     let mut digits = Vec::new(alloc);
-    for number in step.numbers(alloc, 1)? {
+    for number in numbers {
         put_number(&mut digits, number)?;
         digits.push(b' ')?;
     }
