@@ -1,5 +1,5 @@
 //! Records that a trial wrote.
-ghost use Rattle.std.specs.Prelude.{◌≡◌, All, IfOk, IsTrue, List, Bool, length};
+ghost use Rattle.std.specs.Prelude.{◌≡◌, All, IfOk, OnOk, IsTrue, List, Bool, length};
 ghost use Rattle.evidence_rec.specs.Records.{IsShaped, IsAccepted};
 
 use evidence_rec::{Record, Witnesses, check_record};
@@ -7,7 +7,7 @@ use gm_base::{GroupSet, Problem};
 use std::alloc::{AllocError, AllocFailed, Global};
 
 /// What was wanting.
-#[derive(Clone, Copy, Debug, PartialEq, Eq)]
+#[derive(Clone, Copy, Debug)]
 pub enum Lacking {
     Memory,
     /// The evidence of a record does not show what it says.
@@ -31,8 +31,16 @@ pub fn checked(alloc: Global, problem: &Problem, record: Record) -> Result<Recor
     ensures accepted { IfOk result (IsAccepted problem.now) }
     ensures same { IfOk result (λ r. r ≡ «record») }
 {
-    if is_accepted(alloc, problem, &record)? {
-        Ok(record)
+    accept(alloc, problem, &record)?;
+    Ok(record)
+}
+
+// Refuses a record whose evidence does not show what it says.
+fn accept(alloc: Global, problem: &Problem, record: &Record) -> Result<(), Lacking>
+    ensures { OnOk result (IsAccepted problem.now «record».now) }
+{
+    if is_accepted(alloc, problem, record)? {
+        Ok(())
     } else {
         Err(Lacking::Evidence)
     }

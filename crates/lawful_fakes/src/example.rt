@@ -2,7 +2,7 @@
 //!
 //! Its minimal conflicts are {1, 2} and {1, 3, 4}, its minimal corrections {1}, {2, 3} and {2, 4}. The selectors of the
 //! groups are the variables 3 to 6.
-ghost use Rattle.std.specs.Prelude.{◌≡◌, ◌≤◌, All, IsTrue, IfOk};
+ghost use Rattle.std.specs.Prelude.{◌≡◌, ◌≤◌, ◌++◌, ◌∷◌, [], All, IsTrue, IfOk, OnOk};
 ghost use Rattle.sat_base.specs.Derivation.{max_id};
 ghost use Rattle.gm_base.specs.Sets.{IsSubset, all_groups};
 ghost use Rattle.lrat_steps.specs.Log.{learned_count};
@@ -26,23 +26,19 @@ pub fn four_clauses(alloc: Global) -> Result<Problem, AllocError>
     let x = Lit::new(1);
     let y = Lit::new(2);
     let mut clauses = Clauses::new(alloc);
-    clauses.push(Clause {
-        group: 1,
-        lits: Lits::from_slice(alloc, &[x])?,
-    })?;
-    clauses.push(Clause {
-        group: 2,
-        lits: Lits::from_slice(alloc, &[x.negated()])?,
-    })?;
-    clauses.push(Clause {
-        group: 3,
-        lits: Lits::from_slice(alloc, &[x.negated(), y])?,
-    })?;
-    clauses.push(Clause {
-        group: 4,
-        lits: Lits::from_slice(alloc, &[y.negated()])?,
-    })?;
+    add(alloc, &mut clauses, 1, &[x])?;
+    add(alloc, &mut clauses, 2, &[x.negated()])?;
+    add(alloc, &mut clauses, 3, &[x.negated(), y])?;
+    add(alloc, &mut clauses, 4, &[y.negated()])?;
     Problem::new(alloc, 2, 4, clauses)
+}
+
+// Adds a clause at the end.
+fn add(alloc: Global, clauses: &mut Clauses, group: u32, lits: &[Lit]) -> Result<(), AllocError>
+    ensures { OnOk result (clauses.new ≡ clauses.old ++ record { group = group; lits = lits.now } ∷ []) }
+{
+    let lits = Lits::from_slice(alloc, lits)?;
+    clauses.push(Clause { group, lits })
 }
 
 /// The set of these groups, where there are so many.
@@ -92,6 +88,17 @@ fn are_ids(numbers: &[u64]) -> bool
     true
 }
 
+// The literals of these numbers.
+fn literals(alloc: Global, numbers: &[i32]) -> Result<Lits, AllocError> {
+    let mut lits = Lits::new(alloc);
+    for number in numbers {
+        if *number != 0 && *number > i32::MIN {
+            lits.push(Lit::new(*number))?;
+        }
+    }
+    Ok(lits)
+}
+
 /// A derivation of one step, which is its goal.
 pub fn derivation(
     alloc: Global,
@@ -102,12 +109,7 @@ pub fn derivation(
     if id > 9_223_372_036_854_775_807 || !are_ids(hints) {
         return Err(Lacking::Evidence);
     }
-    let mut lits = Lits::new(alloc);
-    for number in numbers {
-        if *number != 0 && *number > i32::MIN {
-            lits.push(Lit::new(*number))?;
-        }
-    }
+    let lits = literals(alloc, numbers)?;
     let mut builder = DerivationBuilder::new(alloc, id);
     builder.push(id, lits.as_slice(), hints)?;
     Ok(builder.finish(alloc)?)
@@ -120,6 +122,15 @@ fn refutation(alloc: Global, of_two: bool) -> Result<Derivation, Lacking> {
     } else {
         derivation(alloc, 5, &[-3, -5, -6], &[1, 3, 4])
     }
+}
+
+// So many refutations: the first one is that of two groups.
+fn refutations(alloc: Global, count: usize) -> Result<Proofs, Lacking> {
+    let mut proofs = Proofs::new(alloc);
+    for at in 0..count {
+        proofs.push(refutation(alloc, at == 0)?)?;
+    }
+    Ok(proofs)
 }
 
 /// The conflict of the first two groups, or that of the three others.
@@ -149,17 +160,10 @@ pub fn correction(
 ) -> Result<Record, Lacking>
     ensures { IfOk result (IsAccepted problem.now) }
 {
-    let set = set_of(alloc, problem.groups(), groups)?;
-    let mut proofs = Proofs::new(alloc);
-    let mut of_two = true;
-    for _ in groups {
-        proofs.push(refutation(alloc, of_two)?)?;
-        of_two = false;
-    }
     let record = Record::Correction {
-        set,
+        set: set_of(alloc, problem.groups(), groups)?,
         witness: pair(alloc, values)?,
-        proofs,
+        proofs: refutations(alloc, groups.len())?,
     };
     checked(alloc, problem, record)
 }
@@ -177,7 +181,28 @@ pub fn table_of(
     ensures nothing { IfOk result (λ oracle. learned_count oracle.log ≡ 0) }
 {
     let mut oracle = TableOracle::new(alloc, problem, assignments(alloc, pairs)?, whole)?;
-    oracle.learn(conflict(alloc, problem, true)?)?;
-    oracle.learn(conflict(alloc, problem, false)?)?;
+    tell_both(alloc, problem, &mut oracle)?;
     Ok(oracle)
+}
+
+fn tell_both(alloc: Global, problem: &Problem, oracle: &mut TableOracle) -> Result<(), Lacking>
+    requires { oracle.old.problem ≡ problem.now }
+    ensures { oracle.new ≡ oracle.old }
+{
+    tell(alloc, problem, oracle, true)?;
+    tell(alloc, problem, oracle, false)
+}
+
+// Tells an oracle of the problem the conflict of the first two groups, or that of the three others.
+fn tell(
+    alloc: Global,
+    problem: &Problem,
+    oracle: &mut TableOracle,
+    of_two: bool,
+) -> Result<(), Lacking>
+    requires { oracle.old.problem ≡ problem.now }
+    ensures { oracle.new ≡ oracle.old }
+{
+    let known = conflict(alloc, problem, of_two)?;
+    Ok(oracle.learn(known)?)
 }

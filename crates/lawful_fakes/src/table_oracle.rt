@@ -114,10 +114,7 @@ impl Oracle for TableOracle {
         if let Some(assign) = satisfying(&self.problem, &self.witnesses, set)? {
             return Ok(Asked::Sat(assign));
         }
-        let found = refutation_of(alloc, &self.problem, &self.conflicts, set, self.whole)?;
-        let Some(refuted) = found else {
-            return Err(AllocError);
-        };
+        let refuted = refutation_of(alloc, &self.problem, &self.conflicts, set, self.whole)?;
         let core = refuted.set.copy(alloc)?;
         self.refuted = Some(refuted);
         Ok(Asked::Unsat(core))
@@ -152,23 +149,24 @@ fn satisfying(
     Ok(None)
 }
 
-// A refutation of the set or of a part of it, by the first of these conflicts that lies within it.
+// A refutation of the set or of a part of it, by the first of these conflicts that lies within it. That none does is
+// answered as want of memory.
 fn refutation_of(
     alloc: Global,
     problem: &Problem,
     conflicts: &Records,
     set: &GroupSet,
     whole: bool,
-) -> Result<Option<Refuted>, AllocError>
+) -> Result<Refuted, AllocError>
     requires { AllByRecursion (IsAccepted problem.now) conflicts.now }
-    ensures { IfOk result (λ found. IfSome found (λ r. IsRefutation problem.now set.now r.set r.proof)) }
+    ensures { IfOk result (λ r. IsRefutation problem.now set.now r.set r.proof) }
 {
     for record in conflicts.as_slice() {
         if let Some(refuted) = refuted_by(alloc, problem, record, set, whole)? {
-            return Ok(Some(refuted));
+            return Ok(refuted);
         }
     }
-    Ok(None)
+    Err(AllocError)
 }
 
 fn refuted_by(
