@@ -13,15 +13,16 @@
 //!
 //! An assignment is tried on the set before `sat` is printed, and a core has to lie in the set and its proof to derive a
 //! clause that is new.
-ghost use Rattle.std.specs.Prelude.{◌≡◌, IfOk};
+ghost use Rattle.std.specs.Prelude.{◌≡◌, true, IfOk, Some};
 ghost use Rattle.gm_base.specs.Sets.{IsSubset, all_groups};
+ghost use Rattle.gm_base.specs.Evidence.{is_witness};
 ghost use Rattle.evidence_rec.specs.Asking.{OracleState, refuted_by};
 
 use crate::moves::{Mover, Played, make_moves};
 use crate::telling::{add_numbers, say_count, say_log, say_proof};
 use crate::words::{lines_of, number_at, numbers_in, parts_in, set_in};
 use evidence_rec::{Asked, Oracle, Record};
-use gm_base::{Derivation, GroupSet, Kind, Problem, Purse};
+use gm_base::{Assign, Derivation, GroupSet, Kind, Problem, Purse};
 use group_oracle::GroupOracle;
 use known_sets::KnownSets;
 use lawful_fakes::{Lacking, TableOracle};
@@ -115,7 +116,7 @@ impl<O: Counted> Asker<'_, O> {
     fn ask(&mut self, alloc: Global, step: &Step<'_>, out: &mut String) -> Played {
         let set = set_in(alloc, step, 0, self.problem.groups())?;
         let answer = self.oracle.ask(alloc, &set, 0, &mut self.purse);
-        self.tell(alloc, &set, answer, step, out)
+        self.tell(alloc, &set, &answer, step, out)
     }
 
     fn ask_without(&mut self, alloc: Global, step: &Step<'_>, out: &mut String) -> Played {
@@ -125,7 +126,7 @@ impl<O: Counted> Asker<'_, O> {
         let answer = self
             .oracle
             .ask_without(alloc, &set, group, 0, &mut self.purse);
-        self.tell(alloc, &rest, answer, step, out)
+        self.tell(alloc, &rest, &answer, step, out)
     }
 
     /// Tells an answer about a set, and how many questions there were.
@@ -133,29 +134,47 @@ impl<O: Counted> Asker<'_, O> {
         &mut self,
         alloc: Global,
         set: &GroupSet,
-        answer: Result<Asked, AllocError>,
+        answer: &Result<Asked, AllocError>,
         step: &Step<'_>,
         out: &mut String,
     ) -> Played
-        requires { IfOk answer (λ asked. (O.state self.old.oracle).refuted ≡ refuted_by asked) }
+        requires { IfOk answer.now (λ asked. (O.state self.old.oracle).refuted ≡ refuted_by asked) }
     {
         match answer {
-            Ok(Asked::Sat(assign)) => {
-                let fits = assign.len() == self.problem.vars() as usize;
-                let holds = fits && self.problem.holds(set, &assign);
-                out.push_str(if holds { "sat" } else { "wrong" })?;
-            }
+            Ok(Asked::Sat(assign)) => out.push_str(self.sat_word(set, assign))?,
             Ok(Asked::Unsat(core)) => {
-                let proof = self.oracle.proof(alloc)?;
-                let fits = core.is_subset(set) && proof.len() > 0;
-                out.push_str(if fits { "unsat" } else { "wrong" })?;
-                tell_core(alloc, step, &core, out)?;
-                self.proof = Some(proof);
+                out.push_str(self.unsat_word(alloc, set, core)?)?;
+                tell_core(alloc, step, core, out)?;
             }
             Ok(Asked::Dry) => out.push_str("dry")?,
             Err(AllocError) => out.push_str("no memory")?,
         }
         self.tell_asked(out)
+    }
+
+    /// Whether the assignment satisfies the set.
+    fn sat_word(&self, set: &GroupSet, assign: &Assign) -> &'static str {
+        let fits = assign.len() == self.problem.vars() as usize;
+        if fits && self.problem.holds(set, assign) {
+            "sat"
+        } else {
+            "wrong"
+        }
+    }
+
+    /// Whether the core lies in the set. Its proof is kept.
+    fn unsat_word(
+        &mut self,
+        alloc: Global,
+        set: &GroupSet,
+        core: &GroupSet,
+    ) -> Result<&'static str, AllocError>
+        requires { (O.state self.old.oracle).refuted ≡ Some core.now }
+    {
+        let proof = self.oracle.proof(alloc)?;
+        let fits = core.is_subset(set) && proof.len() > 0;
+        self.proof = Some(proof);
+        Ok(if fits { "unsat" } else { "wrong" })
     }
 
     /// Ends a line with the count of questions.
@@ -173,17 +192,16 @@ impl<O: Counted> Asker<'_, O> {
     /// Asks about a set, and shrinks or grows it.
     fn explore(&mut self, alloc: Global, step: &Step<'_>, out: &mut String) -> Played {
         let set = set_in(alloc, step, 0, self.problem.groups())?;
-        match self.found(alloc, &set) {
-            Ok(Some(record)) => {
-                out.push_str(match record.kind() {
-                    Kind::Conflict => "conflict",
-                    Kind::Correction => "correction",
-                })?;
-                add_numbers(out, record.set().as_slice())?;
-            }
-            Ok(None) => out.push_str("dry")?,
-            Err(AllocError) => out.push_str("no memory")?,
-        }
+        let found = self.found(alloc, &set);
+        self.tell_explored(&found, out)
+    }
+
+    fn tell_explored(
+        &self,
+        found: &Result<Option<Record>, AllocError>,
+        out: &mut String,
+    ) -> Played {
+        tell_found(found, out)?;
         self.tell_asked(out)
     }
 
@@ -191,19 +209,55 @@ impl<O: Counted> Asker<'_, O> {
     fn found(&mut self, alloc: Global, set: &GroupSet) -> Result<Option<Record>, AllocError>
         requires { IsSubset set.now (all_groups self.old.problem.now.groups) }
     {
-        let oracle = &mut self.oracle;
-        let purse = &mut self.purse;
-        match oracle.ask(alloc, set, 0, purse)? {
-            Asked::Unsat(core) => match shrink(alloc, oracle, self.problem, &core, 0, purse)? {
-                Shrunk::Done(record) => Ok(Some(record)),
-                Shrunk::Dry(_) => Ok(None),
-            },
-            Asked::Sat(assign) => match grow(alloc, oracle, self.problem, set, &assign, 0, purse)? {
-                Grown::Done(record) => Ok(Some(record)),
-                Grown::Dry(_) => Ok(None),
-            },
+        match self.oracle.ask(alloc, set, 0, &mut self.purse)? {
+            Asked::Unsat(core) => self.shrunk(alloc, &core),
+            Asked::Sat(assign) => self.grown(alloc, set, &assign),
             Asked::Dry => Ok(None),
         }
+    }
+
+    /// The conflict that the last core is shrunk to.
+    fn shrunk(&mut self, alloc: Global, core: &GroupSet) -> Result<Option<Record>, AllocError>
+        requires refuted { (O.state self.old.oracle).refuted ≡ Some core.now }
+        requires within { IsSubset core.now (all_groups self.old.problem.now.groups) }
+    {
+        let oracle = &mut self.oracle;
+        match shrink(alloc, oracle, self.problem, core, 0, &mut self.purse)? {
+            Shrunk::Done(record) => Ok(Some(record)),
+            Shrunk::Dry(_) => Ok(None),
+        }
+    }
+
+    /// The correction of what the set is grown to from an assignment.
+    fn grown(
+        &mut self,
+        alloc: Global,
+        set: &GroupSet,
+        assign: &Assign,
+    ) -> Result<Option<Record>, AllocError>
+        requires within { IsSubset set.now (all_groups self.old.problem.now.groups) }
+        requires satisfied { is_witness self.old.problem.now set.now assign.now ≡ true }
+    {
+        let oracle = &mut self.oracle;
+        match grow(alloc, oracle, self.problem, set, assign, 0, &mut self.purse)? {
+            Grown::Done(record) => Ok(Some(record)),
+            Grown::Dry(_) => Ok(None),
+        }
+    }
+}
+
+/// Adds the set of a record, or why there is none.
+fn tell_found(found: &Result<Option<Record>, AllocError>, out: &mut String) -> Played {
+    match found {
+        Ok(Some(record)) => {
+            out.push_str(match record.kind() {
+                Kind::Conflict => "conflict",
+                Kind::Correction => "correction",
+            })?;
+            Ok(add_numbers(out, record.set().as_slice())?)
+        }
+        Ok(None) => Ok(out.push_str("dry")?),
+        Err(AllocError) => Ok(out.push_str("no memory")?),
     }
 }
 
@@ -213,10 +267,20 @@ fn tell_core(alloc: Global, step: &Step<'_>, core: &GroupSet, out: &mut String) 
         return Ok(add_numbers(out, core.as_slice())?);
     }
     for part in 1..parts_in(step) {
-        let wanted = numbers_in(alloc, step, part)?;
-        if wanted.iter().all(|group| core.contains(*group)) {
+        if holds_part(alloc, step, part, core)? {
             return Ok(out.push_str(", one held")?);
         }
     }
     Ok(out.push_str(", none held")?)
+}
+
+/// Whether a core holds the set in a part.
+fn holds_part(
+    alloc: Global,
+    step: &Step<'_>,
+    part: usize,
+    core: &GroupSet,
+) -> Result<bool, Lacking> {
+    let wanted = numbers_in(alloc, step, part)?;
+    Ok(wanted.iter().all(|group| core.contains(*group)))
 }

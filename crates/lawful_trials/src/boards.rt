@@ -185,7 +185,7 @@ fn take<R: Wait>(
         Taken::Stopped => false,
         Taken::Memory => false,
     };
-    say_taken(out, taken)
+    say_taken(out, &taken)
 }
 
 fn post<R: Wait>(

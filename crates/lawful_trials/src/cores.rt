@@ -13,7 +13,7 @@
 //! how many records there are, whether the engine has shown that all sets are explored, how many entries the history has,
 //! and how many clauses the map's log was given.
 ghost use Rattle.std.specs.Prelude.{◌≡◌, ◌<◌, ◌≤◌, IfOk};
-ghost use Rattle.evidence_rec.specs.Records.{IsAccepted};
+ghost use Rattle.map_core.specs.Own.{CanCall, calls_of};
 
 use crate::moves::{Mover, Played, make_moves};
 use crate::scripted::{record_in, scripted_map};
@@ -78,24 +78,41 @@ impl Mover for Desk<'_> {
             return Err(Lacking::Evidence);
         }
         match step.word(0) {
-            "take" => say_taken(out, core.take(worker, 0))?,
-            "post" => {
-                let finding = record_in(alloc, self.problem, step)?;
-                say_posted(out, core.post(worker, 0, finding))?;
+            "take" => Ok(say_taken(out, &core.take(worker, 0))?),
+            "post" => post(alloc, core, self.problem, worker, step, out),
+            "refill" => {
+                let refilled = core.refill(worker, 0, GroupSet::new(alloc));
+                Ok(say_refilled(out, refilled)?)
             }
-            "refill" => say_refilled(out, core.refill(worker, 0, GroupSet::new(alloc)))?,
             "retire" => {
                 core.retire(worker, 0);
-                say(out, "retired")?;
+                Ok(say(out, "retired")?)
             }
-            _ => return Err(Lacking::Evidence),
+            _ => Err(Lacking::Evidence),
         }
-        Ok(())
     }
 }
 
+/// Makes a worker's post.
+fn post(
+    alloc: Global,
+    core: &mut MapCore<ScriptedMap>,
+    problem: &Problem,
+    worker: u32,
+    step: &Step<'_>,
+    out: &mut String,
+) -> Played
+    requires problem { core.old.opening.problem ≡ problem.now }
+    requires may { CanCall core.old.opening worker 0 (calls_of worker core.old.history) }
+    ensures { core.new.opening.problem ≡ problem.now }
+{
+    let finding = record_in(alloc, problem, step)?;
+    let posted = core.post(worker, 0, finding);
+    Ok(say_posted(out, posted)?)
+}
+
 /// Adds a line on what a take was answered.
-pub fn say_taken(out: &mut String, taken: Taken) -> Result<(), AllocError> {
+pub fn say_taken(out: &mut String, taken: &Taken) -> Result<(), AllocError> {
     match taken {
         Taken::Job { turn, seed, grant } => {
             write!(out, "job {turn}, granted {grant}:")?;

@@ -41,8 +41,8 @@ impl Mover for Flipper<'_> {
     fn make_move(&mut self, alloc: Global, step: &Step<'_>, out: &mut String) -> Played {
         match step.word(0) {
             "try" => self.try_group(alloc, step, out),
-            "turn" => tell_turned(self.turn(alloc, step)?, out),
-            "repair" => tell_turned(self.repair(alloc, step)?, out),
+            "turn" => tell_turned(&self.turn(alloc, step)?, out),
+            "repair" => tell_turned(&self.repair(alloc, step)?, out),
             _ => Err(Lacking::Evidence),
         }
     }
@@ -65,18 +65,18 @@ impl Flipper<'_> {
     fn turn(&self, alloc: Global, step: &Step<'_>) -> Result<Option<Turned>, Lacking> {
         let problem = self.problem;
         let var = number_at(alloc, step, 0, 0)?;
-        let values = values_in(alloc, step, 1, problem.vars())?;
-        let left_out = set_in(alloc, step, 2, problem.groups())?;
         if var == 0 || var > problem.vars() {
             return Err(Lacking::Evidence);
         }
+        let values = values_in(alloc, step, 1, problem.vars())?;
+        let left_out = set_in(alloc, step, 2, problem.groups())?;
         let rotation = &self.rotation;
         Ok(rotation.turned(alloc, problem, &left_out, &values, var)?)
     }
 
     fn repair(&self, alloc: Global, step: &Step<'_>) -> Result<Option<Turned>, Lacking> {
         let problem = self.problem;
-        let marks = marks_of(alloc, problem, numbers_in(alloc, step, 0)?.as_slice())?;
+        let marks = marks_in(alloc, problem, step)?;
         let values = values_in(alloc, step, 1, problem.vars())?;
         let left_out = set_in(alloc, step, 2, problem.groups())?;
         let mut looks = 0;
@@ -94,11 +94,17 @@ impl Flipper<'_> {
     }
 }
 
-fn tell_turned(turned: Option<Turned>, out: &mut String) -> Played {
+fn tell_turned(turned: &Option<Turned>, out: &mut String) -> Played {
     Ok(match turned {
         Some(turned) => say_numbers(out, "left out", turned.out.as_slice())?,
         None => say(out, "none")?,
     })
+}
+
+/// A mark at each of the groups in the first part.
+fn marks_in(alloc: Global, problem: &Problem, step: &Step<'_>) -> Result<Vec<bool>, Lacking> {
+    let groups = numbers_in(alloc, step, 0)?;
+    Ok(marks_of(alloc, problem, groups.as_slice())?)
 }
 
 /// A mark at each of these groups.

@@ -101,17 +101,24 @@ impl<M: MapEngine> Search<M> {
     /// Searches for a seed.
     fn find(&mut self, alloc: Global, has_size: bool, out: &mut String) -> Played {
         match self.map.seed(alloc, 0, &mut self.purse)? {
-            Seed::Set(set) => {
-                self.tell_seed(&set, has_size, out)?;
-                self.add_left_out(alloc, &set)?;
-            }
+            Seed::Set(set) => self.add_seed(alloc, &set, has_size, out),
             Seed::Empty => {
                 self.proof = Some(self.map.empty_proof(alloc)?);
-                say(out, "none left")?;
+                Ok(say(out, "none left")?)
             }
-            Seed::Dry => say(out, "dry")?,
+            Seed::Dry => Ok(say(out, "dry")?),
         }
-        Ok(())
+    }
+
+    fn add_seed(
+        &mut self,
+        alloc: Global,
+        seed: &GroupSet,
+        has_size: bool,
+        out: &mut String,
+    ) -> Played {
+        self.tell_seed(seed, has_size, out)?;
+        Ok(self.add_left_out(alloc, seed)?)
     }
 
     fn tell_seed(

@@ -24,14 +24,23 @@ pub fn make_moves<M: Mover>(
     for line in lines_of(step).split('\n') {
         let step = Step::new(alloc, line)?;
         if !is_no_move(step.word(0)) {
-            match mover.make_move(alloc, &step, out) {
-                Ok(()) => {}
-                Err(Lacking::Evidence) => say_unknown(out, &step)?,
-                Err(Lacking::Memory) => return Err(AllocError),
-            }
+            make_one(alloc, mover, &step, out)?;
         }
     }
     Ok(())
+}
+
+fn make_one<M: Mover>(
+    alloc: Global,
+    mover: &mut M,
+    step: &Step<'_>,
+    out: &mut String,
+) -> Result<(), AllocError> {
+    match mover.make_move(alloc, step, out) {
+        Ok(()) => Ok(()),
+        Err(Lacking::Evidence) => say_unknown(out, step),
+        Err(Lacking::Memory) => Err(AllocError),
+    }
 }
 
 /// Whether a line is none: it describes the map, or asks of the log that is left in the end.

@@ -25,11 +25,10 @@ use trial_script::Step;
 pub fn scripted_map(alloc: Global, problem: &Problem, lines: &str) -> Result<ScriptedMap, Lacking>
     ensures { IfOk result (λ map. map ≡ new_engine problem.now.groups) }
 {
-    let seeds = seeds_of(alloc, problem, &line_with(alloc, lines, "script")?)?;
-    let ending = ending_of(alloc, &line_with(alloc, lines, "ending")?)?;
-    let repeating = line_with(alloc, lines, "repeating")?;
+    let seeds = seeds_of(alloc, problem, lines)?;
+    let ending = ending_of(alloc, lines)?;
     let map = ScriptedMap::new(alloc, problem.groups(), seeds, ending);
-    Ok(if repeating.word(0) == "repeating" {
+    Ok(if lines.split('\n').any(|line| line == "repeating") {
         map.repeating()
     } else {
         map
@@ -47,7 +46,12 @@ fn line_with<'a>(alloc: Global, lines: &'a str, word: &str) -> Result<Step<'a>, 
     Step::new(alloc, "")
 }
 
-fn seeds_of(alloc: Global, problem: &Problem, step: &Step<'_>) -> Result<Row<GroupSet>, Lacking> {
+fn seeds_of(alloc: Global, problem: &Problem, lines: &str) -> Result<Row<GroupSet>, Lacking> {
+    let step = line_with(alloc, lines, "script")?;
+    seeds_in(alloc, problem, &step)
+}
+
+fn seeds_in(alloc: Global, problem: &Problem, step: &Step<'_>) -> Result<Row<GroupSet>, Lacking> {
     let mut seeds = Row::new(alloc);
     for part in 0..parts_in(step) {
         seeds.push(set_in(alloc, step, part, problem.groups())?)?;
@@ -55,9 +59,10 @@ fn seeds_of(alloc: Global, problem: &Problem, step: &Step<'_>) -> Result<Row<Gro
     Ok(seeds)
 }
 
-fn ending_of(alloc: Global, step: &Step<'_>) -> Result<Derivation, Lacking> {
-    let id = number_at(alloc, step, 0, 0)?;
-    let hints = ids_in(alloc, step, 1)?;
+fn ending_of(alloc: Global, lines: &str) -> Result<Derivation, Lacking> {
+    let step = line_with(alloc, lines, "ending")?;
+    let id = number_at(alloc, &step, 0, 0)?;
+    let hints = ids_in(alloc, &step, 1)?;
     derivation(alloc, u64::from(id), &[], hints.as_slice())
 }
 
@@ -74,17 +79,39 @@ pub fn record_in(alloc: Global, problem: &Problem, step: &Step<'_>) -> Result<Re
     ensures { IfOk result (IsAccepted problem.now) }
 {
     let numbers = numbers_in(alloc, step, 0)?;
-    // The first one is the worker's.
-    let Some((_, groups)) = numbers.as_slice().split_first() else {
-        return Err(Lacking::Evidence);
-    };
-    if has_word(step, "conflict") {
-        return match groups {
-            [1, 2] => conflict(alloc, problem, true),
-            [1, 3, 4] => conflict(alloc, problem, false),
-            _ => Err(Lacking::Evidence),
-        };
+    match numbers.as_slice() {
+        // The first one is the worker's.
+        [_, groups @ ..] => record_of(alloc, problem, groups, step),
+        [] => Err(Lacking::Evidence),
     }
+}
+
+fn record_of(
+    alloc: Global,
+    problem: &Problem,
+    groups: &[u32],
+    step: &Step<'_>,
+) -> Result<Record, Lacking>
+    ensures { IfOk result (IsAccepted problem.now) }
+{
+    if !has_word(step, "conflict") {
+        return correction_of(alloc, problem, groups, step);
+    }
+    match groups {
+        [1, 2] => conflict(alloc, problem, true),
+        [1, 3, 4] => conflict(alloc, problem, false),
+        _ => Err(Lacking::Evidence),
+    }
+}
+
+fn correction_of(
+    alloc: Global,
+    problem: &Problem,
+    groups: &[u32],
+    step: &Step<'_>,
+) -> Result<Record, Lacking>
+    ensures { IfOk result (IsAccepted problem.now) }
+{
     let pairs = pairs_in(alloc, step, 1)?;
     match pairs.first() {
         Some(values) => correction(alloc, problem, groups, *values),

@@ -69,6 +69,11 @@ pub fn say_proof(
         numbers.push(lit.number())?;
     }
     numbers.sort_unstable();
+    say_clause(out, numbers.as_slice())
+}
+
+/// Adds a line of a clause, the last number first.
+fn say_clause(out: &mut String, numbers: &[i32]) -> Result<(), AllocError> {
     out.push_str("proof of")?;
     for number in numbers.iter().rev() {
         write!(out, " {number}")?;

@@ -79,11 +79,11 @@ pub fn values_in(alloc: Global, step: &Step<'_>, part: usize, vars: u32) -> Resu
     let [word] = part_of(step.words(), part) else {
         return Err(Lacking::Evidence);
     };
-    let mut builder = AssignBuilder::all_false(alloc, vars)?;
     let bits = word.as_bytes();
     if bits.len() != vars as usize {
         return Err(Lacking::Evidence);
     }
+    let mut builder = AssignBuilder::all_false(alloc, vars)?;
     for at in 0..vars {
         builder.set(at + 1, bits[at as usize] == b'1');
     }

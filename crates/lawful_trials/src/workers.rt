@@ -8,6 +8,7 @@
 //! `either` is for workers whose end depends on who comes first: it prints `as it may` where all five records were found, or
 //! memory was wanting and there are five at most.
 ghost use Rattle.std.specs.Prelude.{◌≡◌, ◌<◌, ◌≤◌, All, IfOk, length};
+ghost use Rattle.evidence_rec.specs.Seeding.{new_engine};
 ghost use Rattle.worker_pool.specs.Workers.{IsFresh};
 
 use crate::cores::verdict_word;
@@ -17,7 +18,7 @@ use crate::scripted::scripted_map;
 use crate::telling::{add_numbers, say};
 use crate::words::{lines_of, part_of, without_digit};
 use evidence_rec::Records;
-use gm_base::{Kind, Problem};
+use gm_base::{GroupSet, Kind, Problem};
 use gm_ports::OpenGate;
 use lawful_fakes::example::table_of;
 use lawful_fakes::{Lacking, ShyMap, ShyOracle};
@@ -87,34 +88,54 @@ fn enumerated<R: Threads + Wait + Sync>(
     step: &Step<'_>,
 ) -> Result<Outcome, Lacking> {
     let _groups = problem.groups(); // The problem is well-formed.
-    let questions = numbers_of(alloc, step, 0)?;
+    let map = map_of(alloc, problem, step)?;
+    let oracles = oracles_of(alloc, problem, step)?;
+    let records = Records::new(alloc);
+    Ok(enumerate(rt, alloc, problem, records, oracles, map, 100, 9, &OpenGate))
+}
+
+/// The map, which is shy from the block on that the call names.
+fn map_of(alloc: Global, problem: &Problem, step: &Step<'_>) -> Result<ShyMap, Lacking>
+    ensures { IfOk result (λ map. map ≡ new_engine problem.now.groups) }
+{
     let blocks = numbers_of(alloc, step, 1)?;
-    let [block] = blocks.as_slice() else {
-        return Err(Lacking::Evidence);
-    };
+    match blocks.as_slice() {
+        [block] => Ok(ShyMap::new(scripted_map(alloc, problem, lines_of(step))?, *block)),
+        _ => Err(Lacking::Evidence),
+    }
+}
+
+/// An oracle for each question that the call names.
+fn oracles_of(alloc: Global, problem: &Problem, step: &Step<'_>) -> Result<Vec<ShyOracle>, Lacking>
+    ensures some { IfOk result (λ oracles. 0 < length oracles.items) }
+    ensures few { IfOk result (λ oracles. length oracles.items ≤ 64) }
+    ensures fresh { IfOk result (λ oracles. All (IsFresh problem.now) oracles.items) }
+{
+    let questions = numbers_of(alloc, step, 0)?;
     if questions.is_empty() || questions.len() > 64 {
         return Err(Lacking::Evidence);
     }
-    let oracles = shy_of(alloc, problem, questions.as_slice())?;
-    let map = ShyMap::new(scripted_map(alloc, problem, lines_of(step))?, *block);
-    let records = Records::new(alloc);
-    Ok(enumerate(rt, alloc, problem, records, oracles, map, 100, 9, &OpenGate))
+    shy_of(alloc, problem, questions.as_slice())
 }
 
 /// The numbers of calls in a part.
 fn numbers_of(alloc: Global, step: &Step<'_>, part: usize) -> Result<Vec<u64>, Lacking> {
     let mut numbers = Vec::new(alloc);
     for word in part_of(step.words(), part) {
-        if *word == "never" {
-            numbers.push(NEVER)?;
-            continue;
-        }
-        match word.parse::<u64>() {
-            Ok(number) => numbers.push(number)?,
-            Err(_) => without_digit(word)?,
+        match number_of(word) {
+            Some(number) => numbers.push(number)?,
+            None => without_digit(word)?,
         }
     }
     Ok(numbers)
+}
+
+fn number_of(word: &str) -> Option<u64> {
+    if word == "never" {
+        Some(NEVER)
+    } else {
+        word.parse::<u64>().ok()
+    }
 }
 
 /// As many oracles as there are numbers: each is shy from its question of this number on.
@@ -152,8 +173,12 @@ fn say_sets(
         }
     }
     sets.sort()?;
+    add_sets(out, sets.as_slice())
+}
+
+fn add_sets(out: &mut String, sets: &[GroupSet]) -> Result<(), AllocError> {
     let mut mark = "";
-    for set in sets.as_slice() {
+    for set in sets {
         out.push_str(mark)?;
         add_numbers(out, set.as_slice())?;
         mark = " :";
