@@ -14,9 +14,10 @@
 //! reason_name too_long       its name
 //! ```
 ghost use Rattle.std.specs.Prelude.{◌≡◌, ◌<◌, ◌^◌, true, length, IfOk};
+ghost use Rattle.sat_base.specs.Literals.{AreLiterals};
 
 use lrat_check::{Checked, Checker, Counts, Mismatch, Why};
-use sat_base::Lits;
+use sat_base::{Lit, Lits};
 use std::alloc::{AllocError, Global};
 use trial_lits::{MOST, add, behind, ids_at, lits_at, tell, tell_lit, tell_number, vars_at};
 use trial_script::{Player, Step};
@@ -57,16 +58,30 @@ impl CheckerPlayer {
         let Some(second) = lits_at(alloc, step, behind(step, "/"), vars)? else {
             return Ok(false);
         };
-        let inputs = [
-            Lits::from_slice(alloc, &first)?,
-            Lits::from_slice(alloc, &second)?,
-        ];
         self.checking = Some(Checking {
-            checker: Checker::new(alloc, &inputs, vars)?,
+            checker: checker_of(alloc, vars, &first, &second)?,
             is_fresh: false,
         });
         Ok(true)
     }
+}
+
+/// A checker of two clauses.
+fn checker_of(
+    alloc: Global,
+    vars: u32,
+    first: &[Lit],
+    second: &[Lit],
+) -> Result<Checker, AllocError>
+    requires small { vars < 2 ^ 31 }
+    requires first { AreLiterals vars first.now }
+    requires second { AreLiterals vars second.now }
+{
+    let inputs = [
+        Lits::from_slice(alloc, first)?,
+        Lits::from_slice(alloc, second)?,
+    ];
+    Checker::new(alloc, &inputs, vars)
 }
 
 impl Player for CheckerPlayer {

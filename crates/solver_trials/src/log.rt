@@ -16,7 +16,7 @@
 //!
 //! That a log is honest can't be told by looking at it in a few lines. So what is trimmed is one log that is proved so:
 //! "x or y", "x or not y" and so "x"; "not x or y" and so "y"; "not x or not y" and so the empty clause, twice.
-ghost use Rattle.std.specs.Prelude.{◌≡◌, ◌<◌, ◌≤◌, length, IfOk};
+ghost use Rattle.std.specs.Prelude.{◌≡◌, ◌<◌, ◌≤◌, [], length, IfOk, OnOk};
 ghost use Rattle.lrat_steps.specs.Rows.{worked_log};
 ghost use Rattle.lrat_steps.specs.Log.{steps_of};
 
@@ -103,9 +103,17 @@ fn kind_named(name: &str) -> Option<StepKind> {
 fn worked(alloc: Global) -> Result<Log, AllocError>
     ensures { IfOk result (λ log. log ≡ worked_log) }
 {
+    let mut log = Log::new(alloc);
+    push_worked(&mut log)?;
+    Ok(log)
+}
+
+fn push_worked(log: &mut Log) -> Result<(), AllocError>
+    requires { log.old ≡ [] }
+    ensures { OnOk result (log.new ≡ worked_log) }
+{
     let x = Lit::new(1);
     let y = Lit::new(2);
-    let mut log = Log::new(alloc);
     log.push(LogStep::Input(&[x, y]))?;
     log.push(LogStep::Input(&[x, y.negated()]))?;
     log.push(LogStep::Learned(&[x], &[1, 2]))?;
@@ -114,7 +122,7 @@ fn worked(alloc: Global) -> Result<Log, AllocError>
     log.push(LogStep::Input(&[x.negated(), y.negated()]))?;
     log.push(LogStep::Core(&[], &[3, 4, 6]))?;
     log.push(LogStep::Core(&[], &[3, 5, 6]))?;
-    Ok(log)
+    Ok(())
 }
 
 // Marks that a learnt clause is live no more. Where all learnt clauses are live, so is this one.

@@ -248,11 +248,18 @@ pub fn ask(
     };
     let mut purse = Purse { left };
     let answer = solver.solve(alloc, &assumed, turn, &mut purse)?;
-    Ok(Some(Reply {
-        word: word(&answer),
-        model: model_of(alloc, vars, &answer)?,
-        left: purse.left,
-    }))
+    let reply = reply_of(alloc, vars, &answer, purse.left)?;
+    Ok(Some(reply))
+}
+
+fn reply_of(alloc: Global, vars: u32, answer: &Solved, left: u64) -> Result<Reply, AllocError>
+    requires { vars < 2 ^ 31 }
+{
+    Ok(Reply {
+        word: word(answer),
+        model: model_of(alloc, vars, answer)?,
+        left,
+    })
 }
 
 fn word(answer: &Solved) -> &'static str {
