@@ -50,6 +50,18 @@ impl PortsPlayer {
             into: [0; 4],
         }
     }
+
+    /// Makes files or a sink of the parts.
+    fn make(&mut self, alloc: Global, step: &Step<'_>) -> Result<bool, AllocError> {
+        let parts = mem::replace(&mut self.parts, Parts::new(alloc));
+        match port_of(alloc, parts, step)? {
+            Some(port) => {
+                self.port = port;
+                Ok(true)
+            }
+            None => Ok(false),
+        }
+    }
 }
 
 impl Player for PortsPlayer {
@@ -72,14 +84,7 @@ impl Player for PortsPlayer {
                 alloc,
                 step,
             ),
-            "mem_files" | "sure_files" | "mem_sink" => {
-                let parts = mem::replace(&mut self.parts, Parts::new(alloc));
-                let Some(port) = port_of(alloc, parts, step)? else {
-                    return Ok(false);
-                };
-                self.port = port;
-                Ok(true)
-            }
+            "mem_files" | "sure_files" | "mem_sink" => self.make(alloc, step),
             "into" => show_text(&self.into, out),
             _ => call_port(&mut self.port, alloc, &mut self.into, step, out),
         }

@@ -37,7 +37,11 @@ impl Player for WordsPlayer {
 /// Tells what the words ask for.
 fn ask(alloc: Global, line: &str, out: &mut String) -> Result<(), AllocError> {
     let words = split(alloc, line)?;
-    match read_words(alloc, words.as_slice())? {
+    show_request(alloc, words.as_slice(), out)
+}
+
+fn show_request(alloc: Global, words: &[String], out: &mut String) -> Result<(), AllocError> {
+    match read_words(alloc, words)? {
         Some(Request::List(listing)) => show_listing(&listing, out),
         Some(Request::Check(checking)) => {
             let (file, evidence) = (checking.file, checking.evidence);

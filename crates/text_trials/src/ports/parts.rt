@@ -65,29 +65,52 @@ fn calls_of(alloc: Global, step: &Step<'_>) -> Result<Calls, AllocError> {
 
 /// Files or a sink of these parts, if the step's two numbers may be theirs: a call moves at least one byte.
 pub fn port_of(alloc: Global, parts: Parts, step: &Step<'_>) -> Result<Option<Port>, AllocError> {
-    let (Some(first), Some(second)) = (step.amount(1), step.amount(2)) else {
-        return Ok(None);
-    };
-    if first == 0 {
-        return Ok(None);
+    let first = step.amount(1).unwrap_or(0);
+    match (step.word(0), step.amount(2)) {
+        ("mem_sink", Some(room)) if first > 0 => sink_of(alloc, parts, first as usize, room),
+        ("sure_files", Some(second)) if first > 0 && second > 0 => {
+            sure_files_of(alloc, parts, first as usize, second as usize)
+        }
+        ("mem_files", Some(second)) if first > 0 && second > 0 => {
+            mem_files_of(alloc, parts, first as usize, second as usize)
+        }
+        _ => Ok(None),
     }
-    if step.word(0) == "mem_sink" {
-        let sink = MemSink::new(alloc, first as usize, second, parts.failing_writes)?;
-        return Ok(Some(Port::Sink(sink)));
-    }
-    if second == 0 {
-        return Ok(None);
-    }
-    files_of(alloc, parts, first as usize, second as usize, step)
 }
 
-/// Files of these parts.
-fn files_of(
+/// A sink of these parts.
+fn sink_of(
+    alloc: Global,
+    parts: Parts,
+    per_write: usize,
+    room: u64,
+) -> Result<Option<Port>, AllocError>
+    requires { 0 < per_write }
+{
+    let sink = MemSink::new(alloc, per_write, room, parts.failing_writes)?;
+    Ok(Some(Port::Sink(sink)))
+}
+
+/// Files of these parts, of which no call fails.
+fn sure_files_of(
     alloc: Global,
     parts: Parts,
     per_read: usize,
     per_write: usize,
-    step: &Step<'_>,
+) -> Result<Option<Port>, AllocError>
+    requires reads_some { 0 < per_read }
+    requires writes_some { 0 < per_write }
+{
+    let files = SureFiles::new(alloc, parts.held, parts.rooms, per_read, per_write)?;
+    Ok(Some(Port::Sure(files)))
+}
+
+/// Files of these parts.
+fn mem_files_of(
+    alloc: Global,
+    parts: Parts,
+    per_read: usize,
+    per_write: usize,
 ) -> Result<Option<Port>, AllocError>
     requires reads_some { 0 < per_read }
     requires writes_some { 0 < per_write }
@@ -98,10 +121,6 @@ fn files_of(
         failing_reads,
         failing_writes,
     } = parts;
-    if step.word(0) == "sure_files" {
-        let files = SureFiles::new(alloc, held, rooms, per_read, per_write)?;
-        return Ok(Some(Port::Sure(files)));
-    }
     let files = MemFiles::new(
         alloc,
         held,
