@@ -1,0 +1,23 @@
+"""Where the program is, and what it said."""
+import os
+import subprocess
+
+from telling import Refused
+
+TOP = os.path.dirname(os.path.dirname(os.path.abspath(__file__)))
+DONE, BUDGET_SPENT, LIMIT_REACHED = 0, 3, 4
+
+
+def command():
+    """The program: the one that the variable GMUS names, or `gmus` beside the folder of the tools."""
+    return os.environ.get("GMUS") or os.path.join(TOP, "gmus")
+
+
+def call(words, **how):
+    """Calls the program, and gives how it ended: its status, what it wrote to standard output, and to standard error."""
+    try:
+        ended = subprocess.run([command(), *words], stdin=subprocess.DEVNULL, stdout=subprocess.PIPE, stderr=subprocess.PIPE,
+                               check=False, **how)
+    except OSError as error:
+        raise Refused(f"the program can't be started: {command()}: {error.strerror}") from None
+    return ended.returncode, ended.stdout.decode("utf-8", "replace"), ended.stderr.decode("utf-8", "replace")

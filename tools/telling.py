@@ -1,0 +1,84 @@
+"""How the tools for users end, and how they tell what is wrong: one habit for all.
+
+0: done. 1: refused, and a line on standard error says what and where. 2: the words of the command line have no reading,
+and the tool's usage says which have. `--help` writes what the tool does to standard output, and ends with 0. No input ends
+in a traceback.
+"""
+import os
+import sys
+
+DONE, REFUSED, WRONG_WORDS = 0, 1, 2
+
+
+class Refused(Exception):
+    """What is wrong with what a tool was given."""
+
+
+class WrongWords(Exception):
+    """What is wrong with the words of the command line."""
+
+
+def run(tool, main, doc):
+    """Ends the process as the tool's `main` does over the command line's words: by the status that it returns, or None.
+
+    `doc` is what the tool does: its usage is the first lines in it that are set in, up to an empty one.
+    """
+    try:
+        words = sys.argv[1:]
+        if words in (["--help"], ["-h"]):
+            print(doc.strip())
+            status = DONE
+        else:
+            status = main(words)
+        sys.stdout.flush()
+    except WrongWords as why:
+        status = told(f"{tool}: {why}\n{usage_of(doc)}", WRONG_WORDS)
+    except Refused as why:
+        status = told(f"{tool}: {why}", REFUSED)
+    except BrokenPipeError:
+        # Who reads has gone. What is still to be written would be refused once more at the end.
+        os.dup2(os.open(os.devnull, os.O_WRONLY), sys.stdout.fileno())
+        status = REFUSED
+    except OSError as error:
+        place = f"{error.filename}: " if error.filename else ""
+        status = told(f"{tool}: {place}{error.strerror or error}", REFUSED)
+    except (RecursionError, MemoryError):
+        status = told(f"{tool}: what was given is too deep or too large", REFUSED)
+    except KeyboardInterrupt:
+        status = 130
+    sys.exit(status or DONE)
+
+
+def told(text, status):
+    print(text, file=sys.stderr)
+    return status
+
+
+def usage_of(doc):
+    """The tool's usage, as its text has it."""
+    lines = iter(doc.split("\n"))
+    found = []
+    for line in lines:
+        if line.startswith("    "):
+            found.append(line)
+        elif found:
+            break
+    return "\n".join(found)
+
+
+def bytes_of(name):
+    """What a file holds, or standard input where the name is `-`."""
+    if name == "-":
+        return sys.stdin.buffer.read()
+    with open(name, "rb") as source:
+        return source.read()
+
+
+def text_of(name):
+    """The text of a file, or of standard input where the name is `-`, without a byte order mark."""
+    held = bytes_of(name)
+    try:
+        return held.decode("utf-8-sig")
+    except UnicodeDecodeError as error:
+        line = held.count(b"\n", 0, error.start) + 1
+        raise Refused(f"{name}: line {line}: the bytes are no UTF-8") from None
