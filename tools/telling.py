@@ -6,6 +6,7 @@ in a traceback.
 """
 import os
 import sys
+import unicodedata
 
 DONE, REFUSED, WRONG_WORDS = 0, 1, 2
 
@@ -82,3 +83,10 @@ def text_of(name):
     except UnicodeDecodeError as error:
         line = held.count(b"\n", 0, error.start) + 1
         raise Refused(f"{name}: line {line}: the bytes are no UTF-8") from None
+
+
+def plain(text):
+    """The text without control characters, which a terminal would obey, and without line ends of any alphabet."""
+    if text.isascii() and text.isprintable():
+        return text
+    return "".join("\ufffd" if unicodedata.category(char) in ("Cc", "Cf", "Cs", "Zl", "Zp") else char for char in text)

@@ -1,5 +1,5 @@
 #!/usr/bin/env python3
-"""Tests of gcnf.py and names.py: python3 -m unittest discover -s tools (nothing but Python 3.9 is needed)."""
+"""Tests of names.py: python3 -m unittest discover -s tools (nothing but Python 3.9 is needed)."""
 import html.parser
 import os
 import subprocess
@@ -10,7 +10,6 @@ TOOLS = os.path.dirname(os.path.abspath(__file__))
 EXAMPLES = os.path.join(os.path.dirname(TOOLS), "examples")
 sys.path.insert(0, TOOLS)
 
-import gcnf   # noqa: E402
 import names  # noqa: E402
 
 LAPTOP = os.path.join(EXAMPLES, "laptop.gcnf")
@@ -22,87 +21,8 @@ def run(tool, *words, given=b""):
                           stdout=subprocess.PIPE, stderr=subprocess.PIPE)
 
 
-def clauses(*lines):
-    rules = gcnf.Rules()
-    rules.read(["[r]", *lines])
-    return [clause for _, clause in rules.clauses]
-
-
-def refusal(*lines):
-    try:
-        gcnf.Rules().read(lines)
-    except gcnf.Refused as why:
-        return str(why)
-    return None
-
-
 def page(report, problem="", title="t"):
     return names.Page(names.Report(report), names.read_problem(problem)[0], title)
-
-
-class Gcnf(unittest.TestCase):
-    def test_each_kind_of_line_gives_its_clauses(self):
-        for line, wanted in (
-                ("a implies b", [[-1, 2]]),
-                ("not a implies not b", [[1, -2]]),
-                ("a and b implies c or not d", [[-1, -2, 3, -4]]),
-                ("at most one of a, b, c", [[-1, -2], [-1, -3], [-2, -3]]),
-                ("at most one of a", []),
-                ("at most one of a, not b", [[-1, 2]]),
-                ("exactly one of a, b", [[1, 2], [-1, -2]]),
-                ("never a and b", [[-1, -2]]),
-                ("never a and not b and c", [[-1, 2, -3]]),
-                ("a or not b", [[1, -2]]),
-                ("  not   a # a comment", [[-1]]),
-                ("land or order", [[1, 2]]),
-                ("größe.1 or x-2", [[1, 2]]),
-        ):
-            self.assertEqual(clauses(line), wanted, line)
-
-    def test_variables_are_numbered_as_they_come_and_keep_their_numbers(self):
-        self.assertEqual(clauses("b or a", "never a and c"), [[1, 2], [-2, -3]])
-
-    def test_lines_that_cannot_be_read_are_refused_with_their_number(self):
-        for lines, wanted in (
-                (["a or b"], "line 1: no rule begins"),
-                (["[r]", "", "a b"], "line 3: 'a b' is no literal"),
-                (["[r]", "a or"], "line 2: '' is no literal"),
-                (["[r]", "a implies b implies c"], "line 2: 'implies' stands twice"),
-                (["[r]", "not not a"], "line 2: 'not not a' is no literal"),
-                (["[r]", "a, b"], "line 2: 'a, b' is no literal"),
-                (["[r]", "a or always"], "line 2: 'always' is no literal"),
-                (["[r]", "exactly one of a, b, a"], "line 2: a literal stands twice"),
-                (["[r]", "a", "[r]"], "line 3: a rule 'r' stood before"),
-                (["[]"], "line 1: a rule without a name"),
-                (["[ # ]"], "line 1: no rule begins"),
-        ):
-            self.assertTrue((refusal(*lines) or "nothing").startswith(wanted), (lines, refusal(*lines)))
-
-    def test_file_has_header_names_and_groups_in_order(self):
-        rules = gcnf.Rules()
-        rules.read(["[b]", "y", "[always]", "x implies y", "[a rule {1} 0]", "[always]", "not x"])
-        self.assertEqual(gcnf.text_of(rules), "c variable 1 y\nc variable 2 x\np gcnf 2 3 2\n{0} -2 1 0\n{0} -2 0\n"
-                         "c group 1 b\n{1} 1 0\nc group 2 a rule {1} 0\n")
-
-    def test_a_name_stands_on_its_comment_line_and_comes_back(self):
-        rules = gcnf.Rules()
-        rules.read(["[ä [b] c ]", "x"])
-        self.assertEqual(names.read_problem(gcnf.text_of(rules)), ({1: "ä [b] c"}, 1))
-
-    def test_the_example_is_what_the_tool_makes_of_its_rules(self):
-        made = run("gcnf.py", os.path.join(EXAMPLES, "shifts.rules"))
-        with open(os.path.join(EXAMPLES, "shifts.gcnf"), "rb") as example:
-            self.assertEqual((made.returncode, made.stdout), (0, example.read()))
-
-    def test_program_ends_with_1_and_a_line_where_it_refuses(self):
-        for words, given, wanted in (
-                (["-"], b"[r]\na b\n", b"gcnf.py: -: line 2: 'a b' is no literal"),
-                (["-"], b"[r]\n\xff\n", b"gcnf.py: -: 'utf-8' codec"),
-                ([os.path.join(TOOLS, "no such file")], b"", b"gcnf.py: [Errno 2]"),
-        ):
-            ended = run("gcnf.py", *words, given=given)
-            self.assertEqual((ended.returncode, ended.stdout), (1, b""))
-            self.assertTrue(ended.stderr.startswith(wanted), ended.stderr)
 
 
 class Names(unittest.TestCase):

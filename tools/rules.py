@@ -1,0 +1,207 @@
+"""Reads rules and gives the GCNF file that says the same.
+
+    import rules
+    made = rules.read(text, "laptop.rules")     raises telling.Refused
+    made.gcnf()       the text of the file
+    made.names        the names of the groups; the first is the background's, which has none
+    made.variables    the number of each name
+    made.notes()      what may be a mistake, a line of text each
+
+docs/RULES.md has the language, docs/FORMATS.md the comments in the file. `rules.written(name)` is the name as rules have it,
+with quotes if it needs them.
+"""
+import collections
+import contextlib
+import re
+import sys
+
+import limits
+from rules_clauses import Clauses
+from rules_formula import DEPTH, FRAMES, formula_of, signs_in
+from rules_near import near_names
+from rules_words import Mistake, words_of, written
+from telling import Refused, plain
+
+__all__ = ["Rules", "read", "written"]
+
+ALWAYS = "always"
+# Defined variables are counted from here until all names are known. Then they are numbered behind the names.
+DEFINED = 1 << 40
+POSITIVE, NEGATIVE = 1, 2
+
+# A line of rules: its number, its text without the comment, and the clauses that come of it.
+Line = collections.namedtuple("Line", "number text clauses")
+
+
+class Rules:
+    """The names in the order in which they come, and the lines of each rule with their clauses."""
+
+    def __init__(self, source):
+        self.source = source
+        self.variables = {}
+        self.names = [""]
+        self.lines = [[]]           # of each group
+        self.heads = [0]            # the numbers of the lines in which the rules begin
+        self.groups = {}            # by name
+        self.defined = self.clauses = self.literals = 0
+        self.signs = {}             # of each name, by its number
+        self.stands = []            # the line in which each name stands first
+        self.told = []              # notes on single lines
+
+    def gcnf(self):
+        """The text of the GCNF file."""
+        parts = [f"c variable {number} {plain(name)}" for name, number in self.variables.items()]
+        parts.append(f"p gcnf {len(self.variables) + self.defined} {self.clauses} {len(self.names) - 1}")
+        for group, (name, lines) in enumerate(zip(self.names, self.lines)):
+            if group:
+                parts.append(f"c group {group} {plain(name)}")
+            for line in lines:
+                parts.append(f"c rule {line.number} {plain(line.text)}")
+                parts += ["{%d} %s" % (group, " ".join(map(self.numbered, [*clause, 0]))) for clause in line.clauses]
+        return "\n".join(parts) + "\n"
+
+    def numbered(self, literal):
+        if -DEFINED < literal < DEFINED:
+            return str(literal)
+        number = abs(literal) - DEFINED + len(self.variables)
+        return str(number if literal > 0 else -number)
+
+    def notes(self):
+        """What may be a mistake: what was seen in single lines, and names that stand with one sign only."""
+        names = list(self.variables)
+        lonely = [name for name, number in self.variables.items() if self.signs[number] != POSITIVE | NEGATIVE]
+        near = near_names(lonely, names)
+        told = [f"{self.source}: line {self.stands[self.variables[name] - 1]}: '{plain(name)}' stands with one sign only. "
+                f"Is '{plain(near[name])}' meant?" for name in lonely if name in near]
+        others = len(lonely) - len(near)
+        if others:
+            other = "other " if near else ""
+            count = f"1 {other}name stands" if others == 1 else f"{others} {other}names stand"
+            told.append(f"{self.source}: {count} with one sign only: no clause with such a name is in any conflict")
+        return self.told + told
+
+
+def read(text, source):
+    """The rules of a text. `source` is the name that messages have for it."""
+    rules = Rules(source)
+    reader = Reader(rules)
+    with room_for_brackets():
+        for number, line in enumerate(text.lstrip("\ufeff").split("\n"), 1):
+            try:
+                reader.read(number, line)
+            except Mistake as mistake:
+                raise Refused(mistake.told(source, number, line)) from None
+    reader.end()
+    return rules
+
+
+@contextlib.contextmanager
+def room_for_brackets():
+    """Lets calls be as deep as brackets may be."""
+    before = sys.getrecursionlimit()
+    sys.setrecursionlimit(max(before, before + 2 * DEPTH * FRAMES))
+    try:
+        yield
+    finally:
+        sys.setrecursionlimit(before)
+
+
+def head_of(line):
+    """The name of the rule that begins in this line, or None. A `#` alone begins a comment, also in a name."""
+    text = line.strip()
+    if not text.startswith("["):
+        return None
+    bare = text.partition("#")[0].rstrip()
+    if not bare.endswith("]"):
+        bare = re.split(r"(?:^|(?<=\s)|(?<=\[))#(?=\s|$)", text)[0].rstrip()
+    if len(bare) < 2 or not bare.endswith("]"):
+        end = bare.rfind("]")
+        begin = line.index("[")
+        if end < 0:
+            raise Mistake("no rule begins here: its ']' is missing", begin + len(bare), "a rule begins with [NAME]")
+        raise Mistake("behind ']' stands nothing but a comment", begin + end + 1, "the lines of a rule stand below its [NAME]")
+    return " ".join(bare[1:-1].split())
+
+
+class Reader:
+    """Reads the lines of a text in their order."""
+
+    def __init__(self, rules):
+        self.rules = rules
+        self.group = None
+        self.number = 0       # of the line
+
+    def read(self, number, line):
+        self.number = number
+        bare = line.strip()
+        if not bare or bare.startswith("#"):
+            return
+        name = head_of(line)
+        if name is not None:
+            self.begin(name, line)
+        elif self.group is None:
+            raise Mistake("no rule begins before this line", len(line) - len(line.lstrip()), "here may come [NAME] or [always]")
+        else:
+            self.add(line)
+
+    def begin(self, name, line):
+        rules, at = self.rules, line.index("[")
+        self.end_rule()
+        if name.lower() == ALWAYS:
+            self.group = 0
+            return
+        if not name:
+            raise Mistake("a rule without a name", at + 1, "a rule begins with [NAME]")
+        if name in rules.groups:
+            before = rules.heads[rules.groups[name]]
+            raise Mistake(f"a rule '{plain(name)}' stood before, in line {before}", at, "each rule has a name of its own")
+        if len(rules.names) > limits.GROUPS:
+            raise Mistake(f"more than {limits.GROUPS:,} rules", at)
+        self.group = rules.groups[name] = len(rules.names)
+        rules.names.append(name)
+        rules.lines.append([])
+        rules.heads.append(self.number)
+
+    def end_rule(self):
+        """Refuses the rule before if no line stands in it."""
+        if self.group and not self.rules.lines[self.group]:
+            number = self.rules.heads[self.group]
+            raise Refused(f"{self.rules.source}: line {number}: the rule '{plain(self.rules.names[self.group])}' has no line\n"
+                          "  below it comes what it asks for, such as: a implies b")
+
+    def end(self):
+        self.end_rule()
+        if len(self.rules.names) == 1:
+            raise Refused(f"{self.rules.source}: line {self.number}: no rule stands in this text\n"
+                          "  a rule begins with [NAME], and below it comes what it asks for, such as: a implies b")
+
+    def add(self, line):
+        """The clauses of one line of a rule."""
+        rules, words = self.rules, words_of(line)
+        tree = formula_of(words, self.number_of)
+        for literal in signs_in(tree):
+            rules.signs[abs(literal)] |= POSITIVE if literal > 0 else NEGATIVE
+        clauses = Clauses(self.new_variable).of(tree)
+        rules.clauses += len(clauses)
+        rules.literals += sum(map(len, clauses))
+        for count, limit, what in ((len(rules.variables) + rules.defined, limits.VARIABLES, "variables"),
+                                   (rules.clauses, limits.CLAUSES, "clauses"), (rules.literals, limits.LITERALS, "literals")):
+            if count > limit:
+                raise Mistake(f"more than {limit:,} {what}")
+        rules.lines[self.group].append(Line(self.number, line[:words[-1].at].strip(), clauses))
+
+    def number_of(self, name):
+        rules = self.rules
+        number = rules.variables.get(name)
+        if number is None:
+            number = rules.variables[name] = len(rules.variables) + 1
+            rules.signs[number] = 0
+            rules.stands.append(self.number)
+        return number
+
+    def new_variable(self):
+        rules = self.rules
+        rules.defined += 1
+        if len(rules.variables) + rules.defined > limits.VARIABLES:
+            raise Mistake(f"more than {limits.VARIABLES:,} variables")
+        return DEFINED + rules.defined

@@ -1,0 +1,161 @@
+"""The clauses of a line of rules: from its tree to literals, with defined variables if the plain form is large.
+
+    from rules_clauses import Clauses
+    Clauses(new_variable).of(tree)     gives a list of lists of literals
+
+The plain form has the line's own variables alone: what is said is distributed over its parts, and a count has a clause for
+each choice of so many from its list. If that is large, a part gets a variable of its own, which implies the part or is
+implied by it as its place needs (Tseitin 1968; Plaisted and Greenbaum 1986), and a count gets variables that say how many
+hold up to a place of its list (the sequential counter of Sinz 2005). Such a variable stands in the clauses of this one line
+alone. So whatever the names are, the plain form holds exactly if the defined variables can be chosen such that these
+clauses hold.
+"""
+import itertools
+import math
+
+PLAIN_CLAUSES = 64       # so many clauses of a part, or choices of a count, are written plainly
+PLAIN_LITERALS = 2_000   # and they have at most so many literals
+PLAIN_PAIRS = 64         # the list of an `at most one of` with a clause for each pair is at most so long
+
+
+class Clauses:
+    """Makes the clauses of one line. `new_variable()` gives the number of a variable that no one else has."""
+
+    def __init__(self, new_variable):
+        self.new_variable = new_variable
+        self.definitions = []     # clauses that say what the defined variables stand for
+        self.variables = {}       # the variable of a part, by the part's id
+        self.defined = set()      # the parts' ids with the sign for which clauses say what the variable stands for
+        self.kept = []            # parts that were made here, since an id is good only as long as its part is there
+
+    def of(self, tree):
+        found = self.clauses(tree, True)
+        return found + self.definitions
+
+    def clauses(self, tree, sign):
+        """The clauses that say the tree, or that it doesn't hold if the sign is false."""
+        if isinstance(tree, int):
+            return [[tree if sign else -tree]]
+        kind = tree[0]
+        if kind == "not":
+            return self.clauses(tree[1], not sign)
+        if kind == "iff":
+            left, right = tree[1:]
+            return self.one_of([(left, False), (right, sign)]) + self.one_of([(left, True), (right, not sign)])
+        if kind == "count":
+            return self.count(tree, sign)
+        if (kind == "and") == sign:
+            return [clause for part in tree[1] for clause in self.clauses(part, sign)]
+        return self.one_of([(part, sign) for part in tree[1]])
+
+    def literal(self, tree, sign):
+        """A literal from which the tree follows, or that it doesn't hold if the sign is false."""
+        while not isinstance(tree, int) and tree[0] == "not":
+            tree, sign = tree[1], not sign
+        if isinstance(tree, int):
+            return tree if sign else -tree
+        variable = self.variables.get(id(tree))
+        if variable is None:
+            variable = self.variables[id(tree)] = self.new_variable()
+        literal = variable if sign else -variable
+        if (id(tree), sign) not in self.defined:
+            self.defined.add((id(tree), sign))
+            self.definitions += [[-literal, *clause] for clause in self.clauses(tree, sign)]
+        return literal
+
+    # ---- one of several parts holds
+
+    def one_of(self, parts):
+        """The clauses that say that one of the parts holds, each with its sign."""
+        lists = [self.clauses(*part) for part in parts]
+        if not all(lists):
+            return []         # a part that holds anyway
+        wide = [place for place, clauses in enumerate(lists) if len(clauses) > 1]
+        if not self.are_plain(lists, wide):
+            if sum(len(clauses[0]) for clauses in lists if len(clauses) == 1) + len(wide) <= 3:
+                wide.remove(max(wide, key=lambda place: len(lists[place])))
+            for place in wide:
+                lists[place] = [[self.literal(*parts[place])]]
+        return [list(itertools.chain.from_iterable(choice)) for choice in itertools.product(*lists)]
+
+    @staticmethod
+    def are_plain(lists, wide):
+        count = math.prod(len(lists[place]) for place in wide)
+        literals = count * sum(max(map(len, clauses)) for clauses in lists)
+        return count <= 1 or count <= PLAIN_CLAUSES and literals <= PLAIN_LITERALS
+
+    # ---- counts
+
+    def count(self, tree, sign):
+        _, least, most, trees = tree
+        if sign:
+            return self.at_least(least, trees) + self.at_most(most, trees)
+        if least and most < len(trees):
+            fewer, more = ("count", 0, least - 1, trees), ("count", most + 1, len(trees), trees)
+            self.kept += [fewer, more]
+            return self.one_of([(fewer, True), (more, True)])
+        return self.at_most(least - 1, trees) if least else self.at_least(most + 1, trees)
+
+    def at_least(self, wanted, trees):
+        """Of any so many trees that the others are fewer than wanted, one holds."""
+        if wanted <= 0:
+            return []
+        if wanted > len(trees):
+            return [[]]
+        return self.each_choice(len(trees) - wanted + 1, trees, True) or self.counter(wanted, trees, True)
+
+    def at_most(self, wanted, trees):
+        """Of any one more than wanted, one does not hold."""
+        if wanted >= len(trees):
+            return []
+        if wanted < 0:
+            return [[]]
+        return self.each_choice(wanted + 1, trees, False) or self.counter(wanted + 1, trees, False)
+
+    def each_choice(self, size, trees, sign):
+        """The plain form: of each choice of so many trees, one has this sign. Nothing if it is large."""
+        few = min(size, len(trees) - size)
+        is_pairs = size == 2 and len(trees) <= PLAIN_PAIRS
+        if not is_pairs and (few > 3 or math.comb(len(trees), size) > PLAIN_CLAUSES):
+            return []
+        return [clause for choice in itertools.combinations(trees, size)
+                for clause in self.one_of([(tree, sign) for tree in choice])]
+
+    def counter(self, goal, trees, sign):
+        """With defined variables: at least `goal` of the trees hold, or fewer than that if the sign is false.
+
+        A variable for a place i and a number j says that at least j of the first i trees hold, or that fewer do. It is made
+        only if the trees behind that place can still decide between both.
+        """
+        literals = [self.literal(tree, sign) for tree in trees]
+        found, before = [], {}
+        for place, literal in enumerate(literals, 1):
+            left = len(literals) - place
+            numbers = range(max(1, goal - left), min(place, goal) + 1)
+            now = {number: self.new_variable() for number in numbers} if left else {goal: None}
+            for number, state in now.items():
+                head = [] if state is None else [-state]
+                same = self.state(before, place - 1, number, sign)
+                less = self.state(before, place - 1, number - 1, sign)
+                # at least j of the first i: at least j - 1 of those before, and the last one or at least j of them;
+                # fewer than j of the first i: fewer than j of those before, and not the last one or fewer than j - 1 of them
+                first, second = (less, same) if sign else (same, less)
+                found += self.clause(head, first) + self.clause([*head, literal], second)
+            before = now
+        return found
+
+    @staticmethod
+    def state(before, place, number, sign):
+        """What says of the trees up to a place that at least so many hold, or fewer: a variable, or what is known."""
+        if number <= 0:
+            return sign
+        if number > place:
+            return not sign
+        return before[number]
+
+    @staticmethod
+    def clause(literals, last):
+        """The clause of the literals and a last one, which may be known to be true or false."""
+        if last is True:
+            return []
+        return [literals if last is False else [*literals, last]]
