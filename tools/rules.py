@@ -28,6 +28,7 @@ ALWAYS = "always"
 # Defined variables are counted from here until all names are known. Then they are numbered behind the names.
 DEFINED = 1 << 40
 POSITIVE, NEGATIVE = 1, 2
+IN_FORMATS = "docs/FORMATS.md has the limits of a file"
 
 # A line of rules: its number, its text without the comment, and the clauses that come of it.
 Line = collections.namedtuple("Line", "number text clauses")
@@ -65,6 +66,13 @@ class Rules:
             return str(literal)
         number = abs(literal) - DEFINED + len(self.variables)
         return str(number if literal > 0 else -number)
+
+    def refuse_too_many(self):
+        """Refuses what is above a limit of the file. Its groups are counted as they begin."""
+        for count, limit, what in ((len(self.variables) + self.defined, limits.VARIABLES, "variables"),
+                                   (self.clauses, limits.CLAUSES, "clauses"), (self.literals, limits.LITERALS, "literals")):
+            if count > limit:
+                raise Mistake(f"more than {limit:,} {what}", may=IN_FORMATS)
 
     def notes(self):
         """What may be a mistake: what was seen in single lines, and names that stand with one sign only."""
@@ -123,6 +131,11 @@ def head_of(line):
     return " ".join(bare[1:-1].split())
 
 
+def is_glued_comment(line, words):
+    """Whether the line's comment stands right behind a name, as if it belonged to it."""
+    return line.startswith("#", words[-1].at) and words[-2].kind == "name" and not words[-2].quoted
+
+
 class Reader:
     """Reads the lines of a text in their order."""
 
@@ -156,7 +169,7 @@ class Reader:
             before = rules.heads[rules.groups[name]]
             raise Mistake(f"a rule '{plain(name)}' stood before, in line {before}", at, "each rule has a name of its own")
         if len(rules.names) > limits.GROUPS:
-            raise Mistake(f"more than {limits.GROUPS:,} rules", at)
+            raise Mistake(f"more than {limits.GROUPS:,} rules", at, IN_FORMATS)
         self.group = rules.groups[name] = len(rules.names)
         rules.names.append(name)
         rules.lines.append([])
@@ -178,16 +191,17 @@ class Reader:
     def add(self, line):
         """The clauses of one line of a rule."""
         rules, words = self.rules, words_of(line)
-        tree = formula_of(words, self.number_of)
+        tree, remarks = formula_of(words, self.number_of)
+        if is_glued_comment(line, words):
+            remarks.append(f"'#' begins a comment, though it stands right behind '{plain(words[-2].text)}': a name with '#' stands "
+                           "in quotes")
+        rules.told += [f"{rules.source}: line {self.number}: {remark}" for remark in remarks]
         for literal in signs_in(tree):
             rules.signs[abs(literal)] |= POSITIVE if literal > 0 else NEGATIVE
         clauses = Clauses(self.new_variable).of(tree)
         rules.clauses += len(clauses)
         rules.literals += sum(map(len, clauses))
-        for count, limit, what in ((len(rules.variables) + rules.defined, limits.VARIABLES, "variables"),
-                                   (rules.clauses, limits.CLAUSES, "clauses"), (rules.literals, limits.LITERALS, "literals")):
-            if count > limit:
-                raise Mistake(f"more than {limit:,} {what}")
+        rules.refuse_too_many()
         rules.lines[self.group].append(Line(self.number, line[:words[-1].at].strip(), clauses))
 
     def number_of(self, name):
@@ -202,6 +216,5 @@ class Reader:
     def new_variable(self):
         rules = self.rules
         rules.defined += 1
-        if len(rules.variables) + rules.defined > limits.VARIABLES:
-            raise Mistake(f"more than {limits.VARIABLES:,} variables")
+        rules.refuse_too_many()
         return DEFINED + rules.defined

@@ -29,6 +29,10 @@ class Clauses:
         self.kept = []            # parts that were made here, since an id is good only as long as its part is there
 
     def of(self, tree):
+        """The clauses that say the tree, and those that say what the variables stand for that were defined for it."""
+        clause = []
+        if adds_clause(tree, True, clause):
+            return [clause]
         found = self.clauses(tree, True)
         return found + self.definitions
 
@@ -124,38 +128,48 @@ class Clauses:
     def counter(self, goal, trees, sign):
         """With defined variables: at least `goal` of the trees hold, or fewer than that if the sign is false.
 
-        A variable for a place i and a number j says that at least j of the first i trees hold, or that fewer do. It is made
-        only if the trees behind that place can still decide between both.
+        A state is a place i and a number j: at least j of the first i trees hold, or fewer do. Only those have a variable for
+        which the trees behind the place can still decide, and which don't follow from the goal.
         """
         literals = [self.literal(tree, sign) for tree in trees]
         found, before = [], {}
         for place, literal in enumerate(literals, 1):
             left = len(literals) - place
-            numbers = range(max(1, goal - left), min(place, goal) + 1)
-            now = {number: self.new_variable() for number in numbers} if left else {goal: None}
+            follows = goal - left if sign else goal
+            now = {number: None if number == follows else self.new_variable()
+                   for number in range(max(1, goal - left), min(place, goal) + 1)}
             for number, state in now.items():
-                head = [] if state is None else [-state]
-                same = self.state(before, place - 1, number, sign)
-                less = self.state(before, place - 1, number - 1, sign)
-                # at least j of the first i: at least j - 1 of those before, and the last one or at least j of them;
-                # fewer than j of the first i: fewer than j of those before, and not the last one or fewer than j - 1 of them
+                head = [-state] if state else []
+                same, less = (known_state(before, place - 1, at, sign) for at in (number, number - 1))
+                # at least j of the first i: at least j - 1 of those before; and at least j of them, or the last one
+                # fewer than j of the first i: fewer than j of those before; and fewer than j - 1 of them, or not the last one
                 first, second = (less, same) if sign else (same, less)
-                found += self.clause(head, first) + self.clause([*head, literal], second)
+                found += with_state(head, first) + with_state([*head, literal], second)
             before = now
         return found
 
-    @staticmethod
-    def state(before, place, number, sign):
-        """What says of the trees up to a place that at least so many hold, or fewer: a variable, or what is known."""
-        if number <= 0:
-            return sign
-        if number > place:
-            return not sign
-        return before[number]
 
-    @staticmethod
-    def clause(literals, last):
-        """The clause of the literals and a last one, which may be known to be true or false."""
-        if last is True:
-            return []
-        return [literals if last is False else [*literals, last]]
+def known_state(before, place, number, sign):
+    """What says that at least so many hold up to a place, or fewer do: a variable, or what is known; None is known to hold."""
+    if number <= 0:
+        return None if sign else False
+    if number > place:
+        return False if sign else None
+    return before[number]
+
+
+def with_state(literals, state):
+    """The clause of the literals and a state, if it is not known to hold."""
+    if state is None:
+        return []
+    return [[*literals, state] if state else literals]
+
+
+def adds_clause(tree, sign, literals):
+    """Whether the tree, or its negation if the sign is false, is one clause, whose literals are added then."""
+    if isinstance(tree, int):
+        literals.append(tree if sign else -tree)
+        return True
+    if tree[0] == "not":
+        return adds_clause(tree[1], not sign, literals)
+    return tree[0] == ("or" if sign else "and") and all(adds_clause(part, sign, literals) for part in tree[1])

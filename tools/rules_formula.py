@@ -1,7 +1,7 @@
 """The formula that a line of rules says, as a tree.
 
     from rules_formula import formula_of
-    formula_of(words_of("touch implies not matte"), number_of)
+    tree, remarks = formula_of(words_of("touch implies not matte"), number_of)
 
 `number_of` gives the number of the variable of a name. A tree is a literal, which is a number above or below 0, or one of
 
@@ -10,28 +10,30 @@
     ("iff", tree, tree)
     ("count", least, most, trees)     at least so many of the trees hold, and at most so many
 """
-from rules_words import MEANT, Mistake, near_keyword
+from rules_hints import MEANT, behind, number_meant
+from rules_words import Mistake
 
 DEPTH = 200         # how deep brackets may stand in each other
 FRAMES = 8          # how many calls of the reader one bracket takes, at most
 BINARY = "'and', 'or', 'implies', 'iff'"
+COUNT_STARTS = ("at", "exactly")
 OPERAND = "a name, 'not', '(', 'at most', 'at least' or 'exactly'"
-COUNT_STARTS = {"at", "exactly"}
+# what is said of a keyword in a list, which is either one that binds what it counts, or one that binds the whole count
+IN_LISTS = ("here may come ',' or the list's end; a list that is part of a formula stands in brackets: exactly one of (a, b)",
+            "here may come ',' or the list's end; a formula that counts as one stands in brackets: (a or b)")
 
 
 def formula_of(words, number_of):
-    """The tree of a line of these words."""
-    return Reader(words, number_of).line()
+    """The tree of a line of these words, and what may be a mistake in it."""
+    reader = Reader(words, number_of)
+    return reader.line(), reader.remarks
 
 
 def is_count(word, after):
-    """Whether a count begins with this word: `exactly` may be a name, if nothing that counts follows it."""
-    small = word.text.lower()
-    if word.kind != "name" or word.quoted or after.quoted:
-        return False
-    if small == "at":
-        return after.text.lower() in ("most", "least")
-    return small == "exactly" and after.kind in ("name", "of")
+    """Whether a count begins with this word, which may be a name too if nothing follows that belongs to a count."""
+    if word.text.lower() == "exactly":
+        return after.kind in ("name", "of")
+    return after.kind == "name" and not after.quoted and after.text.lower() in ("most", "least")
 
 
 class Reader:
@@ -41,16 +43,17 @@ class Reader:
         self.words = words
         self.number_of = number_of
         self.at = 0
+        self.word = words[0]
         self.depth = 0
         self.in_list = False      # whether a comma here belongs to a list around
-
-    @property
-    def word(self):
-        return self.words[self.at]
+        self.remarks = []
 
     def take(self):
+        """Goes on by a word, and gives the one that stood here."""
+        taken = self.word
         self.at += 1
-        return self.words[self.at - 1]
+        self.word = self.words[self.at]
+        return taken
 
     def line(self):
         tree = self.formula()
@@ -73,10 +76,10 @@ class Reader:
     def implication(self):
         if self.word.kind == "never":
             return self.never()
-        sides = [self.chain("or")]
+        sides = [self.disjunction()]
         while self.word.kind == "implies":
             self.take()
-            sides.append(self.never() if self.word.kind == "never" else self.chain("or"))
+            sides.append(self.never() if self.word.kind == "never" else self.disjunction())
         if len(sides) == 1:
             return sides[0]
         parts = [("not", side) for side in sides[:-1]]
@@ -84,19 +87,30 @@ class Reader:
 
     def never(self):
         self.take()
-        tree = self.chain("or")
+        tree = self.disjunction()
         if self.word.kind in ("implies", "iff"):
             raise Mistake(f"'{self.word.text}' can't come behind 'never ..'", self.word.at, "brackets say what is meant: never (..)")
         return ("not", tree)
 
-    def chain(self, kind):
-        """Formulas with `or` between, each of them formulas with `and` between."""
-        tighter = (lambda: self.chain("and")) if kind == "or" else self.negation
-        parts = [tighter()]
-        while self.word.kind == kind:
+    def disjunction(self):
+        first = self.conjunction()
+        if self.word.kind != "or":
+            return first
+        parts = [first]
+        while self.word.kind == "or":
             self.take()
-            parts.append(tighter())
-        return parts[0] if len(parts) == 1 else (kind, parts)
+            parts.append(self.conjunction())
+        return ("or", parts)
+
+    def conjunction(self):
+        first = self.negation()
+        if self.word.kind != "and":
+            return first
+        parts = [first]
+        while self.word.kind == "and":
+            self.take()
+            parts.append(self.negation())
+        return ("and", parts)
 
     def negation(self):
         negated = False
@@ -108,14 +122,14 @@ class Reader:
 
     def operand(self):
         word = self.word
+        if word.kind == "name":
+            if not word.quoted and word.text.lower() in COUNT_STARTS and is_count(word, self.words[self.at + 1]):
+                return self.count()
+            self.take()
+            return self.number_of(word.text)
         if word.kind == "(":
             return self.brackets(self.formula)
-        if word.kind != "name":
-            self.refuse_operand()
-        if is_count(word, self.words[self.at + 1]):
-            return self.count()
-        self.take()
-        return self.number_of(word.text)
+        return self.refuse_operand()
 
     def brackets(self, inside):
         """What stands in brackets, with no list around it."""
@@ -123,7 +137,7 @@ class Reader:
         outer, self.in_list = self.in_list, False
         self.depth += 1
         if self.depth > DEPTH:
-            raise Mistake(f"more than {DEPTH} brackets stand in each other", begin.at)
+            raise Mistake(f"more than {DEPTH} brackets stand in each other", begin.at, "a line of its own may name a part: x iff (..)")
         tree = inside()
         if self.word.kind == "end":
             raise Mistake("the bracket that begins here has no end", begin.at, f"at the line's end may come {BINARY} or ')'")
@@ -147,6 +161,8 @@ class Reader:
             raise Mistake(f"'of' is due in place of {self.named()}", self.word.at, "a count is 'at most 2 of a, b, c'")
         self.take()
         trees = self.list_of(start)
+        if kind != "most" and wanted > len(trees):
+            self.remarks.append(f"{wanted} of {len(trees)} never hold")
         least, most = {"most": (0, wanted), "least": (wanted, len(trees)), "exactly": (wanted, wanted)}[kind]
         return ("count", least, min(most, len(trees)), trees)
 
@@ -156,11 +172,11 @@ class Reader:
         if word.kind == "name" and not word.quoted and (text == "one" or text.isdecimal() and text.isascii() and len(text) < 10):
             self.take()
             return 1 if text == "one" else int(text)
-        raise Mistake(f"a number is due in place of {self.named()}", word.at, "here may come 'one', or a number as 2")
+        raise Mistake(f"a number is due in place of {self.named()}{number_meant(word.text)}", word.at, "here may come 'one', or a number as 2")
 
     def list_of(self, start):
         """The formulas of a list, which may stand in brackets of its own."""
-        if self.word.kind == "(" and self.brackets_hold_a_list():
+        if self.word.kind == "(" and (self.in_list or self.brackets_hold_a_list()):
             return self.brackets(self.items)
         if self.in_list:
             raise Mistake("a count in a list needs brackets around its own list", start.at, "such as: at most one of (a, b)")
@@ -186,8 +202,7 @@ class Reader:
                 break
             self.take()
         if self.word.kind in ("and", "or", "implies", "iff"):
-            raise Mistake(f"'{self.word.text}' can't come in a list", self.word.at, "a comma comes between what is counted; a formula "
-                          "that counts as one stands in brackets; so does a list that is part of a formula: exactly one of (a, b)")
+            raise Mistake(f"'{self.word.text}' can't come in a list", self.word.at, IN_LISTS[self.word.kind in ("and", "or")])
         self.in_list = outer
         return trees
 
@@ -216,7 +231,8 @@ class Reader:
             raise Mistake("'never' can't come here", word.at, "it begins a line, a bracket, or what is implied; else 'not' is the word")
         if word.kind == "always":
             raise Mistake("'always' is no literal", word.at, "[always] is a line of its own; a name that is a keyword stands in quotes")
-        raise Mistake(f"'{word.text}' can't come here", word.at, f"here may come {OPERAND}")
+        hint = f". Is '{MEANT[word.text]}' meant?" if word.kind == "other" else ""
+        raise Mistake(f"'{word.text}' can't come here{hint}", word.at, f"here may come {OPERAND}")
 
     def refuse_behind(self, may):
         """Tells why what stands here can't come behind a formula."""
@@ -226,17 +242,10 @@ class Reader:
             hint, may = ": commas stand in the lists of counts alone", "such as: at most one of a, b"
         elif word.kind == ")":
             hint = ": no bracket is open"
-        elif word.kind == "name" and not word.quoted:
-            hint = self.hint_for_name(word, before)
+        elif not word.quoted and word.kind in ("name", "other", "of"):
+            is_plain = before.kind == "name" and not before.quoted
+            hint = behind(word.text, before.text if is_plain else "")
         raise Mistake(f"{self.named()} can't come here{hint}", word.at, may)
-
-    def hint_for_name(self, word, before):
-        if word.text.lower() in MEANT:
-            return f". Is '{MEANT[word.text.lower()]}' meant?"
-        near = near_keyword(word.text, ("and", "or", "implies", "iff", "of"))
-        if near or before.kind != "name" or before.quoted:
-            return "." + near if near else ""
-        return f": a name with a blank in it stands in quotes, \"{before.text} {word.text}\""
 
 
 def literal_of(tree):

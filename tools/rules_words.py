@@ -6,14 +6,14 @@
 docs/RULES.md says which names there are, and what a quoted name is.
 """
 import collections
-import difflib
 import re
 import unicodedata
 
+from rules_hints import MEANT, meant_by
 from telling import plain
 
-# A word of a line: its kind ("name", "mark", "end", or a keyword in small letters), its text, and where it stands. A name's
-# text is the name without its quotes.
+# A word of a line: its kind ("name", "end", a mark, a keyword in small letters, or "other"), its text, where it stands, and
+# whether it is in quotes, which are no part of its text. An "other" is what other languages write for a keyword.
 Word = collections.namedtuple("Word", "kind text at quoted")
 
 KEYWORDS = ("always", "and", "iff", "implies", "never", "not", "of", "or")
@@ -22,15 +22,6 @@ PLAIN_NAME = re.compile(r"[\w./@-][\w.+:=/~@-]*(?<![.:=])")
 IN_NAMES = "_-.+:=/~@"
 NEVER_FIRST, NEVER_LAST = "+:=~", ".:="
 NAMES_ARE = "a name is letters, digits and any of " + " ".join(IN_NAMES) + "; any other text stands in quotes"
-# what others write in place of the keywords
-OTHERS = {
-    "and": ("&", "&&", "*", "/\\", "∧"),
-    "or": ("|", "||", "+", "\\/", "∨"),
-    "not": ("!", "~", "¬"),
-    "implies": ("->", "=>", "-->", "==>", ">>", "→", "⇒", "then", "requires"),
-    "iff": ("<->", "<=>", "<-->", "<==>", "=", "==", "↔", "⇔", "≡"),
-}
-MEANT = {text: keyword for keyword, texts in OTHERS.items() for text in texts}
 WIDTH = 100
 
 
@@ -75,24 +66,19 @@ def words_of(line):
     while at < end:
         found = TOKEN.match(line, at)
         kind = found.lastgroup
-        begin = found.start(kind)
-        if kind == "comment":
-            end = begin
-            break
-        words.append(word_of(kind, found.group(kind), begin))
-        at = found.end()
-    words.append(Word("end", "the line's end", len(line[:end].rstrip()), False))
+        text, begin, at = found.group(kind), found.start(kind), found.end()
+        if kind == "word":
+            words.append(name_or_keyword(text, begin))
+        elif kind == "mark":
+            words.append(Word(text, text, begin, False))
+        elif kind == "quoted":
+            words.append(Word("name", unquoted(text, begin), begin, True))
+        elif kind == "open":
+            raise Mistake("the quote that begins here has no end", begin, 'a name in quotes is "any text"')
+        else:
+            end = len(line[:begin].rstrip())
+    words.append(Word("end", "the line's end", end, False))
     return words
-
-
-def word_of(kind, text, at):
-    if kind == "word":
-        return name_or_keyword(text, at)
-    if kind == "quoted":
-        return Word("name", unquoted(text, at), at, True)
-    if kind == "open":
-        raise Mistake("the quote that begins here has no end", at, 'a name in quotes is "any text"')
-    return Word(text, text, at, False)
 
 
 def unquoted(text, at):
@@ -103,7 +89,7 @@ def unquoted(text, at):
                           'in a quoted name stand \\" for " and \\\\ for \\')
     name = re.sub(r"\\(.)", r"\1", text[1:-1])
     if not name.strip():
-        raise Mistake("a name without a letter", at, 'a name in quotes is "any text"')
+        raise Mistake("nothing stands in these quotes", at, 'a name in quotes is "any text"')
     for place, char in enumerate(name):
         if unicodedata.category(char) == "Cc":
             raise Mistake(f"a control character (U+{ord(char):04X}) in a name", at, "a name has no control characters")
@@ -111,10 +97,11 @@ def unquoted(text, at):
 
 
 def name_or_keyword(text, at):
-    small = text.lower()
-    if small in KEYWORDS:
-        return Word(small, text, at, False)
+    if text.lower() in KEYWORDS:
+        return Word(text.lower(), text, at, False)
     if not PLAIN_NAME.fullmatch(text):
+        if text in MEANT:
+            return Word("other", text, at, False)
         refuse_name(text, at)
     return Word("name", text, at, False)
 
@@ -124,9 +111,7 @@ def may_stand_in_a_name(char):
 
 
 def refuse_name(text, at):
-    """Tells why the text is no name, where it is none."""
-    if text in MEANT:
-        raise Mistake(f"'{text}' is no word of rules. Is '{MEANT[text]}' meant?", at)
+    """Tells why the text is no name, if it is none."""
     for place, char in enumerate(text):
         if not may_stand_in_a_name(char):
             told = plain(char) if char.isprintable() else f"U+{ord(char):04X}"
@@ -136,25 +121,6 @@ def refuse_name(text, at):
         raise Mistake(f"a name doesn't begin with '{text[0]}' without quotes{hint}", at, NAMES_ARE)
     if text[-1] in NEVER_LAST:
         raise Mistake(f"a name doesn't end with '{text[-1]}' without quotes", at + len(text) - 1, NAMES_ARE)
-
-
-def meant_by(text, place):
-    """What is meant, if what others write for a keyword stands around this place."""
-    if text[place] in "“”„‟«»":
-        return '. A quote is written "'
-    signs = sorted((sign for sign in MEANT if not sign[0].isalpha()), key=len, reverse=True)
-    for sign in signs:
-        for begin in range(max(0, place - len(sign) + 1), place + 1):
-            if text.startswith(sign, begin):
-                left, right = text[:begin], text[begin + len(sign):]
-                return ". Is '" + " ".join(filter(None, (left, MEANT[sign], right))) + "' meant?"
-    return ""
-
-
-def near_keyword(text, among):
-    """The question whether one of these keywords is meant, if the text is near to one."""
-    near = difflib.get_close_matches(text.lower()[:20], among, 1, 0.7)
-    return f" Is '{near[0]}' meant?" if near else ""
 
 
 def written(name):

@@ -1,0 +1,162 @@
+#!/usr/bin/env python3
+"""Tests that rules and their GCNF files say the same: formulas made by chance, against what they say for each assignment."""
+import itertools
+import os
+import random
+import sys
+import unittest
+from unittest import mock
+
+TOOLS = os.path.dirname(os.path.abspath(__file__))
+BENCH = os.path.join(os.path.dirname(TOOLS), "bench")
+sys.path[:0] = [TOOLS, BENCH]
+
+import rules          # noqa: E402
+import rules_clauses  # noqa: E402
+
+NAMES = "abcdef"
+TIGHTNESS = {"iff": 0, "implies": 1, "never": 1, "or": 2, "and": 3, "not": 4, "count": 5, "name": 5}
+# how large a plain form may be: as it is, small, and never plain
+SIZES = ((64, 2_000, 64), (3, 20, 2), (0, 0, 0))
+
+
+def formula(draw, depth):
+    """A formula as a tree of its own: a name, or a word and formulas, of a count with its word and number before them."""
+    kind = draw.choice(["not", "and", "or", "implies", "iff", "never", "count", "count", "name"]) if depth else "name"
+    if kind == "name":
+        return "name", draw.choice(NAMES)
+    size = {"not": 1, "never": 1, "implies": 2, "iff": 2, "count": draw.randint(1, 5)}.get(kind) or draw.randint(2, 4)
+    parts = tuple(formula(draw, draw.randint(0, depth - 1)) for _ in range(size))
+    if kind != "count":
+        return kind, parts
+    # a list has no literal twice
+    parts = tuple(dict.fromkeys(parts))
+    return kind, parts, draw.choice(["at most", "at least", "exactly"]), draw.randint(0, len(parts) + 1)
+
+
+def text_of(draw, tree, tighter_than=-1):
+    """The formula in words, with brackets where they are due, and now and then more."""
+    kind, parts = tree[:2]
+    if kind == "name":
+        text = parts
+    elif kind == "not":
+        text = "not " + text_of(draw, parts[0], 3)
+    elif kind == "never":
+        text = "never " + text_of(draw, parts[0], 1)
+    elif kind == "count":
+        number = "one" if tree[3] == 1 else tree[3]
+        text = f"{tree[2]} {number} of ({', '.join(text_of(draw, part, 3) for part in parts)})"
+    elif kind == "implies":
+        text = f"{text_of(draw, parts[0], 1)} implies {text_of(draw, parts[1], 0)}"
+    elif kind == "iff":
+        text = " iff ".join(text_of(draw, part, 1 if part[0] == "never" else 0) for part in parts)
+    else:
+        text = f" {kind} ".join(text_of(draw, part, TIGHTNESS[kind]) for part in parts)
+    return f"({text})" if TIGHTNESS[kind] <= tighter_than or draw.random() < 0.1 else text
+
+
+def holds(tree, values):
+    """Whether the formula holds for these values of the names."""
+    kind, parts = tree[:2]
+    if kind == "name":
+        return values[parts]
+    found = [holds(part, values) for part in parts]
+    if kind == "count":
+        number = sum(found)
+        return {"at most": number <= tree[3], "at least": number >= tree[3], "exactly": number == tree[3]}[tree[2]]
+    return {"not": lambda: not found[0], "never": lambda: not found[0], "and": lambda: all(found), "or": lambda: any(found),
+            "implies": lambda: not found[0] or found[1], "iff": lambda: found[0] == found[1]}[kind]()
+
+
+def can_hold(clauses):
+    """Whether some assignment makes all clauses true."""
+    clauses = list(clauses)
+    while clauses:
+        if [] in clauses:
+            return False
+        unit = next((clause[0] for clause in clauses if len(set(clause)) == 1), None)
+        if unit is None:
+            lit = clauses[0][0]
+            return can_hold([*clauses, [lit]]) or can_hold([*clauses, [-lit]])
+        clauses = [[lit for lit in clause if lit != -unit] for clause in clauses if unit not in clause]
+    return True
+
+
+def assignments():
+    for values in itertools.product((False, True), repeat=len(NAMES)):
+        yield dict(zip(NAMES, values))
+
+
+def clauses_of(made):
+    return [list(map(int, line.split()[1:-1])) for line in made.gcnf().split("\n") if line.startswith("{")]
+
+
+def sized(size):
+    return mock.patch.multiple(rules_clauses, PLAIN_CLAUSES=size[0], PLAIN_LITERALS=size[1], PLAIN_PAIRS=size[2])
+
+
+class Clauses(unittest.TestCase):
+    def says_the_same(self, made, says, row):
+        clauses = clauses_of(made)
+        for values in assignments():
+            units = [[number if values[name] else -number] for name, number in made.variables.items()]
+            self.assertEqual(can_hold(clauses + units), says(values), (row, values))
+
+    def test_formulas_say_the_same_as_their_clauses(self):
+        for number in range(int(os.environ.get("GMUS_TRIALS", 120))):
+            draw = random.Random(number)
+            tree = formula(draw, 4)
+            text = text_of(draw, tree)
+            for size in SIZES:
+                with sized(size):
+                    made = rules.read(f"[r]\n{text}", "r")
+                self.says_the_same(made, lambda values: holds(tree, values), (number, size, text))
+
+    def test_counts_say_the_same_as_their_clauses(self):
+        for total, number, kind in itertools.product(range(1, 7), range(8), ("at most", "at least", "exactly")):
+            tree = "count", tuple(("name", name) for name in NAMES[:total]), kind, number
+            for size in SIZES[1:]:
+                with sized(size):
+                    made = rules.read(f"[r]\n{kind} {number} of {', '.join(NAMES[:total])}", "r")
+                self.says_the_same(made, lambda values: holds(tree, values), (total, number, kind, size))
+
+    def test_large_counts_stay_small(self):
+        names = ", ".join(f"x{number}" for number in range(1000))
+        for line, variables, clauses in (
+                ("at most one of", 1000, 3 * 1000), ("exactly one of", 1000, 3 * 1000 + 1),
+                ("at least 998 of", 2 * 1000, 6 * 1000), ("exactly 20 of", 2 * 20 * 1000, 2 * (20 + 21) * 1000),
+                ("at most 999 of", 0, 1), ("at least one of", 0, 1)):
+            made = rules.read(f"[r]\n{line} {names}", "r")
+            self.assertLessEqual(made.defined, variables, line)
+            self.assertLessEqual(made.clauses, clauses, line)
+
+
+@unittest.skipUnless(os.path.isdir(BENCH), "the folder bench, which tries every set, is not here")
+class Answers(unittest.TestCase):
+    def test_definitions_change_no_answer(self):
+        """The plain form: for each assignment of its names that a line does not hold for, a clause that rules it out."""
+        import brute_force
+        names = NAMES[:3]
+        for number in range(int(os.environ.get("GMUS_TRIALS", 60)) // 2):
+            draw = random.Random(number)
+            with mock.patch.dict(globals(), NAMES=names):
+                rows = [(group, formula(draw, 2)) for group in (0, 0, 1, 1, 2, 3, 4)]
+            plain = []
+            for group, tree in rows:
+                for values in itertools.product((False, True), repeat=len(names)):
+                    if not holds(tree, dict(zip(names, values))):
+                        plain.append((group, [-at if value else at for at, value in enumerate(values, 1)]))
+            lines = ["[always]"]
+            for place, (group, tree) in enumerate(rows):
+                if group and rows[place - 1][0] != group:
+                    lines.append(f"[rule {group}]")
+                lines.append(text_of(draw, tree))
+            with sized((0, 0, 0)):
+                text = rules.read("\n".join(lines), "r").gcnf()
+            variables, groups, clauses = brute_force.problem_of(text.split("\n"))
+            if variables <= 14:
+                self.assertEqual(brute_force.report(variables, groups, clauses), brute_force.report(3, 4, plain), lines)
+
+
+if __name__ == "__main__":
+    unittest.main()
