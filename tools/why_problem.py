@@ -1,0 +1,183 @@
+"""Reads a GCNF or CNF file with the comments that say what its clauses were written as.
+
+    from why_problem import Problem
+    problem = Problem(open("laptop.gcnf", "rb"), "laptop.gcnf")     raises telling.Refused
+    problem.name(3)            the name of group 3
+    problem.written_as(17)     where clause 17 was written, and as what
+
+In a CNF file each clause is a group of its own, under the clause's number. docs/FORMATS.md has the comments.
+"""
+import array
+import re
+
+from rules_words import written
+from telling import Refused, plain
+
+GROUP = re.compile(r"c[ \t]+group[ \t]+([0-9]{1,18})[ \t]+(\S.*)")
+VARIABLE = re.compile(r"c[ \t]+variable[ \t]+([0-9]{1,18})[ \t]+(\S.*)")
+RULE = re.compile(r"c[ \t]+rule[ \t]+([0-9]{1,18})[ \t]+(\S.*)")
+LARGEST = 2 ** 31 - 1
+
+
+class Problem:
+    """The clauses of a file, numbered from 1, with their groups; and names of groups and variables, and rules."""
+
+    def __init__(self, lines, source):
+        self.source = source
+        self.variables = self.count = self.groups = 0
+        self.is_gcnf = True
+        self.group_of = array.array("i", [0])       # of each clause
+        self.rule_of = array.array("i", [0])        # of each clause, a place in `rules`
+        self.starts = array.array("q", [0, 0])      # where each clause's literals begin, and where the last one's end
+        self.literals = array.array("i")
+        self.rules = [None]                         # the line and text of each rule's line; the first is none
+        self.group_names, self.variable_names = {}, {}
+        Reader(self).read(lines)
+
+    def lits(self, clause):
+        return self.literals[self.starts[clause]:self.starts[clause + 1]]
+
+    def selector_form(self, clause):
+        """The clause as evidence has it: with the negated selector of its group."""
+        group = self.group_of[clause]
+        lits = self.lits(clause)
+        if group:
+            lits.append(-(self.variables + group))
+        return lits
+
+    def name(self, group):
+        return self.group_names.get(group, f"group {group}")
+
+    def written_as(self, clause):
+        """Where the clause was written, and as what: its line of rules, or else its number and its literals."""
+        rule = self.rules[self.rule_of[clause]]
+        if rule:
+            return f"line {rule[0]}", rule[1]
+        words = [("not " if lit < 0 else "") + self.variable(abs(lit)) for lit in self.lits(clause)]
+        return f"clause {clause}", " or ".join(words) or "(the empty clause, which never holds)"
+
+    def variable(self, number):
+        return written(self.variable_names[number]) if number in self.variable_names else str(number)
+
+
+class Reader:
+    """Reads the lines of a file: comments, and the numbers between them."""
+
+    def __init__(self, problem):
+        self.problem = problem
+        self.number = 0          # of the line
+        self.header = []         # its words, until there are enough of them
+        self.clause = None       # the literals of the clause that was begun, or None
+        self.group = None        # the group that was read in braces for the next clause, or `{` or `}` behind it
+        self.rule, self.rule_group = 0, None
+
+    def refuse(self, what):
+        raise Refused(f"{self.problem.source}: line {self.number}: {what}")
+
+    def read(self, lines):
+        for self.number, line in enumerate(lines, 1):
+            if line.lstrip(b" \t").startswith(b"c"):
+                self.comment(line.decode("utf-8", "replace").strip())
+            else:
+                self.words(line)
+        problem = self.problem
+        if not self.is_header_read():
+            self.refuse("this is no GCNF file")
+        if len(problem.group_of) - 1 != problem.count or self.clause is not None or self.group is not None:
+            self.refuse(f"the file ends with {len(problem.group_of) - 1} whole clauses, and its header says {problem.count}")
+
+    def comment(self, line):
+        problem = self.problem
+        for pattern, names in ((GROUP, problem.group_names), (VARIABLE, problem.variable_names)):
+            found = pattern.match(line)
+            if found:
+                number, name = int(found.group(1)), plain(found.group(2))
+                names[number] = f"{names[number]} {name}" if number in names and pattern is GROUP else name
+        found = RULE.match(line)
+        if found:
+            problem.rules.append((int(found.group(1)), plain(found.group(2))))
+            self.rule, self.rule_group = len(problem.rules) - 1, None
+
+    def is_header_read(self):
+        return self.header[:2] == [b"p", b"gcnf"] and len(self.header) == 5 or self.header[:2] == [b"p", b"cnf"] and len(self.header) == 4
+
+    def words(self, line):
+        words = line.replace(b"{", b" { ").replace(b"}", b" } ").split()
+        if not words:
+            return
+        if not self.is_header_read():
+            words = self.read_header(words)
+        try:
+            if self.clause is None and self.group is None and words[-1:] == [b"0"] and words.count(b"0") == 1 + (words[:2] == [b"{", b"0"]):
+                self.whole_clause(words)
+            else:
+                for word in words:
+                    self.one_word(word)
+        except ValueError:
+            self.refuse("this is no clause of a GCNF file")
+
+    def read_header(self, words):
+        """Takes the words of the header, and gives those behind it."""
+        wanted = 4 if (self.header + words)[1:2] == [b"cnf"] else 5
+        left = wanted - len(self.header)
+        self.header += words[:left]
+        if self.header[:1] != [b"p"] or len(self.header) > 1 and self.header[1] not in (b"gcnf", b"cnf"):
+            self.refuse("this is no GCNF file, which begins with 'p gcnf'")
+        if len(self.header) == wanted:
+            try:
+                numbers = list(map(int, self.header[2:]))
+            except ValueError:
+                numbers = [-1]
+            if min(numbers) < 0 or max(numbers) > LARGEST:
+                self.refuse("the header has a number that is none")
+            problem = self.problem
+            problem.is_gcnf = wanted == 5
+            problem.variables, problem.count, problem.groups = numbers if wanted == 5 else [*numbers, numbers[1]]
+        return words[left:]
+
+    def whole_clause(self, words):
+        """A line that is one clause."""
+        if self.problem.is_gcnf:
+            if words[0] != b"{" or words[2] != b"}":
+                raise ValueError
+            self.add(int(words[1]), list(map(int, words[3:-1])))
+        else:
+            self.add(len(self.problem.group_of), list(map(int, words[:-1])))
+
+    def one_word(self, word):
+        """One word of clauses that stand on lines as they like."""
+        if self.clause is not None:
+            number = int(word)
+            if number:
+                self.clause.append(number)
+            else:
+                self.add(self.group, self.clause)
+                self.clause = self.group = None
+        elif not self.problem.is_gcnf:
+            self.group, self.clause = len(self.problem.group_of), []
+            self.one_word(word)
+        elif self.group is None:
+            if word != b"{":
+                raise ValueError
+            self.group = word
+        elif self.group == b"{":
+            self.group = int(word)
+        elif word == b"}":
+            self.clause = []
+        else:
+            raise ValueError
+
+    def add(self, group, lits):
+        problem = self.problem
+        if not 0 <= group <= problem.groups or len(problem.group_of) > problem.count:
+            self.refuse("there are more clauses or groups than the header says")
+        if lits and max(max(lits), -min(lits)) > problem.variables:
+            self.refuse("there are more variables than the header says")
+        if self.rule and self.rule_group is None:
+            self.rule_group = group
+        elif group != self.rule_group:
+            self.rule = 0
+        problem.group_of.append(group)
+        problem.rule_of.append(self.rule)
+        problem.literals.extend(lits)
+        problem.starts.append(len(problem.literals))
