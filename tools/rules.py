@@ -99,7 +99,7 @@ def read(text, source):
                 reader.read(number, line)
             except Mistake as mistake:
                 raise Refused(mistake.told(source, number, line)) from None
-    reader.end()
+    reader.end(text)
     return rules
 
 
@@ -182,10 +182,11 @@ class Reader:
             raise Refused(f"{self.rules.source}: line {number}: the rule '{plain(self.rules.names[self.group])}' has no line\n"
                           "  below it comes what it asks for, such as: a implies b")
 
-    def end(self):
+    def end(self, text):
         self.end_rule()
         if len(self.rules.names) == 1:
-            raise Refused(f"{self.rules.source}: line {self.number}: no rule stands in this text\n"
+            last = max(1, self.number - text.endswith("\n"))
+            raise Refused(f"{self.rules.source}: line {last}: no rule stands in this text\n"
                           "  a rule begins with [NAME], and below it comes what it asks for, such as: a implies b")
 
     def add(self, line):

@@ -80,7 +80,9 @@ class Clauses:
                 wide.remove(max(wide, key=lambda place: len(lists[place])))
             for place in wide:
                 lists[place] = [[self.literal(*parts[place])]]
-        return [list(itertools.chain.from_iterable(choice)) for choice in itertools.product(*lists)]
+            wide = []
+        found = [list(itertools.chain.from_iterable(choice)) for choice in itertools.product(*lists)]
+        return cleaned(found) if len(wide) > 1 else found
 
     @staticmethod
     def are_plain(lists, wide):
@@ -106,7 +108,8 @@ class Clauses:
             return []
         if wanted > len(trees):
             return [[]]
-        return self.each_choice(len(trees) - wanted + 1, trees, True) or self.counter(wanted, trees, True)
+        size = len(trees) - wanted + 1
+        return self.each_choice(size, trees, True) if is_plain(size, trees) else self.counter(wanted, trees, True)
 
     def at_most(self, wanted, trees):
         """Of any one more than wanted, one does not hold."""
@@ -114,14 +117,11 @@ class Clauses:
             return []
         if wanted < 0:
             return [[]]
-        return self.each_choice(wanted + 1, trees, False) or self.counter(wanted + 1, trees, False)
+        size = wanted + 1
+        return self.each_choice(size, trees, False) if is_plain(size, trees) else self.counter(size, trees, False)
 
     def each_choice(self, size, trees, sign):
-        """The plain form: of each choice of so many trees, one has this sign. Nothing if it is large."""
-        few = min(size, len(trees) - size)
-        is_pairs = size == 2 and len(trees) <= PLAIN_PAIRS
-        if not is_pairs and (few > 3 or math.comb(len(trees), size) > PLAIN_CLAUSES):
-            return []
+        """The plain form: of each choice of so many trees, one has this sign."""
         return [clause for choice in itertools.combinations(trees, size)
                 for clause in self.one_of([(tree, sign) for tree in choice])]
 
@@ -147,6 +147,17 @@ class Clauses:
                 found += with_state(head, first) + with_state([*head, literal], second)
             before = now
         return found
+
+
+def is_plain(size, trees):
+    """Whether there are few choices of so many trees."""
+    few = min(size, len(trees) - size)
+    return size == 2 and len(trees) <= PLAIN_PAIRS or few <= 3 and math.comb(len(trees), size) <= PLAIN_CLAUSES
+
+
+def cleaned(clauses):
+    """The clauses without repeated literals, and without those that hold anyway."""
+    return [list(dict.fromkeys(clause)) for clause in clauses if not any(-literal in clause for literal in clause)]
 
 
 def known_state(before, place, number, sign):

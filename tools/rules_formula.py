@@ -196,7 +196,7 @@ class Reader:
             trees.append(self.negation())
             literal = literal_of(trees[-1])
             if literal is not None and literal in seen:
-                raise Mistake("a literal stands twice in this list", begin)
+                raise Mistake("a literal stands twice in this list", begin, "each literal counts once")
             seen.add(literal)
             if self.word.kind != ",":
                 break

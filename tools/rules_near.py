@@ -3,41 +3,41 @@
     from rules_near import near_names
     near_names(["glosy"], ["glosy", "glossy", "matte"])     gives {"glosy": "glossy"}
 
-Names are near if they differ in capitals and in the signs between their words alone, or in one letter more, less, other or
-moved. Numbers in names are meant: `slot_11` is not near to `slot_12`. A short name is near to no other by a letter. The names
-are found by what is left of them without a letter, so the time is linear in their number.
+Two names are near if they differ in capitals and in the signs between their words alone, or besides in one letter more, less,
+other or moved in a word of five letters or more. Numbers in names are meant: `slot_11` is not near to `slot_12`. What is left
+of a name without a letter is looked up, so the time grows with the number of names, and not with that of pairs.
 """
 import re
 
-SHORT, LONG = 4, 64
+SHORT, LONG = 5, 64       # how many letters a word has in which one may be wrong,
+LONGEST = 200             # in a name of at most so many
+WORD = re.compile(r"[^\W\d_]+")
+DIGITS = re.compile(r"\d+")
+SIGNS = re.compile(r"[\W_]+")
 
 
 def near_names(asked, names):
     """For each name that is asked for, the first of the names that is near to it, if there is one."""
-    forms = {name: form_of(name) for name in names}
     by_trace = {}
     for name in asked:
-        for trace in traces(forms[name]):
+        for trace in traces(name):
             by_trace.setdefault(trace, []).append(name)
     near = {}
     for name in names:
-        for trace in traces(forms[name]):
+        for trace in traces(name):
             for other in by_trace.get(trace, ()):
-                if other != name and other not in near:
-                    near[other] = name
+                if other != name:
+                    near.setdefault(other, name)
     return near
 
 
-def form_of(name):
-    """The name without capitals and signs, and its numbers."""
-    return re.sub(r"[\W_]+", "", name.casefold()) or name, tuple(re.findall(r"\d+", name))
-
-
-def traces(form):
-    """What two forms have in common if they are near."""
-    text, numbers = form
-    yield text, numbers
-    if SHORT <= len(text) <= LONG:
-        for place, char in enumerate(text):
-            if not char.isdigit():
-                yield text[:place] + text[place + 1:], numbers
+def traces(name):
+    """What names have in common if they are near: their letters, or their letters but for one, and their numbers."""
+    small = name.casefold()
+    numbers = "".join(" " + number for number in DIGITS.findall(small))
+    yield (SIGNS.sub("", small) or small) + numbers
+    for word in WORD.finditer(small) if len(small) <= LONGEST else ():
+        if SHORT <= len(word.group()) <= LONG:
+            before, after = SIGNS.sub("", small[:word.start()]), SIGNS.sub("", small[word.end():])
+            for place in range(word.start(), word.end()):
+                yield before + small[word.start():place] + small[place + 1:word.end()] + after + numbers

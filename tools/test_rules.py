@@ -1,16 +1,75 @@
 #!/usr/bin/env python3
-"""Tests of rules.py and gcnf.py. What is wanted was worked out by hand, or by brute force."""
+"""Tests of rules.py and gcnf.py: which clauses come of rules, and what is told of mistakes. All was worked out by hand."""
 import os
 import subprocess
 import sys
+import tempfile
 import unittest
+from unittest import mock
 
 TOOLS = os.path.dirname(os.path.abspath(__file__))
 EXAMPLES = os.path.join(os.path.dirname(TOOLS), "examples")
 sys.path.insert(0, TOOLS)
 
+import limits   # noqa: E402
 import rules    # noqa: E402
 import telling  # noqa: E402
+
+OPERATOR = "here may come 'and', 'or', 'implies', 'iff', or the line's end"
+OPERAND = "here may come a name, 'not', '(', 'at most', 'at least' or 'exactly'"
+NAMES = "a name is letters, digits and any of _ - . + : = / ~ @; any other text stands in quotes"
+LIST = "here may come ',' or the list's end; a formula that counts as one stands in brackets: (a or b)"
+COUNT = "here may come ',' or the list's end; a list that is part of a formula stands in brackets: exactly one of (a, b)"
+HEAD = "a rule begins with [NAME]"
+QUOTES = 'a name in quotes is "any text"'
+# A line with | before the place, what is told of it, and what may come there.
+MISTAKES = (
+    ("a |implys b", "'implys' can't come here. Is 'implies' meant?", OPERATOR),
+    ("a |-> b", "'->' can't come here. Is 'implies' meant?", OPERATOR),
+    ("a |=> b", "'=>' can't come here. Is 'implies' meant?", OPERATOR),
+    ("a-|>b", "a name has no '>' without quotes. Is 'a implies b' meant?", NAMES),
+    ("a |<-> b", "'<->' can't come here. Is 'iff' meant?", OPERATOR),
+    ("a |== b", "'==' can't come here. Is 'iff' meant?", OPERATOR),
+    ("a |&& b", "'&&' can't come here. Is 'and' meant?", OPERATOR),
+    ("|!a or b", "a name has no '!' without quotes. Is 'not a' meant?", NAMES),
+    ("|~a or b", "a name doesn't begin with '~' without quotes. Is 'not a' meant?", NAMES),
+    ("|! a", "'!' can't come here. Is 'not' meant?", OPERAND),
+    ("a |xor b", "'xor' can't come here: 'exactly one of (a, b)' says this", OPERATOR),
+    ("a |unless b", "'unless' can't come here: 'b implies a' says that a holds if b does", OPERATOR),
+    ("if |a then b", "'a' can't come here: without 'if', 'a implies b' says that b holds if a does", OPERATOR),
+    ("nver |a and b", "'a' can't come here. Is 'never' meant in place of 'nver'?", OPERATOR),
+    ("touch |screen implies glossy", "'screen' can't come here: a name with a blank in it stands in quotes, \"touch screen\"", OPERATOR),
+    ("a|, b", "',' can't come here: commas stand in the lists of counts alone", "such as: at most one of a, b"),
+    ("a or|", "a formula is due at the line's end", OPERAND),
+    ("|and b", "'and' can't come here", OPERAND),
+    ("a or |always", "'always' is no literal", "[always] is a line of its own; a name that is a keyword stands in quotes"),
+    ("a or |never b", "'never' can't come here", "it begins a line, a bracket, or what is implied; else 'not' is the word"),
+    ("never a |implies b", "'implies' can't come behind 'never ..'", "brackets say what is meant: never (..)"),
+    ("a iff b |iff c", "'iff' stands twice", "brackets say which comes first: (a iff b) iff c"),
+    ("a or |(b", "the bracket that begins here has no end", "at the line's end may come 'and', 'or', 'implies', 'iff' or ')'"),
+    ("a or b|)", "')' can't come here: no bracket is open", OPERATOR),
+    ("(a |b)", "'b' can't come here: a name with a blank in it stands in quotes, \"a b\"", "here may come 'and', 'or', 'implies', 'iff' or ')'"),
+    ("one |of a, b", "'of' can't come here: a count begins with 'at most', 'at least' or 'exactly'", OPERATOR),
+    ("at |mst one of a", "'mst' can't come here. Is 'most' meant?", OPERATOR),
+    ("at most |two of a, b", "a number is due in place of 'two'. Is '2' meant?", "here may come 'one', or a number as 2"),
+    ("exactly |of a, b", "a number is due in place of 'of'", "here may come 'one', or a number as 2"),
+    ("at least 2 |a, b", "'of' is due in place of 'a'", "a count is 'at most 2 of a, b, c'"),
+    ("exactly one of a, b |or c", "'or' can't come in a list", LIST),
+    ("exactly 2 of a, b |implies c", "'implies' can't come in a list", COUNT),
+    ("at most one of a, |at most 1 of b, c", "a count in a list needs brackets around its own list", "such as: at most one of (a, b)"),
+    ("exactly one of a, b, |a", "a literal stands twice in this list", "each literal counts once"),
+    ("a or b|.", "a name doesn't end with '.' without quotes", NAMES),
+    ("a|: b", "a name doesn't end with ':' without quotes", NAMES),
+    ("|\"touch screen", "the quote that begins here has no end", QUOTES),
+    ("|“touch screen”", "a name has no '“' without quotes. A quote is written \"", NAMES),
+    ('"a|\\n"', "'\\n' says nothing in a quoted name", 'in a quoted name stand \\" for " and \\\\ for \\'),
+    ('a or |""', "nothing stands in these quotes", QUOTES),
+    ("日本語 or (日本|; x)", "a name has no ';' without quotes", NAMES),
+    ("[x|", "no rule begins here: its ']' is missing", HEAD),
+    ("[x]| a", "behind ']' stands nothing but a comment", "the lines of a rule stand below its [NAME]"),
+    ("[| ]", "a rule without a name", HEAD),
+    ("|[r]", "a rule 'r' stood before, in line 1", "each rule has a name of its own"),
+)
 
 
 def run(*words, given=b""):
@@ -24,18 +83,16 @@ def clauses(*lines):
     return [list(map(int, line.split()[1:-1])) for line in made.gcnf().split("\n") if line.startswith("{")]
 
 
-def refusal(*lines):
+def refusal(text):
     try:
-        rules.read("\n".join(lines), "r")
+        rules.read(text, "f.rules")
     except telling.Refused as why:
         return str(why)
     return None
 
 
-class OldRules(unittest.TestCase):
-    """What was read before the language grew."""
-
-    def test_each_kind_of_line_gives_its_clauses(self):
+class Clauses(unittest.TestCase):
+    def test_lines_of_before_give_the_same_clauses(self):
         for line, wanted in (
                 ("a implies b", [[-1, 2]]),
                 ("not a implies not b", [[1, -2]]),
@@ -60,31 +117,191 @@ class OldRules(unittest.TestCase):
         ):
             self.assertEqual(clauses(line), wanted, line)
 
+    def test_formulas_give_their_clauses(self):
+        for line, wanted in (
+                ("a and b", [[1], [2]]),
+                ("not not a", [[1]]),
+                ("not (a or b)", [[-1], [-2]]),
+                ("a or b and c", [[1, 2], [1, 3]]),
+                ("(a or b) and c", [[1, 2], [3]]),
+                ("not a and b", [[-1], [2]]),
+                ("a implies b implies c", [[-1, -2, 3]]),
+                ("(a implies b) implies c", [[1, 3], [-2, 3]]),
+                ("a or b implies c and d", [[-1, 3], [-1, 4], [-2, 3], [-2, 4]]),
+                ("a implies b iff c", [[1, 3], [-2, 3], [-1, 2, -3]]),
+                ("a iff b", [[-1, 2], [1, -2]]),
+                ("a iff exactly one of b, c", [[-1, 2, 3], [-1, -2, -3], [1, -2, 3], [1, -3, 2]]),
+                ("never a or b", [[-1], [-2]]),
+                ("a implies never b and c", [[-1, -2, -3]]),
+                ("at most 2 of a, b, c", [[-1, -2, -3]]),
+                ("at least 2 of a, b, c", [[1, 2], [1, 3], [2, 3]]),
+                ("at least one of (a, not b)", [[1, -2]]),
+                ("exactly 2 of (a, b) implies c", [[-1, -2, 3]]),
+                ("not at least one of a, b", [[-1], [-2]]),
+                ("at most one of (a and b), c", [[-1, -2, -3]]),
+                ("at most 3 of a, b", []),
+                ("at least 3 of a, b", [[]]),
+                ("NOT a Or b", [[-1, 2]]),
+                ("At Most ONE Of a, b", [[-1, -2]]),
+        ):
+            self.assertEqual(clauses(line), wanted, line)
+
+    def test_names(self):
+        for line, wanted in (
+                ("libstdc++6 or python3:any or CONFIG_X=m", ["libstdc++6", "python3:any", "CONFIG_X=m"]),
+                ("@scope/pkg or /usr/bin or 1.0~rc1 or numpy==1.2", ["@scope/pkg", "/usr/bin", "1.0~rc1", "numpy==1.2"]),
+                ('"touch screen" or "c#" or "a \\"b\\" \\\\"', ["touch screen", "c#", 'a "b" \\']),
+                ('"not" or "a" or a', ["not", "a"]),
+                ("rock-and-roll or हिन्दी or 日本語", ["rock-and-roll", "हिन्दी", "日本語"]),
+                ("exactly or at", ["exactly", "at"]),
+        ):
+            made = rules.read(f"[r]\n{line}", "r")
+            self.assertEqual(list(made.variables), wanted, line)
+            again = rules.read("[r]\n" + " or ".join(map(rules.written, made.variables)), "r")
+            self.assertEqual(again.variables, made.variables, line)
+
     def test_variables_are_numbered_as_they_come_and_keep_their_numbers(self):
         self.assertEqual(clauses("b or a", "never a and c"), [[1, 2], [-2, -3]])
 
-    def test_file_has_header_names_and_groups_in_order(self):
-        text = "[b]\ny\n[always]\nx implies y\n[a rule {1} 0]\n  not x  # never\n[Always]\nnot x"
-        self.assertEqual(rules.read(text, "r").gcnf(), """\
+    def test_file_has_header_names_rules_and_groups_in_order(self):
+        text = "\ufeff[b]\ny\n[always]\nx implies y\r\n[a rule {1} 0]\n  not x  # never\n[ALWAYS]\nnot x\n[C# or #2]\n"
+        text += "x or " * 3000 + "y"
+        self.assertEqual(rules.read(text, "r").gcnf(), f"""\
 c variable 1 y
 c variable 2 x
-p gcnf 2 4 2
+p gcnf 2 5 3
 c rule 4 x implies y
-{0} -2 1 0
+{{0}} -2 1 0
 c rule 8 not x
-{0} -2 0
+{{0}} -2 0
 c group 1 b
 c rule 2 y
-{1} 1 0
-c group 2 a rule {1} 0
+{{1}} 1 0
+c group 2 a rule {{1}} 0
 c rule 6 not x
-{2} -2 0
+{{2}} -2 0
+c group 3 C# or #2
+c rule 10 {"x or " * 3000}y
+{{3}} {"2 " * 3000}1 0
 """)
 
-    def test_the_example_is_what_the_tool_makes_of_its_rules(self):
-        made = run(os.path.join(EXAMPLES, "shifts.rules"))
-        with open(os.path.join(EXAMPLES, "shifts.gcnf"), "rb") as example:
-            self.assertEqual((made.returncode, made.stdout), (0, example.read()))
+    def test_examples_are_what_the_tool_makes_of_their_rules(self):
+        for name in sorted(os.listdir(EXAMPLES)):
+            if name.endswith(".rules"):
+                made = run(os.path.join(EXAMPLES, name))
+                with open(os.path.join(EXAMPLES, name.replace(".rules", ".gcnf")), "rb") as example:
+                    self.assertEqual((made.returncode, made.stdout), (0, example.read()), name)
+
+
+class Mistakes(unittest.TestCase):
+    def test_each_is_told_with_its_place_and_what_may_come(self):
+        for marked, told, may in MISTAKES:
+            line, before = marked.replace("|", "", 1), marked.partition("|")[0]
+            blanks = " " * sum(2 if char in "日本語" else 1 for char in before)
+            self.assertEqual(refusal(f"[r]\na\n{line}\n[end]\na"), f"f.rules: line 3: {told}\n    {line}\n    {blanks}^\n  {may}", marked)
+
+    def test_texts_without_what_they_need(self):
+        ask = "  below it comes what it asks for, such as: a implies b"
+        none = "  a rule begins with [NAME], and below it comes what it asks for, such as: a implies b"
+        for text, wanted in (
+                ("a or b", "line 1: no rule begins before this line\n    a or b\n    ^\n  here may come [NAME] or [always]"),
+                ("[a]\nx\n[b]\n# nothing\n\n[c]\nx", "line 3: the rule 'b' has no line\n" + ask),
+                ("[a]\n[always]\nx", "line 1: the rule 'a' has no line\n" + ask),
+                ("[a]\nx\n[b]\n", "line 3: the rule 'b' has no line\n" + ask),
+                ("", "line 1: no rule stands in this text\n" + none),
+                ("# nothing\n\n", "line 2: no rule stands in this text\n" + none),
+                ("[always]\nx\n", "line 2: no rule stands in this text\n" + none),
+                ("[ # ]", "line 1: no rule begins here: its ']' is missing\n    [ # ]\n     ^\n  a rule begins with [NAME]"),
+        ):
+            self.assertEqual(refusal(text), "f.rules: " + wanted, text)
+
+    def test_a_long_line_is_shown_around_its_place(self):
+        told = refusal("[r]\n" + "a or " * 2000 + "b\x1b c").split("\n")
+        self.assertEqual(told[0], "f.rules: line 2: a name has no 'U+001B' without quotes")
+        self.assertEqual((told[1][:7], told[1][-3:], told[2].rstrip("^")), ("    .. ", "b\ufffd c"[-3:], " " * told[1].index("\ufffd")))
+        self.assertLess(len(told[1]), 120)
+
+    def test_limits_are_told_at_their_line(self):
+        names = ", ".join(f"x{number}" for number in range(100))
+        for name, limit, text, wanted in (
+                ("VARIABLES", 3, "[r]\na or b or c\n\nd", "line 4: more than 3 variables"),
+                ("VARIABLES", 150, f"[r]\nat most 50 of {names}", "line 2: more than 150 variables"),
+                ("CLAUSES", 3, "[r]\nat most one of a, b, c\na", "line 3: more than 3 clauses"),
+                ("LITERALS", 3, "[r]\na or b or c\na", "line 3: more than 3 literals"),
+                ("GROUPS", 1, "[r]\na\n[s]\na", "line 3: more than 1 rules\n    [s]\n    ^"),
+        ):
+            with mock.patch.object(limits, name, limit):
+                self.assertEqual(refusal(text), f"f.rules: {wanted}\n  docs/FORMATS.md has the limits of a file", text)
+
+    def test_brackets_may_be_deep_but_not_too_deep(self):
+        for deep, told in ((200, None), (201, "f.rules: line 2: more than 200 brackets stand in each other")):
+            said = refusal("[r]\n" + "(a or not " * deep + "b" + ")" * deep)
+            self.assertEqual(said and said.split("\n")[0], told)
+        self.assertEqual(clauses("not " * 20_001 + "a"), [[-1]])
+        self.assertEqual(clauses("a implies " * 5_000 + "b")[0][-1], 2)
+
+
+class Notes(unittest.TestCase):
+    def test_names_of_one_sign(self):
+        others = "stand with one sign only: no clause with such a name is in any conflict"
+        one = others.replace("stand", "stands", 1)
+        for lines, wanted in (
+                ("a implies b\nb implies a", []),
+                ("a implies b\nnot b", [f"r: 1 name {one}"]),
+                ("a iff b\nexactly one of a, b", []),
+                ("at most one of a, b\nat least one of a, b", []),
+                ("at most one of a, b", [f"r: 2 names {others}"]),
+                ("not (a implies b)\nnever a and not b", []),
+                ("touch implies glosy\nglossy or touch\nnot glossy",
+                 ["r: line 2: 'glosy' stands with one sign only. Is 'glossy' meant?"]),
+                ("touch implies glosy\nglossy and touch and x and y and not z",
+                 ["r: line 2: 'glosy' stands with one sign only. Is 'glossy' meant?",
+                  "r: line 3: 'glossy' stands with one sign only. Is 'glosy' meant?", f"r: 3 other names {others}"]),
+                ("Touch-screen and not touch_screen and tuochscreen",
+                 ["r: line 2: 'Touch-screen' stands with one sign only. Is 'touch_screen' meant?",
+                  "r: line 2: 'touch_screen' stands with one sign only. Is 'Touch-screen' meant?",
+                  "r: line 2: 'tuochscreen' stands with one sign only. Is 'Touch-screen' meant?"]),
+                ("slot_11 and slot_12 and n:int and m:int and fan and fans", [f"r: 6 names {others}"]),
+                ("c# implies dotnet\nnot c", ["r: line 2: '#' begins a comment, though it stands right behind 'c': a name with '#' stands "
+                                              "in quotes"]),
+                ("at least 3 of a, b\nnot a or not b", ["r: line 2: 3 of 2 never hold"]),
+        ):
+            self.assertEqual(rules.read(f"[r]\n{lines}", "r").notes(), wanted, lines)
+
+
+class Program(unittest.TestCase):
+    def test_how_it_ends(self):
+        usage = b"    tools/gcnf.py RULES [--strict] > FILE.gcnf\n"
+        with tempfile.TemporaryDirectory() as folder:
+            for words, given, status, told in (
+                    (["-"], b"[r]\na b\n", 1, b"gcnf.py: -: line 2: 'b' can't come here"),
+                    (["-"], b"[r]\n# x\ngr\xf6\xdfe\n", 1, b"gcnf.py: -: line 3: the bytes are no UTF-8\n"),
+                    (["-"], b"\x7fELF\x02\x01\0\0\xff", 1, b"gcnf.py: -: line 1: the bytes are no UTF-8\n"),
+                    (["-"], b"\0\0", 1, b"gcnf.py: -: line 1: "),
+                    ([folder], b"", 1, f"gcnf.py: {folder}: Is a directory\n".encode()),
+                    ([folder + "/none"], b"", 1, f"gcnf.py: {folder}/none: No such file or directory\n".encode()),
+                    ([os.path.join(EXAMPLES, "laptop.gcnf")], b"", 1, b"gcnf.py: "),
+                    ([], b"", 2, b"gcnf.py: one file of rules is wanted\n" + usage),
+                    (["a", "b"], b"", 2, b"gcnf.py: one file of rules is wanted\n" + usage),
+                    (["--lax", "a"], b"", 2, b"gcnf.py: what is --lax?\n" + usage),
+                    (["--strict", "-"], b"[r]\na\n", 1, b"gcnf.py: -: 1 name stands with one sign only"),
+            ):
+                ended = run(*words, given=given)
+                self.assertEqual((ended.returncode, ended.stdout), (status, b""), words)
+                self.assertTrue(ended.stderr.startswith(told), (words, ended.stderr))
+                self.assertNotIn(b"Traceback", ended.stderr)
+
+    def test_what_it_writes(self):
+        file = b"c variable 1 a\np gcnf 1 2 1\nc group 1 r\nc rule 2 a and not a\n{1} 1 0\n{1} -1 0\n"
+        for words, given, status, wanted, told in (
+                (["-"], b"\xef\xbb\xbf[r]\r\na and not a\r\n", 0, file, b""),
+                (["-", "--strict"], b"[r]\na and not a", 0, file, b""),
+                (["-"], b"[r]\na\n", 0, b"c variable 1 a\np gcnf 1 1 1\nc group 1 r\nc rule 2 a\n{1} 1 0\n",
+                 b"gcnf.py: -: 1 name stands with one sign only: no clause with such a name is in any conflict\n"),
+        ):
+            ended = run(*words, given=given)
+            self.assertEqual((ended.returncode, ended.stdout, ended.stderr), (status, wanted, told), (words, given))
+        self.assertTrue(run("--help").stdout.startswith(b"Writes a GCNF file from named rules.\n"))
 
 
 if __name__ == "__main__":
