@@ -49,7 +49,7 @@ class Evidence:
                 found[groups] = at, number
             at += len(line)
         if line not in (b"e complete\n", b"e partial\n"):
-            self.refuse(number + line.endswith(b"\n"), "3 Truncated: the evidence has no end")
+            self.refuse(max(1, number + line.endswith(b"\n")), "3 Truncated: the evidence has no end")
         self.is_complete = line == b"e complete\n"
         self.conflicts = sorted(found)
         self.places = [found[groups] for groups in self.conflicts]
@@ -179,11 +179,12 @@ class Refutation:
             needed[self.place_of(identity)] = 1
 
     def needed_hints(self, place):
-        """Checks a step along its hints, and gives those that the propagation needed."""
+        """Checks a step along its hints, and gives those that the propagation needed.
+
+        A step with a literal and its negative, which evidence may not have, makes nothing true that wasn't, so none is needed.
+        """
         lits, hints = self.step(place)
         number, identity = self.first_line + place, self.ids[place]
-        if any(-lit in lits for lit in lits):
-            self.evidence.refuse(number, f"15 BadLiteral: step {identity} has a literal and its negative")
         falses = dict.fromkeys(lits)      # the false literals, each with the place of the hint that made it false
         clauses = []
         for at, hint in enumerate(hints):

@@ -80,7 +80,7 @@ class Reader:
                 self.comment(line.decode("utf-8", "replace").strip())
             else:
                 self.words(line)
-        problem = self.problem
+        problem, self.number = self.problem, max(1, self.number)
         if not self.is_header_read():
             self.refuse("this is no GCNF file")
         if len(problem.group_of) - 1 != problem.count or self.clause is not None or self.group is not None:
