@@ -1,7 +1,7 @@
 #!/usr/bin/env python3
 """Says what the gate costs: the processor seconds of each crate's library, tests and wrong bodies, and the longest chain.
 
-    tools/cost.py                runs `rt ci --anew` at the top of the repository, and prints the table
+    tools/cost.py                runs the gate from nothing at the top of the repository, and prints the table
     tools/cost.py WORDS          runs `rt ci WORDS`, as tools/cost.py --anew propagate
     tools/cost.py --edits ..     also a line for each wrong body, the dearest first
 
@@ -11,12 +11,15 @@ of the whole was not seen. What `rt ci` says goes to standard error.
 
 A piece is what the gate doesn't split: a crate's library, its tests with a second proof of the library, what the tries
 of wrong bodies begin with (a third proof of it, the base), and each try. A library waits for those below it, tests for
-the libraries below, a base for its crate's library and tests, and a try for its base. The longest chain is the one whose
-pieces take most, each as if it had one processor.
+the libraries below, and the tries for their crate's library and tests. Kits differ in how they try. One makes the base
+first, and each try waits for it alone. Another tries a crate's wrong bodies in turn, each over the work of those before
+it, and at the end the crate without any: there a base is what the first try takes above the others' median, and that end.
+The longest chain is the one whose pieces take most, each as if it had one processor.
 """
 import os
 import re
 import resource
+import statistics
 import subprocess
 import sys
 import time
@@ -28,7 +31,8 @@ EVERY = 0.1
 
 
 def piece_of(words, folder):
-    """The crate and the piece that a command of the gate works at, or None: its words, and the folder that it stands in."""
+    """The crate and the piece that a command of the gate works at, or None: its words, and the folder that it stands in.
+    A try in turn is told by its folder, which is its own."""
     if "--crate-name" not in words[:-1]:
         return None
     crate = words[words.index("--crate-name") + 1]
@@ -37,8 +41,28 @@ def piece_of(words, folder):
         last = os.path.basename(begun)
         if last == "seed":
             return crate, "base"
+        if last.startswith("rt-edits-"):
+            return crate, folder
         return crate, int(last) if last.isdigit() else "alone"
     return crate, "tests" if "--test" in words else "library"
+
+
+def numbered(pieces):
+    """The pieces, with the tries in turn by their number in place of their folder; `pieces` has them in the order in which
+    they began; and whether there are any."""
+    told, rooms = {}, {}
+    for (crate, name), seconds in pieces.items():
+        if isinstance(name, str) and "/rt-edit-" in name:
+            rooms.setdefault(crate, []).append(seconds)
+        else:
+            told[crate, name] = seconds
+    for crate, tries in rooms.items():
+        edits = len(edit_names(crate))
+        first, others, end = tries[0], tries[1:edits], tries[edits:]
+        usual = min(first, statistics.median(others or tries))
+        told[crate, "base"] = first - usual + sum(end)
+        told.update({(crate, number): seconds for number, seconds in enumerate([usual, *others])})
+    return told, bool(rooms)
 
 
 class Watch:
@@ -114,7 +138,7 @@ def edit_names(crate):
     return sorted(name[:-len(".edit")] for name in names if name.endswith(".edit"))
 
 
-def longest_chain(below, pieces):
+def longest_chain(below, pieces, in_turn=False):
     """The pieces that wait for each other and take most together, the first one first, and their seconds."""
     chains = {}
 
@@ -134,10 +158,16 @@ def longest_chain(below, pieces):
     ends = []
     for crate in below:
         tests = grown(longest([library(it) for it in below[crate]]), crate, "tests")
-        tries = [(seconds, name) for (of, name), seconds in pieces.items() if of == crate and name not in ("library", "tests", "base")]
-        dearest = [max(tries)[1]] if tries else []
+        tries = tries_of(crate, pieces)
+        dearest = [name for _, name in tries[:len(tries) if in_turn else 1]]
         ends += [library(crate), tests, grown(longest([library(crate), tests]), crate, "base", *dearest)]
     return longest(ends)
+
+
+def tries_of(crate, pieces):
+    """What each try of a crate takes, the dearest first, and its name."""
+    tries = [(seconds, name) for (of, name), seconds in pieces.items() if of == crate and name not in ("library", "tests", "base")]
+    return sorted(tries, key=lambda it: -it[0])
 
 
 def longest(chains):
@@ -155,7 +185,7 @@ def table(below, pieces):
     """A line for each crate, the dearest first."""
     rows = []
     for crate in below:
-        tries = [seconds for (of, name), seconds in pieces.items() if of == crate and name not in ("library", "tests", "base")]
+        tries = [seconds for seconds, _ in tries_of(crate, pieces)]
         library, tests, base = (pieces.get((crate, name), 0) for name in ("library", "tests", "base"))
         rows.append((library + tests + base + sum(tries), crate, library, tests, base, len(tries), sum(tries), max(tries, default=0)))
     rows.sort(reverse=True)
@@ -168,8 +198,9 @@ def table(below, pieces):
     return "\n".join(lines)
 
 
-def said(below, pieces, all_seconds, wall, with_edits):
-    seconds, chain = longest_chain(below, pieces)
+def said(below, begun, all_seconds, wall, with_edits):
+    pieces, in_turn = numbered(begun)
+    seconds, chain = longest_chain(below, pieces, in_turn)
     lines = [table(below, pieces), ""]
     lines.append(f"Longest chain: {seconds:.0f} s, " + ", ".join(f"{crate} {name_of(crate, it)} {took:.0f}" for crate, it, took in chain))
     (crate, piece), took = max(pieces.items(), key=lambda it: it[1], default=((None, ""), 0))
@@ -184,9 +215,15 @@ def said(below, pieces, all_seconds, wall, with_edits):
     return "\n".join(lines)
 
 
+def from_nothing():
+    """What has `rt ci` prove all from nothing: a kit that keeps what passed has a word for it."""
+    told = subprocess.run(["rt", "help"], stdout=subprocess.PIPE, stderr=subprocess.STDOUT, universal_newlines=True, check=False)
+    return ["--anew"] if "--anew" in told.stdout else []
+
+
 def main(words):
     with_edits = "--edits" in words
-    words = [word for word in words if word != "--edits"] or ["--anew"]
+    words = [word for word in words if word != "--edits"] or from_nothing()
     began = time.monotonic()
     gate = subprocess.Popen(["rt", "ci", *words], cwd=TOP, stdin=subprocess.DEVNULL, stdout=sys.stderr)
     watch = Watch(gate.pid)

@@ -39,14 +39,24 @@ class Pieces(unittest.TestCase):
         words = ["rattle", "check", "--crate-name", "low", "src/lib.rt"]
         begun = ["--incremental", "/tmp/rt-edits-7-x/12"]
         seed = ["--incremental", "/tmp/rt-edits-7-x/seed"]
+        in_turn = ["--incremental", "/tmp/rt-edits-x"]
         for given, folder, wanted in (
                 (words, "/work/crates/low", ("low", "library")),
                 (words + ["--test"], "/work/crates/low", ("low", "tests")),
                 (words + begun, "/tmp/rt-edit-7-y", ("low", 12)),
                 (words + seed, "/tmp/rt-edit-7-y", ("low", "base")),
                 (words, "/tmp/rt-edit-7-y", ("low", "alone")),
+                (words + in_turn, "/tmp/rt-edit-y", ("low", "/tmp/rt-edit-y")),
                 (["python3", "rt", "ci"], "/work", None)):
             self.assertEqual(cost.piece_of(given, folder), wanted)
+
+    def test_tries_in_turn_get_their_numbers(self):
+        rooms = {("a", "library"): 5, ("a", "/tmp/rt-edit-x"): 12, ("a", "/tmp/rt-edit-y"): 3, ("a", "/tmp/rt-edit-z"): 2}
+        with unittest.mock.patch.object(cost, "edit_names", lambda crate: ["p", "q"]):
+            told, in_turn = cost.numbered(rooms)
+        self.assertEqual(told, {("a", "library"): 5, ("a", "base"): 12 - 3 + 2, ("a", 0): 3, ("a", 1): 3})
+        self.assertEqual(cost.longest_chain(BELOW, told, in_turn)[0], 5 + 11 + 3 + 3)
+        self.assertEqual(cost.numbered({("a", "base"): 4, ("a", 0): 2}), ({("a", "base"): 4, ("a", 0): 2}, False))
 
     def test_the_longest_chain_waits_for_libraries_and_tests(self):
         pieces = {("a", "library"): 5, ("a", "tests"): 30, ("a", "base"): 4, ("a", 0): 2, ("a", 1): 3,
