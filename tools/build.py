@@ -9,6 +9,7 @@ status is 1.
 """
 import os
 import re
+import signal
 import subprocess
 import sys
 import time
@@ -35,41 +36,95 @@ def lanes(most):
     return max(1, min(most, free // MEMORY))
 
 
-def prove(crate, log, told):
-    """Proves a crate and what it stands on, and gives which crates were proved, and which were not. `told` is called with
-    each crate that is done with. A check of one crate would keep those of others in this repository waiting, so all are one
-    call, which takes the crates at or below its folder and those that they stand on."""
+def ends_of(below, top):
+    """The crates at the end of a build, each of which stands on all before it, so that nothing is proved beside them."""
+    left, ends = lowest_first(below, top), []
+    while len(left) > 1 and set(lowest_first(below, left[-1])) == set(left):
+        ends.insert(0, left.pop())
+    return ends
+
+
+class Building:
+    """What is said of a build, a line at a time. The lines of a crate come once it is done with, behind its name."""
+
+    def __init__(self, log, told):
+        self.log, self.told = log, told
+        self.crate, self.lines = None, 0
+        self.proved, self.failed = [], []
+
+    def hear(self, line):
+        self.log.write(line)
+        self.log.flush()
+        heading = re.fullmatch(r"== (\w+)\n", line)
+        ended = re.fullmatch(r"(\w+): (ok|failed \(.*\)|not run, .*)\n", line)
+        if heading:
+            # What was kept says nothing.
+            self.end(self.lines == 0)
+            self.crate, self.lines = heading[1], 0
+            if self.crate != "summary":
+                self.told(self.crate)
+        elif ended and ended[2] != "ok":
+            self.failed.append(ended[1])
+        else:
+            self.lines += 1
+            self.end(line.startswith("logic=proved"))
+
+    def end(self, well):
+        if well and self.crate not in [None, "summary", *self.proved]:
+            self.proved.append(self.crate)
+
+
+def prove(top, below, log, told):
+    """Proves a crate and what it stands on, and gives those that failed. `told` is called with each crate that is done with.
+
+    A check of one crate keeps those of others in this repository waiting, so all are one call, which takes the crates at or
+    below its folder and those that they stand on, each on one processor. It is stopped before the ends, each of which then
+    gets as many processors as it can use."""
+    ends = ends_of(below, top)
+    first = set(lowest_first(below, top)) - set(ends)
+    building = Building(log, told)
     # A crate that waits for those below it keeps its place among those that run.
-    words = ["rt", "all", "check", "--jobs", str(lanes(processors() * 3 // 2))]
-    proved, failed = [], []
+    status = call(["rt", "all", "check", "--jobs", str(lanes(processors() * 3 // 2))], top, building,
+                  lambda: bool(ends) and first <= set(building.proved))
+    if status and not building.failed:
+        building.failed.append(top)
+    for crate in ends:
+        if crate in building.proved or building.failed:
+            continue
+        building.hear(f"== {crate}\n")
+        if call(["rt", "check" if crate == top else "lib"], crate, building, lambda: False):
+            building.failed.append(crate)
+    return building.failed
+
+
+def call(words, crate, building, is_enough):
+    """Calls the toolchain in a crate's folder, and gives its status; where it is enough it is stopped, which is well."""
     with subprocess.Popen(words, cwd=os.path.join(TOP, "crates", crate), stdin=subprocess.DEVNULL, stdout=subprocess.PIPE,
-                          stderr=subprocess.STDOUT, universal_newlines=True, errors="replace") as going:
-        for line in going.stdout:
-            log.write(line)
-            log.flush()
-            heading = re.fullmatch(r"== (\w+)\n", line)
-            ended = re.fullmatch(r"(\w+): (ok|failed \(.*\)|not run, .*)\n", line)
-            if heading and heading[1] != "summary":
-                told(heading[1])
-            elif ended:
-                (proved if ended[2] == "ok" else failed).append(ended[1])
-    if going.returncode and not failed:
-        failed.append(crate)
-    return proved, failed
+                          stderr=subprocess.STDOUT, universal_newlines=True, errors="replace", start_new_session=True) as going:
+        try:
+            for line in going.stdout:
+                building.hear(line)
+                if is_enough():
+                    return 0
+        finally:
+            if going.poll() is None:
+                # Its checks are processes of its own session. What they kept so far is gone on from.
+                os.killpg(going.pid, signal.SIGTERM)
+    return going.returncode
 
 
 def main():
-    below = lowest_first(below_in(text_of("crates.txt")), PROGRAM)
-    began, done = time.monotonic(), []
+    below = below_in(text_of("crates.txt"))
+    began, done, many = time.monotonic(), [], len(lowest_first(below, PROGRAM))
 
     def told(crate):
         done.append(crate)
         minutes = int(time.monotonic() - began) // 60
         so_far = f", {minutes} min so far" if minutes else ""
-        print(f"{PROGRAM}: {crate} is done, {len(done)} of {len(below)}{so_far}", file=sys.stderr, flush=True)
+        print(f"{PROGRAM}: {crate} is done, {len(done)} of {many}{so_far}", file=sys.stderr, flush=True)
 
     with open(os.path.join(TOP, "build.log"), "w", encoding="utf-8") as log:
-        if prove(PROGRAM, log, told)[1]:
+        if prove(PROGRAM, below, log, told):
             return 1
         # The run tells whether there is a program that works.
         ended = subprocess.run(["rt", "run", "--", "list", "data/first.gcnf"], cwd=os.path.join(TOP, "crates", PROGRAM),

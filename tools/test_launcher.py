@@ -9,8 +9,8 @@ import unittest
 
 TOP = os.path.dirname(os.path.dirname(os.path.abspath(__file__)))
 
-# It proves the crates at or below the folder and those that they stand on; or it makes the program and runs it as it is
-# told to; or it fails.
+# It proves the crates at or below the folder and those that they stand on, or is slow at the last of them; or it proves
+# one; or it makes the program and runs it as it is told to; or it fails.
 RT = """#!/bin/sh
 echo "$1 $(basename "$PWD")" >>"$ROOM/builds"
 if [ "$1" = all ]; then
@@ -20,9 +20,15 @@ if [ "$1" = all ]; then
         printf '== gmus\\n== summary\\nlow: failed (1)\\ngmus: not run, since low failed\\n0 of 2 crates ok\\n'
         exit 1
     fi
+    if [ -e "$ROOM/is_slow" ]; then
+        echo "logic=proved functions=1"
+        sleep 60
+        echo "$1 goes on" >>"$ROOM/builds"
+    fi
     printf '== gmus\\n== summary\\nlow: ok\\ngmus: ok\\n2 of 2 crates ok\\n'
     exit 0
 fi
+[ "$1" != check ] || exit 0
 mkdir -p out && cp "$ROOM/program" out/gmus && shift 2 && out/gmus "$@"
 """
 
@@ -82,6 +88,11 @@ class Launcher(unittest.TestCase):
         self.assertEqual(self.run_it("list", "a b"), (5, "to output: list a b", SAID + "to errors\n"))
         self.assertEqual(self.run_it("x"), (5, "to output: x", "to errors\n"))
         self.assertEqual(self.builds(), BUILT)
+
+    def test_the_last_crate_gets_all_processors(self):
+        self.write("is_slow", "")
+        self.assertEqual(self.run_it("x"), (5, "to output: x", SAID + "to errors\n"))
+        self.assertEqual(self.builds(), ["all gmus", "check gmus", "run gmus"])
 
     def test_a_newer_source_of_a_crate_below_builds_again(self):
         self.run_it("x")
