@@ -1,221 +1,163 @@
 #!/usr/bin/env python3
 """Writes a report of gmus with the names of its groups.
 
-    gmus list FILE | tools/names.py FILE [--html]
-    tools/names.py FILE REPORT [--html]
+    gmus list FILE | tools/names.py FILE [--first N] [--json] [--html [--why EVIDENCE]] [--fail-on-conflict]
+    tools/names.py FILE REPORT ..
 
-FILE is the GCNF file. Its comments 'c group 7 TEXT' name its groups; where one group has several of them, their texts
-are joined by a blank. The report comes from the file REPORT, or from standard input. What is written is a text, or with
---html a page that stands by itself.
+FILE is the GCNF file. Its comments 'c group 7 TEXT' name its groups; if one group has several of them, their texts are
+joined by a blank. A group with a name is called a rule. The report comes from the file REPORT, or from standard input.
 
-First come the groups, with how many conflicts and how many repairs each is in: those in most conflicts come first, then
-those in most repairs. Then the conflicts and the repairs, those of few groups first, since they tell most.
+What is written is a text: first the rules, with how many conflicts and how many corrections each is in. Those in most
+conflicts come first, then those in most corrections. Then the conflicts and the corrections, those of few rules first,
+since they tell most; a correction of one rule is told as a sentence.
+
+--first N writes the first N of each list, and how many are left. On a terminal that is so with 20, if N is not given.
+--json writes the whole report with names as JSON. Its form stands in docs/FORMATS.md.
+--html writes it as a page that stands by itself, in which rules can be given up or kept, and what then remains is shown.
+--why EVIDENCE: in the page each conflict opens to its reasons, by the evidence that gmus wrote with the report.
+--fail-on-conflict: what is written stays the same, and the status is 3 if something clashes.
+
+The status is 0 if the report was written, 1 if something was refused, 2 if the words have no reading.
 """
-import html
-import re
+import io
+import json
 import sys
-import unicodedata
 
-COMMENT = re.compile(r"[ \t]*c")
-NAMING = re.compile(r"[ \t]*c[ \t]+group[ \t]+([0-9]+)[ \t]+(\S.*)")
-SET = re.compile(r"(u|m)((?: [1-9][0-9]*)*) 0")
-REFUSED = 1
+import page
+from report import decoded, named, number_of
+from telling import DONE, Refused, WrongWords, bytes_of, run
 
-
-class Refused(Exception):
-    """What is wrong with the report."""
+CLASH = 3
+ON_A_TERMINAL = 20
+VERSION = 1
 
 
-def plain(text):
-    """The text without control characters, which a terminal would obey."""
-    return "".join("\ufffd" if unicodedata.category(char) in ("Cc", "Cf") else char for char in text)
-
-
-def read_problem(text):
-    """The names of the groups, and the greatest group that the header says, or None."""
-    names, words = {}, []
-    for line in text.split("\n"):
-        naming = NAMING.match(line)
-        if naming:
-            names.setdefault(int(naming.group(1)), []).append(plain(naming.group(2).strip()))
-        elif not COMMENT.match(line) and len(words) < 5:
-            words += line.replace("{", " { ").replace("}", " } ").split()
-    header = words[:5]
-    groups = int(header[4]) if header[:2] == ["p", "gcnf"] and len(header) == 5 and header[4].isdecimal() else None
-    return {group: " ".join(texts) for group, texts in names.items()}, groups
-
-
-class Report:
-    """The sets of a report, as lists of group numbers."""
-
-    def __init__(self, text):
-        lines = text.split("\n")
-        if lines == [""]:
-            raise Refused("there is none: see what gmus wrote on standard error")
-        if len(lines) < 4 or lines[-1] or not lines[-2].startswith("e "):
-            raise Refused("it is cut off, or is no report")
-        head = re.fullmatch(r"p gmus ([0-9]+)", lines[0])
-        if not head or lines[1] not in ("s COMPLETE", "s PARTIAL"):
-            raise Refused("it is no report")
-        self.groups = int(head.group(1))
-        self.is_complete = lines[1] == "s COMPLETE"
-        self.conflicts, self.repairs = [], []
-        for number, line in enumerate(lines[2:-2], 3):
-            found = SET.fullmatch(line)
-            members = [int(word) for word in found.group(2).split()] if found else []
-            if not found or any(group > self.groups for group in members):
-                raise Refused(f"line {number} is no set of its groups")
-            (self.conflicts if found.group(1) == "u" else self.repairs).append(members)
-        if lines[-2] != f"e {len(self.conflicts)} {len(self.repairs)}":
-            raise Refused("its last line does not count its sets")
-
-    def counts(self):
-        """In how many conflicts and in how many repairs each group is that is in any, the telling ones first."""
-        counts = {}
-        for at, sets in enumerate((self.conflicts, self.repairs)):
-            for members in sets:
-                for group in members:
-                    counts.setdefault(group, [0, 0])[at] += 1
-        return sorted(counts.items(), key=lambda count: (-count[1][0], -count[1][1], count[0]))
-
-
-def number_of(count, one, many):
-    return f"{count} {one if count == 1 else many}"
-
-
-class Page:
-    """The parts of a page, in words that the text and the HTML share."""
-
-    def __init__(self, report, names, title):
-        self.report = report
-        self.names = names
-        self.title = title
-        self.counts = report.counts()
-        self.conflicts = sorted(report.conflicts, key=len)
-        self.repairs = sorted(report.repairs, key=len)
-        involved = {group for group, _ in self.counts}
-        self.others = [group for group in range(1, report.groups + 1) if group not in involved]
-
-    def name(self, group):
-        return self.names.get(group, f"group {group}")
-
-    def summary(self):
-        if [] in self.repairs:
-            return "Nothing clashes: all groups fit together."
-        if [] in self.conflicts:
-            return "The background clashes with itself, whatever is given up: there is no repair."
-        found = (number_of(len(self.conflicts), "conflict", "conflicts") + " and "
-                 + number_of(len(self.repairs), "repair", "repairs"))
-        if self.report.is_complete:
-            return found + ". The report is complete: there are no others."
-        return found + " were found. The report is partial: there may be others."
-
-    def sections(self):
-        """The two lists of sets that are not empty, each with its heading and what it means."""
-        both = ((*HEADINGS[0], self.conflicts), (*HEADINGS[1], self.repairs))
-        return [section for section in both if [] not in section[2] and section[2]]
-
-    def others_line(self):
-        """What is said of the groups in no set, as names where they are few."""
-        if not self.others or [] in self.conflicts + self.repairs:
-            return ""
-        so_far = "" if self.report.is_complete else " so far"
-        if len(self.others) > 20:
-            return f"{len(self.others)} other groups are in none{so_far}."
-        return f"In none{so_far}: " + "; ".join(self.name(group) for group in self.others) + "."
-
-
-HEADINGS = (
-    ("Conflicts", "Not all groups of a conflict can be kept. Without any one of them, its others can."),
-    ("Repairs", "Give up the groups of one repair, and all others fit together. No part of it is enough."),
-)
-
-
-def as_text(page):
-    lines = [page.title, "=" * len(page.title), "", page.summary()]
-    if page.counts:
-        width = max(len(page.name(group)) for group, _ in page.counts)
-        lines += ["", "Groups", "------", "", f"  no.  {'':{width}}  conflicts  repairs"]
-        lines += [f"{group:5}  {page.name(group):{width}}  {conflicts:9}  {repairs:7}"
-                  for group, (conflicts, repairs) in page.counts]
-    if page.others_line():
-        lines += ["", page.others_line()]
-    for heading, meaning, sets in page.sections():
+def as_text(shown, first=None):
+    """The report as a text; of each list the first ones alone, if so many are asked for."""
+    lines = [shown.title, "=" * len(shown.title), "", shown.summary()]
+    if shown.counts:
+        lines += ["", "Rules", "-----", "", "  no.  conflicts  corrections  name"]
+        lines += [f"{group:5}  {conflicts:9}  {corrections:11}  {shown.name(group)}"
+                  for group, (conflicts, corrections) in shown.counts[:first]]
+        lines += left_line(len(shown.counts), first)
+    if shown.others_line():
+        lines += ["", shown.others_line()]
+    for heading, meaning, alone, sets in shown.sections():
         lines += ["", heading, "-" * len(heading), "", meaning]
-        for at, members in enumerate(sets, 1):
+        for at, members in enumerate(sets[:first], 1):
+            told = [shown.name(group) for group in members] if len(members) > 1 else [alone.format(shown.name(members[0]))]
             lines.append("")
-            lines += [f"{f'{at}.' if not place else '':5} {page.name(group)}" for place, group in enumerate(members)]
+            lines += [f"{f'{at}.' if not place else '':5} {line}" for place, line in enumerate(told)]
+        lines += left_line(len(sets), first)
     return "".join(line + "\n" for line in lines)
 
 
-STYLE = """
-body { font: 16px/1.45 system-ui, sans-serif; max-width: 52rem; margin: 2rem auto; padding: 0 1rem; color: #222; background: #fff }
-h1 { font-size: 1.5rem } h2 { font-size: 1.2rem; margin-top: 2rem }
-table { border-collapse: collapse } th, td { padding: .25rem .75rem .25rem 0; text-align: left; vertical-align: top }
-th { border-bottom: 1px solid #888; font-weight: 600 } td.n, th.n { text-align: right; font-variant-numeric: tabular-nums }
-ol > li { margin: .6rem 0 } ol ul { margin: 0; padding-left: 1.2rem }
-a { color: inherit; text-decoration-color: #aaa } tr:target { background: #ffc }
-@media print { body { margin: 0; max-width: none; font-size: 11pt } a { text-decoration: none } li, tr { break-inside: avoid } }
-"""
+def left_line(count, first):
+    if first is None or count <= first:
+        return []
+    left = number_of(count - first, "more is", "more are")
+    return ["", f"{left} left: --first {count} has all of them."]
 
 
-def as_html(page):
-    text = html.escape
-    named = lambda group: f'<a href="#g{group}">{text(page.name(group))}</a>'
-    parts = [
-        "<!DOCTYPE html>", '<html lang="en">', "<head>", '<meta charset="utf-8">',
-        '<meta name="viewport" content="width=device-width, initial-scale=1">',
-        f"<title>{text(page.title)}</title>", f"<style>{STYLE}</style>", "</head>", "<body>",
-        f"<h1>{text(page.title)}</h1>", f"<p>{text(page.summary())}</p>",
-    ]
-    if page.counts:
-        parts += ["<h2>Groups</h2>", "<table>",
-                  '<tr><th class="n">no.</th><th>group</th><th class="n">conflicts</th><th class="n">repairs</th></tr>']
-        parts += [f'<tr id="g{group}"><td class="n">{group}</td><td>{text(page.name(group))}</td>'
-                  f'<td class="n">{conflicts}</td><td class="n">{repairs}</td></tr>'
-                  for group, (conflicts, repairs) in page.counts]
-        parts.append("</table>")
-    if page.others_line():
-        parts.append(f"<p>{text(page.others_line())}</p>")
-    for heading, meaning, sets in page.sections():
-        parts += [f"<h2>{heading}</h2>", f"<p>{text(meaning)}</p>", "<ol>"]
-        for members in sets:
-            parts.append("<li><ul>" + "".join(f"<li>{named(group)}</li>" for group in members) + "</ul></li>")
-        parts.append("</ol>")
-    parts += ["</body>", "</html>"]
-    return "".join(part + "\n" for part in parts)
+def as_json(shown):
+    """The whole report as JSON, one set a line."""
+    head = {"version": VERSION, "file": shown.file, "complete": shown.report.is_complete, "groups": shown.report.groups,
+            "names": {str(group): name for group, name in sorted(shown.names.items())}}
+    counts = [{"group": group, "conflicts": conflicts, "corrections": corrections}
+              for group, (conflicts, corrections) in shown.counts]
+    lines = [f'"{key}": {written(value)}' for key, value in head.items()]
+    for key, rows in (("counts", counts), ("conflicts", shown.conflicts), ("corrections", shown.corrections)):
+        lines.append(f'"{key}": [' + ",".join("\n  " + written(row) for row in rows) + ("\n]" if rows else "]"))
+    return "{\n" + ",\n".join(lines) + "\n}\n"
 
 
-def read(name):
-    """The text of a file, or of standard input; bytes that are no UTF-8 are marked."""
-    if name is None:
-        return sys.stdin.buffer.read().decode("utf-8", "replace")
-    with open(name, "rb") as source:
-        return source.read().decode("utf-8", "replace")
+def written(value):
+    return json.dumps(value, ensure_ascii=False)
+
+
+def reasons_of(file, held, evidence):
+    """The reasons of each conflict that the evidence has, by its groups: of each rule, and None for the background, the lines
+    on which its refutation rests."""
+    try:
+        import why
+        from why_evidence import Evidence
+        from why_problem import Problem
+    except ImportError:
+        raise Refused("--why: tools/why.py, which finds reasons, is not there") from None
+    problem = Problem(io.BytesIO(held), file)
+    with why.opened(evidence) as source:
+        return {tuple(reason.groups): [(problem.name(part.group) if part.group else None,
+                                        [f"{place}: {line}" for place, line in part.lines]) for part in reason.parts]
+                for reason in why.reasons(problem, Evidence(source, evidence, problem))}
+
+
+class Words:
+    """The words of the command line."""
+
+    def __init__(self, words):
+        self.files, self.form, self.first, self.evidence, self.fails = [], None, None, None, False
+        words = list(words)
+        while words:
+            self.take(words.pop(0), words)
+        if not 1 <= len(self.files) <= 2:
+            raise WrongWords("a FILE has to be named, and a REPORT may be")
+        if self.files[0] == "-" and self.files[1:] in ([], ["-"]):
+            raise WrongWords("FILE and REPORT can't both come from standard input")
+        if self.form and self.first is not None:
+            raise WrongWords(f"--first is for the text: --{self.form} has the whole report")
+        if self.evidence is not None and self.form != "html":
+            raise WrongWords("--why is for the page: --html has to stand beside it")
+
+    def take(self, word, behind):
+        option, has_value, value = word.partition("=")
+        if word in ("--json", "--html"):
+            if self.form not in (None, word[2:]):
+                raise WrongWords("--json and --html don't go together")
+            self.form = word[2:]
+        elif word == "--fail-on-conflict":
+            self.fails = True
+        elif option in ("--first", "--why"):
+            if not has_value and not behind:
+                raise WrongWords(f"{option} has nothing behind it")
+            value = value if has_value else behind.pop(0)
+            if option == "--why":
+                self.evidence = value
+            elif value.isascii() and value.isdecimal() and len(value) <= 18:
+                self.first = int(value)
+            else:
+                raise WrongWords(f"--first {value}: a number has to stand here")
+        elif word == "--":
+            self.files += behind
+            behind.clear()
+        elif word.startswith("-") and word != "-":
+            raise WrongWords(f"{word} is no option")
+        else:
+            self.files.append(word)
 
 
 def main(words):
-    is_page = "--html" in words
-    files = [word for word in words if word != "--html"]
-    if not 1 <= len(files) <= 2 or any(word.startswith("-") and word != "-" for word in files):
-        sys.exit(__doc__)
-    names, groups = read_problem(read(files[0]))
-    report = Report(read(files[1] if files[1:] and files[1] != "-" else None))
-    if groups is not None and groups != report.groups:
-        raise Refused(f"it is of another file: {files[0]} has groups up to {groups}, and it has them up to {report.groups}")
-    page = Page(report, names, f"What clashes in {plain(files[0].rpartition('/')[2])}")
-    sys.stdout.buffer.write((as_html(page) if is_page else as_text(page)).encode("utf-8", "replace"))
-    sys.stdout.flush()
+    asked = Words(words)
+    file, held = asked.files[0], bytes_of(asked.files[0])
+    shown = named(decoded(held), decoded(bytes_of(asked.files[1] if asked.files[1:] else "-")), file)
+    if asked.form == "json":
+        text = as_json(shown)
+    elif asked.form == "html":
+        reasons = None if asked.evidence is None else reasons_of(file, held, asked.evidence)
+        text = page.as_html(shown, reasons)
+    else:
+        first = ON_A_TERMINAL if asked.first is None and sys.stdout.isatty() else asked.first
+        text = as_text(shown, first)
+    sys.stdout.buffer.write(text.encode("utf-8", "replace"))
+    return status_of(shown.report) if asked.fails else DONE
+
+
+def status_of(report):
+    """The status where a clash has to fail."""
+    clashes = report.has_clash()
+    if clashes is None:
+        raise Refused("whether something clashes is not known: the report is partial, and has no set")
+    return CLASH if clashes else DONE
 
 
 if __name__ == "__main__":
-    try:
-        main(sys.argv[1:])
-    except Refused as why:
-        print(f"names.py: the report can't be read: {why}", file=sys.stderr)
-        sys.exit(REFUSED)
-    except BrokenPipeError:
-        sys.stderr.close()
-        sys.exit(REFUSED)
-    except OSError as error:
-        sys.exit(f"names.py: {error}")
+    run("names.py", main, __doc__)

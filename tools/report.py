@@ -1,0 +1,155 @@
+"""A report of gmus, the names that its file gives to groups, and what both say in words.
+
+A group that has a name is called a rule here, as its file was mostly made from rules; one without a name is `group 7`.
+"""
+import re
+
+from telling import Refused, plain
+
+COMMENT = re.compile(r"[ \t]*c")
+LINE = re.compile(r"[^\n]+")
+# A number of 19 digits or more is above every group. Digits without end would be costly to read.
+NAMING = re.compile(r"^[ \t]*c[ \t]+group[ \t]+0*([0-9]{1,18})[ \t]+(\S[^\n]*)", re.MULTILINE)
+HEADER = re.compile(r"p gcnf [0-9]+ [0-9]+ 0*([0-9]{1,18})|p cnf [0-9]+ 0*([0-9]{1,18})( .*)?")
+HEAD = re.compile(r"p gmus ([0-9]{1,18})")
+SET = re.compile(r"(u|m)((?: [1-9][0-9]{0,17})*) 0")
+
+
+def decoded(held):
+    """The text of a file's bytes, without a byte order mark; bytes that are no UTF-8 are marked, since the program skips
+    comments whatever they hold."""
+    return held.decode("utf-8-sig", "replace")
+
+
+def read_problem(text):
+    """The names of the groups, and the greatest group that the header says, or None if there is no header.
+
+    In a file `p gcnf` a group is named by its number, in a file `p cnf` each clause is the group of its place.
+    """
+    names = {}
+    for naming in NAMING.finditer(text):
+        names.setdefault(int(naming.group(1)), []).append(plain(naming.group(2).strip()))
+    words = []
+    for line in LINE.finditer(text):
+        if len(words) >= 5:
+            break
+        if not COMMENT.match(line.group()):
+            words += line.group().replace("{", " { ").split(None, 5)
+    header = HEADER.fullmatch(" ".join(words[:5]))
+    groups = int(header.group(1) or header.group(2)) if header else None
+    return {group: " ".join(texts) for group, texts in names.items()}, groups
+
+
+class Report:
+    """The sets of a report, as lists of group numbers."""
+
+    def __init__(self, text):
+        lines = text.split("\n")
+        if lines == [""]:
+            raise Refused("there is none: see what gmus wrote on standard error")
+        if len(lines) < 4 or lines[-1] or not lines[-2].startswith("e "):
+            raise Refused("it is cut off, or is no report")
+        head = HEAD.fullmatch(lines[0])
+        if not head or lines[1] not in ("s COMPLETE", "s PARTIAL"):
+            raise Refused("it is no report")
+        self.groups = int(head.group(1))
+        self.is_complete = lines[1] == "s COMPLETE"
+        self.conflicts, self.corrections = [], []
+        for number, line in enumerate(lines[2:-2], 3):
+            found = SET.fullmatch(line)
+            members = [int(word) for word in found.group(2).split()] if found else [1, 1]
+            if any(after <= before for before, after in zip(members, members[1:] + [self.groups + 1])):
+                raise Refused(f"line {number} is no set of its groups")
+            (self.conflicts if found.group(1) == "u" else self.corrections).append(members)
+        if lines[-2] != f"e {len(self.conflicts)} {len(self.corrections)}":
+            raise Refused("its last line does not count its sets")
+
+    def counts(self):
+        """In how many conflicts and in how many corrections each group is that is in any, the telling ones first."""
+        counts = {}
+        for at, sets in enumerate((self.conflicts, self.corrections)):
+            for members in sets:
+                for group in members:
+                    counts.setdefault(group, [0, 0])[at] += 1
+        return sorted(counts.items(), key=lambda count: (-count[1][0], -count[1][1], count[0]))
+
+    def has_clash(self):
+        """Whether something clashes, or None if the report does not tell."""
+        if self.conflicts or any(self.corrections):
+            return True
+        return False if self.is_complete or self.corrections else None
+
+
+def number_of(count, one, many):
+    return f"{count} {one if count == 1 else many}"
+
+
+# Of each kind of sets: its heading, what it means, and what is said of a set of one rule.
+CONFLICTS = ("Conflicts", "Not all rules of a conflict can be kept. Without any one of them, its others can.",
+             "{} can't be kept, whatever else is given up.")
+CORRECTIONS = ("Corrections", "Give up the rules of one correction, and all others fit together. No part of it is enough.",
+               "Giving up {} alone mends all.")
+
+
+class Named:
+    """A report with the names of its groups, in the order in which a person reads it: first the rules in most conflicts,
+    then those in most corrections; and the sets of few rules before larger ones, since they tell most."""
+
+    def __init__(self, report, names, file):
+        self.report = report
+        self.names = names
+        self.file = plain(file.rpartition("/")[2])
+        self.title = f"What clashes in {self.file}"
+        self.counts = report.counts()
+        self.conflicts = sorted(report.conflicts, key=len)
+        self.corrections = sorted(report.corrections, key=len)
+        involved = {group for group, _ in self.counts}
+        self.others = [group for group in range(1, report.groups + 1) if group not in involved]
+
+    def name(self, group):
+        return self.names.get(group, f"group {group}")
+
+    def has_choice(self):
+        """Whether there is a set with rules in it, of which some can be given up."""
+        return bool(self.counts) and [] not in self.conflicts
+
+    def summary(self):
+        if [] in self.corrections:
+            return "Nothing clashes: all rules fit together."
+        if [] in self.conflicts:
+            return "The background clashes with itself, whatever is given up: there is no correction."
+        found = (number_of(len(self.conflicts), "conflict", "conflicts") + " and "
+                 + number_of(len(self.corrections), "correction", "corrections"))
+        if self.report.is_complete:
+            return found + ". The report is complete: there are no others."
+        return found + " were found. The report is partial: there may be others."
+
+    def sections(self):
+        """The two lists of sets, each behind its heading, what it means, and what is said of a set of one rule; without
+        those that are empty."""
+        both = ((*CONFLICTS, self.conflicts), (*CORRECTIONS, self.corrections))
+        return [section for section in both if section[-1] and [] not in section[-1]]
+
+    def others_line(self):
+        """What is said of the groups in no set, as names if they are few."""
+        if not self.others or [] in self.conflicts + self.corrections:
+            return ""
+        so_far = "" if self.report.is_complete else " so far"
+        if len(self.others) > 20:
+            return f"{len(self.others)} other rules are in none{so_far}."
+        return f"In none{so_far}: " + "; ".join(self.name(group) for group in self.others) + "."
+
+
+def named(file_text, report_text, file_name):
+    """The report of a file with its names; refused if it is none, or one of another file."""
+    names, groups = read_problem(file_text)
+    if groups is None:
+        raise Refused(f"{file_name}: it has no header 'p gcnf ..' or 'p cnf ..'")
+    try:
+        report = Report(report_text)
+        if groups != report.groups:
+            raise Refused(f"it is of another file: {file_name} has groups up to {groups}, and it has them up to "
+                          f"{report.groups}")
+    except Refused as why:
+        raise Refused(f"the report can't be read: {why}") from None
+    return Named(report, names, file_name)
