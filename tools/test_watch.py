@@ -1,0 +1,209 @@
+#!/usr/bin/env python3
+"""Tests of watch.py over a made-up program, and over the built one if it is there."""
+import os
+import shutil
+import signal
+import stat
+import subprocess
+import sys
+import tempfile
+import time
+import unittest
+
+TOOLS = os.path.dirname(os.path.abspath(__file__))
+TOP = os.path.dirname(TOOLS)
+sys.path.insert(0, TOOLS)
+
+import watch                             # noqa: E402
+from telling import Refused, WrongWords  # noqa: E402
+
+BUILT = os.environ.get("GMUS") or os.path.join(TOP, "crates", "gmus", "out", "gmus")
+
+# It knows a problem of 50 conflicts, each of one group. It notes its words, writes evidence of as many conflicts as the limit
+# allows, and ends as gmus does, but at a limit with a status that it was told, or never.
+FAKE = f"""#!{sys.executable} -SE
+import os, re, sys, time
+words = sys.argv[1:]
+room = os.path.dirname(os.path.abspath(__file__))
+open(room + "/calls", "a").write(re.sub(r"[0-9]+\\.new", "N.new", " ".join(words)).replace(room + "/", "") + "\\n")
+value = lambda option: words[words.index(option) + 1]
+limit = int(value("--limit"))
+if "--resume" in words and not open(value("--resume")).read().endswith("e partial\\n"):
+    print("gmus: evidence refused: line 1: 1 BadLine", file=sys.stderr)
+    sys.exit(9)
+told = dict(line.split("=") for line in open(room + "/told").read().split())
+evidence = open(value("--evidence"), "w")
+evidence.write("p gmev 1 1 50 50\\n")
+evidence.flush()
+if told.get("hangs") == str(limit):
+    print("begun", file=open(room + "/begun", "w"))
+    time.sleep(60)
+if told.get("fails") == str(limit):
+    print("gmus: out of memory", file=sys.stderr)
+    sys.exit(8)
+found = min(limit, 50)
+lines = [f"u {{group}} 0" for group in sorted(range(1, 51), key=str)[:found]]
+evidence.write("".join(f"{{line}}\\nd 51 0 1 0\\nr 0 51\\nw 1 0\\n" for line in lines) + "e partial\\n")
+spent = told.get("spends") == str(limit)
+print("\\n".join(["p gmus 50", "s PARTIAL" if limit <= 50 or spent else "s COMPLETE", *lines, f"e {{found}} 0"]))
+if spent:
+    print("gmus: budget of 7 conflicts spent", file=sys.stderr)
+    sys.exit(3)
+if limit <= 50:
+    print(f"gmus: limit of {{limit}} records reached", file=sys.stderr)
+    sys.exit(4)
+"""
+
+
+class Room(unittest.TestCase):
+    def setUp(self):
+        self.room = os.path.realpath(tempfile.mkdtemp())
+        self.addCleanup(shutil.rmtree, self.room)
+        self.write("fake", FAKE)
+        os.chmod(self.at("fake"), stat.S_IRWXU)
+        self.write("told", "")
+        self.write("f.gcnf", "c group 1 the <first> rule\np gcnf 1 50 50\n")
+
+    def at(self, name):
+        return os.path.join(self.room, name)
+
+    def write(self, name, text):
+        with open(self.at(name), "w") as file:
+            file.write(text)
+
+    def read(self, name):
+        with open(self.at(name)) as file:
+            return file.read()
+
+    def start(self, *words, program=None):
+        return subprocess.Popen([sys.executable, os.path.join(TOOLS, "watch.py"), *words], cwd=self.room,
+                                env={**os.environ, "GMUS": program or self.at("fake")}, stdin=subprocess.DEVNULL,
+                                stdout=subprocess.PIPE, stderr=subprocess.PIPE, universal_newlines=True)
+
+    def watch(self, *words, program=None):
+        child = self.start(*words, program=program)
+        output, said = child.communicate(timeout=50)
+        return child.returncode, output, said
+
+    def files(self):
+        return sorted(set(os.listdir(self.room)) - {"fake", "told", "calls", "begun", "f.gcnf"})
+
+
+class Rounds(Room):
+    def test_limits_double_and_each_round_goes_on_from_the_last(self):
+        status, output, said = self.watch("f.gcnf", "--html", "page.html", "--", "--jobs", "2")
+        self.assertEqual((status, said), (0, ""))
+        self.assertEqual(self.read("calls"), "".join(f"list --limit {line} --jobs 2 -- f.gcnf\n" for line in (
+            "20 --evidence f.gcnf.evidence.N.new", "40 --evidence f.gcnf.evidence.N.new --resume f.gcnf.evidence",
+            "80 --evidence f.gcnf.evidence.N.new --resume f.gcnf.evidence")))
+        self.assertEqual(self.files(), ["f.gcnf.evidence", "page.html"])
+        for line in ("up to 20 sets, after ", "20 conflicts and 0 corrections were found.", "    new conflict: the <first> rule\n",
+                     "    new conflict: group 10\n", "    and 17 more new conflicts\n", "    and 7 more new conflicts\n",
+                     "50 conflicts and 0 corrections. The report is complete: there are no others.", "f.gcnf.evidence has 50 sets."):
+            self.assertIn(line, output)
+        self.assertNotIn("To go on", output)
+        self.assertIn("50 conflicts and 0 corrections. The report is complete", self.read("page.html"))
+
+    def test_how_rounds_end(self):
+        for told, words, wanted, limits, said, go_on in (
+                ("", ["--limit", "30"], 4, [20, 30], "gmus: limit of 30 records reached\n", "-- --limit 60"),
+                ("", ["--limit=15"], 4, [15], "gmus: limit of 15 records reached\n", "-- --limit 30"),
+                ("spends=40", ["--conflicts", "7"], 3, [20, 40], "gmus: budget of 7 conflicts spent\n", "-- --conflicts 14"),
+                ("fails=40", ["--evidence", "e"], 8, [20, 40], "gmus: out of memory\n", "-- --evidence e"),
+        ):
+            self.write("told", told)
+            self.write("calls", "")
+            status, output, errors = self.watch("f.gcnf", "--", *words)
+            self.assertEqual((status, errors), (wanted, said), words)
+            self.assertEqual([int(line.split()[2]) for line in self.read("calls").splitlines()], limits, words)
+            self.assertTrue(output.endswith(f"To go on: {os.path.join(TOOLS, 'watch.py')} f.gcnf {go_on}\n"), output)
+            evidence, = set(self.files())
+            self.assertTrue(self.read(evidence).endswith("\ne partial\n"), words)
+            os.remove(self.at(evidence))
+
+    def test_it_goes_on_from_evidence_that_is_there(self):
+        self.watch("f.gcnf", "--", "--limit", "40")
+        self.write("calls", "")
+        status, output, _ = self.watch("f.gcnf")
+        self.assertEqual((status, self.read("calls")), (
+            0, "list --limit 80 --evidence f.gcnf.evidence.N.new --resume f.gcnf.evidence -- f.gcnf\n"))
+        self.assertIn("    and 7 more new conflicts\n", output)
+
+    def test_refused_evidence_stays_as_it_is(self):
+        for held in ("", "other", "u 1 0\n", "\xff\0"):
+            self.write("f.gcnf.evidence", held)
+            status, output, said = self.watch("f.gcnf")
+            self.assertEqual((status, output), (9, ""), held)
+            self.assertTrue(said.startswith("gmus: evidence refused: line 1: 1 BadLine\nwatch.py: f.gcnf.evidence was refused"), said)
+            self.assertEqual((self.files(), self.read("f.gcnf.evidence")), (["f.gcnf.evidence"], held))
+
+    def test_an_interrupt_ends_the_program_and_leaves_whole_evidence(self):
+        for number, limit, left in ((signal.SIGINT, 40, ["f.gcnf.evidence"]), (signal.SIGTERM, 20, [])):
+            self.write("told", f"hangs={limit}")
+            child = self.start("f.gcnf")
+            for _ in range(1000):
+                if not os.path.exists(self.at("begun")):
+                    time.sleep(0.02)
+            child.send_signal(number)
+            output, said = child.communicate(timeout=30)
+            self.assertEqual((child.returncode, said, self.files()), (128 + number, "", left), number)
+            self.assertTrue(output.endswith(f"To go on: {os.path.join(TOOLS, 'watch.py')} f.gcnf\n"), output)
+            for name in left + ["begun"]:
+                self.assertTrue(name == "begun" or self.read(name).endswith("\ne partial\n"))
+                os.remove(self.at(name))
+
+    def test_wrong_words_and_places(self):
+        os.mkdir(self.at("folder"))
+        file = self.at("f.gcnf")
+        for words, kind, wanted in (
+                ([], WrongWords, "a FILE has to be named"),
+                (["--html"], WrongWords, "--html has nothing behind it"),
+                (["a", "b"], WrongWords, "b can't stand here; words of gmus stand behind --"),
+                (["a", "--jobs", "2"], WrongWords, "--jobs can't stand here; words of gmus stand behind --"),
+                (["a", "--", "--resume", "e"], WrongWords, "--resume can't stand behind --: --jobs, --conflicts, --limit, --evidence may"),
+                (["a", "--", "--jobs"], WrongWords, "--jobs has nothing behind it"),
+                (["a", "--", "--limit", "0"], WrongWords, "--limit 0: a number from 1 to 1000000000 has to stand here"),
+                (["a", "--", "--limit", "1", "--limit=2"], WrongWords, "--limit stands twice"),
+                ([file, "--html", file], Refused, f"{file}, {file}.evidence, {file}: two of these are one file"),
+                ([file, "--html", self.at("no/page")], Refused, f"{self.at('no/page')}: its folder is not there"),
+                ([file, "--html", self.at("folder")], Refused, f"{self.at('folder')}: this is no plain file"),
+                ([file, "--", "--evidence", "/dev/null"], Refused, "/dev/null: this is no plain file"),
+        ):
+            with self.assertRaises(kind, msg=words) as refused:
+                watch.Words(words)
+            self.assertTrue(str(refused.exception).startswith(wanted), (words, str(refused.exception)))
+        status, output, said = self.watch()
+        self.assertEqual((status, output), (2, ""))
+        self.assertTrue(said.startswith("watch.py: a FILE has to be named\n    tools/watch.py FILE"), said)
+
+    def test_a_program_that_is_not_there(self):
+        status, output, said = self.watch("f.gcnf", program=self.at("no program"))
+        self.assertEqual((status, output), (1, ""))
+        self.assertTrue(said.startswith("watch.py: the program can't be started: "), said)
+
+
+@unittest.skipUnless(os.access(BUILT, os.X_OK), f"the program is not built: {BUILT}")
+class Built(Room):
+    def test_it_finds_all_sets_of_an_example(self):
+        shutil.copy(os.path.join(TOP, "examples", "adder.gcnf"), self.at("f.gcnf"))
+        self.assertEqual(self.watch("f.gcnf", "--", "--limit", "5", program=BUILT)[0], 4)
+        status, output, said = self.watch("f.gcnf", program=BUILT)
+        self.assertEqual((status, said), (0, ""))
+        with open(os.path.join(TOP, "examples", "adder.report")) as report:
+            wanted = report.read()
+        checked = subprocess.run([BUILT, "check", "f.gcnf", "f.gcnf.evidence"], cwd=self.room, stdout=subprocess.PIPE)
+        self.assertEqual((checked.returncode, checked.stdout.decode()), (0, wanted))
+
+    def test_what_it_refuses_is_told_by_its_own_line(self):
+        for held, status, wanted in (("p gcnf x", 5, "gmus: input refused: 2 BadHeader"), (None, 6, "gmus: read fault on input")):
+            os.remove(self.at("f.gcnf"))
+            if held is not None:
+                self.write("f.gcnf", held)
+            ended, output, said = self.watch("f.gcnf", program=BUILT)
+            self.assertEqual((ended, output), (status, ""), held)
+            self.assertTrue(said.startswith(wanted), said)
+            self.assertEqual(self.files(), [])
+
+
+if __name__ == "__main__":
+    unittest.main()

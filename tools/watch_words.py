@@ -1,0 +1,83 @@
+"""The words of watch.py's command line, and the command that goes on where a watch ended."""
+import os
+import shlex
+import sys
+
+from telling import Refused, WrongWords
+
+# The greatest limit that the program takes. If none is given, it is this one.
+MOST = 10 ** 9
+
+
+class Words:
+    """The words of the command line."""
+
+    MAY_STAND = ("--jobs", "--conflicts", "--limit", "--evidence")
+
+    def __init__(self, words):
+        at = words.index("--") if "--" in words else len(words)
+        self.file, self.page = None, None
+        before = list(words[:at])
+        while before:
+            word = before.pop(0)
+            if word.partition("=")[0] == "--html":
+                self.page = value_of(word, before)
+            elif word.startswith("-") or self.file is not None:
+                raise WrongWords(f"{word} can't stand here; words of gmus stand behind --")
+            else:
+                self.file = word
+        if self.file is None:
+            raise WrongWords("a FILE has to be named")
+        self.options = self.read_options(list(words[at + 1:]))
+        self.evidence = self.options.pop("--evidence", None) or self.file + ".evidence"
+        limit = self.options.pop("--limit", str(MOST))
+        if not (limit.isascii() and limit.isdecimal() and len(limit) <= 18 and 1 <= int(limit) <= MOST):
+            raise WrongWords(f"--limit {limit}: a number from 1 to {MOST} has to stand here")
+        self.last = int(limit)
+        self.refuse_places()
+
+    def refuse_places(self):
+        """Refuses names at which a file would be lost, or could not be written."""
+        places = [name for name in (self.file, self.evidence, self.page) if name is not None]
+        if len({os.path.realpath(name) for name in places}) < len(places):
+            raise Refused(f"{', '.join(places)}: two of these are one file")
+        for name in places[1:]:
+            if os.path.exists(name) and not os.path.isfile(name):
+                raise Refused(f"{name}: this is no plain file, and is left as it is")
+            if not os.path.isdir(os.path.dirname(os.path.realpath(name))):
+                raise Refused(f"{name}: its folder is not there")
+
+    def read_options(self, words):
+        found = {}
+        while words:
+            word = words.pop(0)
+            option = word.partition("=")[0]
+            if option not in self.MAY_STAND:
+                raise WrongWords(f"{word} can't stand behind --: {', '.join(self.MAY_STAND)} may")
+            if option in found:
+                raise WrongWords(f"{option} stands twice")
+            found[option] = value_of(word, words)
+        return found
+
+    def again(self, **changed):
+        """The command that goes on, with other values of some options."""
+        options = dict(self.options)
+        if self.evidence != self.file + ".evidence":
+            options["--evidence"] = self.evidence
+        if self.last != MOST:
+            options["--limit"] = str(self.last)
+        options.update({f"--{option}": str(value) for option, value in changed.items()})
+        words = [sys.argv[0], self.file] + (["--html", self.page] if self.page is not None else [])
+        for option, value in options.items():
+            words += ([] if "--" in words else ["--"]) + [option, value]
+        return shlex.join(words)
+
+
+def value_of(word, behind):
+    """The value of an option, which stands in its word or is the next one."""
+    option, has_value, value = word.partition("=")
+    if has_value:
+        return value
+    if not behind:
+        raise WrongWords(f"{option} has nothing behind it")
+    return behind.pop(0)
