@@ -1,0 +1,243 @@
+#!/usr/bin/env python3
+"""Tests of uvl.py: python3 -m unittest discover -s tools (nothing but Python 3.9 is needed)."""
+import itertools
+import os
+import subprocess
+import sys
+import unittest
+
+TOOLS = os.path.dirname(os.path.abspath(__file__))
+sys.path[:0] = [TOOLS, os.path.join(os.path.dirname(TOOLS), "bench")]
+
+import brute_force  # noqa: E402
+import rules        # noqa: E402
+import telling      # noqa: E402
+import uvl          # noqa: E402
+
+MODEL = """\
+namespace Sandwich  // a comment
+include
+    Boolean.group-cardinality
+    Arithmetic.*
+
+features
+    Sandwich {abstract, price 5.20, tags [1, 'a', -3], deep {x 1, y {z true}}}
+        mandatory
+            Bread                      /* over
+            two lines */
+                alternative
+                    "Full Grain" {Calories 203, constraint !Gouda}
+                    Flatbread
+
+                    Toast
+        optional
+            Sauce
+                or
+                    Ketchup
+                    Mustard
+            Boolean Cheese {
+                constraints [Gouda | Cheddar, Bread]
+            }
+                [1..2]
+                    Gouda
+                    Cheddar
+                    not
+constraints
+    Ketchup => Cheese
+    !(Mustard & Toast) | Cheese <=>   ("Full Grain")
+    Ketchup  /* and */ =>  Cheese // why
+    Toast <=> !Toast
+"""
+
+
+def lines_of(text):
+    """The lines of the rules, without comments and empty lines."""
+    made = uvl.rules_of("m", text)
+    rules.read(made, "made")
+    return [line for line in made.split("\n") if line and not line.startswith("#")]
+
+
+def refusal(text):
+    try:
+        uvl.rules_of("m", text)
+    except telling.Refused as why:
+        return str(why)
+    return None
+
+
+def below(*lines):
+    """A model with the root r, and these lines below it."""
+    return "features\n\tr\n" + "".join(f"\t\t{line}\n" for line in lines) + "constraints\n\tr\n"
+
+
+class Rules(unittest.TestCase):
+    def test_a_model_gives_its_tree_and_its_constraints(self):
+        self.assertEqual(lines_of(MODEL), [
+            "[always]", "Sandwich",
+            "Sandwich iff Bread", "Sauce implies Sandwich", "Cheese implies Sandwich",
+            '"Full Grain" implies Bread', "Flatbread implies Bread", "Toast implies Bread",
+            'Bread implies exactly one of ("Full Grain", Flatbread, Toast)',
+            "Sauce iff (Ketchup or Mustard)",
+            "Gouda implies Cheese", "Cheddar implies Cheese", '"not" implies Cheese',
+            'Cheese implies at least one of (Gouda, Cheddar, "not")', 'Cheese implies at most 2 of (Gouda, Cheddar, "not")',
+            "[!Gouda]", "not Gouda",
+            "[Gouda | Cheddar]", "Gouda or Cheddar",
+            "[Bread]", "Bread",
+            "[Ketchup => Cheese]", "Ketchup implies Cheese",
+            '[!(Mustard & Toast) | Cheese <=> ("Full Grain")]', '(not (Mustard and Toast) or Cheese) iff "Full Grain"',
+            "[Ketchup => Cheese (line 31)]", "Ketchup implies Cheese",
+            "[Toast <=> !Toast]", "Sandwich and not Sandwich",
+        ])
+
+    def test_the_page_tells_what_comes_of_a_model(self):
+        with open(os.path.join(os.path.dirname(TOOLS), "docs", "IMPORT.md"), encoding="utf-8") as page:
+            blocks = page.read().partition("tools/uvl.py\n\n")[2].split("```")
+        given, wanted = (block.partition("text\n")[2] for block in (blocks[1], blocks[3]))
+        self.assertEqual(uvl.rules_of("m", given), wanted)
+
+    def test_each_group_gives_its_lines(self):
+        children = ["\ta", "\tb", "\tc"]
+        implied = ["a implies r", "b implies r", "c implies r"]
+        for group, wanted in (
+                ("optional", implied),
+                ("mandatory", ["r iff a", "r iff b", "r iff c"]),
+                ("or", ["r iff (a or b or c)"]),
+                ("alternative", implied + ["r implies exactly one of (a, b, c)"]),
+                ("[1]", implied + ["r implies exactly one of (a, b, c)"]),
+                ("[2]", implied + ["r implies exactly 2 of (a, b, c)"]),
+                ("[0]", implied + ["r implies exactly 0 of (a, b, c)"]),
+                ("[0..*]", implied),
+                ("[0..3]", implied),
+                ("[0..1]", implied + ["r implies at most one of (a, b, c)"]),
+                ("[2..*]", implied + ["r implies at least 2 of (a, b, c)"]),
+                ("[1..2]", implied + ["r implies at least one of (a, b, c)", "r implies at most 2 of (a, b, c)"]),
+                ("[4..9]", implied + ["not r"]),
+        ):
+            self.assertEqual(lines_of(below(group, *children))[2:-2], wanted, group)
+
+    def test_each_constraint_gives_its_line(self):
+        for constraint, wanted in (
+                ("a", ["a"]), ("!a", ["not a"]), ("!!a", ["a"]), ("((a))", ["a"]), ("a & b & c", ["a", "b", "c"]),
+                ("a | b & c", ["a or (b and c)"]), ("a & b | c", ["(a and b) or c"]), ("!a | b", ["not a or b"]),
+                ("!(a | b)", ["not a", "not b"]), ("a => b | c", ["a implies b or c"]), ("a & b => c", ["a and b implies c"]),
+                ("a => b <=> c", ["(a implies b) iff c"]), ("a <=> b => c", ["a iff (b implies c)"]),
+                ("(a => b) => c", ["(a implies b) implies c"]), ("a => (b => c)", ["a and b implies c"]),
+                ("a <=> b <=> c", ["(a iff b) iff c"]), ("(a\n&\n  b)", ["a", "b"]),
+                ("a => a", ["a implies a"]), ("a <=> a", ["r or not r"]),
+        ):
+            text = "features\n  r\n    optional\n      a\n      b\n      c\nconstraints\n  " + constraint + "\n"
+            self.assertEqual(lines_of(text)[6:], wanted, constraint)
+
+    def test_the_tree_has_the_configurations_that_can_be_counted_by_hand(self):
+        # Of the or group 3, of the optional feature with an alternative below 1 + 2, of the numbered group 3 + 3.
+        text = """features
+            r
+              mandatory
+                a
+                  or
+                    x
+                    y
+              optional
+                b
+                  alternative
+                    p
+                    q
+              [1..2]
+                c
+                d
+                e
+constraints
+  r"""
+        variables, _, clauses = brute_force.problem_of(rules.read(uvl.rules_of("m", text), "m").gcnf().split("\n"))
+        count = sum(all(any(values[abs(lit) - 1] == (lit > 0) for lit in clause) for _, clause in clauses)
+                    for values in itertools.product((False, True), repeat=variables))
+        self.assertEqual(count, 3 * 3 * 6)
+
+    def test_deep_brackets_and_trees_are_read(self):
+        deep = 3_000
+        brackets = below("optional", "\ta") + "\t" + "(" * deep + "!(" * deep + "a" + ")" * 2 * deep
+        self.assertEqual(lines_of(brackets)[-1], "a")
+        tree = "features\n f0\n" + "".join(" " * (2 * at + 2) + "optional\n" + " " * (2 * at + 3) + f"f{at + 1}\n"
+                                           for at in range(300))
+        self.assertEqual(len(lines_of(tree + "constraints\n f0")), 1 + 1 + 300 + 2)
+
+
+OPENING = "features\n\tr\n\t\toptional\n\t\t\ta\n\t\t\tb\nconstraints\n\t"
+REFUSED = (
+    ("", "line 1, column 1: there is no feature: a section 'features' has them"),
+    ("features\n", "line 1, column 1: there is no feature below this line"),
+    ("feature\n\tr\n", "line 1, column 1: 'feature' begins no section; one of namespace, include, imports, features, "
+                       "constraints does"),
+    ("constraints\n\ta\nfeatures\n\ta\n", "line 3, column 1: 'features' stands too late: the sections are namespace, include, "
+                                          "imports, features, constraints, each once"),
+    ("imports\n\tother\nfeatures\n\tr\n",
+     "line 1, column 1: imports are not read: put the features of all models into one file"),
+    ("include\n\tBoolean..x\nfeatures\n\tr\n", "line 2, column 2: 'Boolean..x' is no level of the language"),
+    ("features\n\tr\n\ts\n", "line 3, column 2: a model has one root, and this is a second"),
+    ("features\n\tr\n\t\ta\n", "line 3, column 3: a group begins here, one of mandatory, optional, or, alternative or [1..2], "
+                               "and not 'a'"),
+    ("features\n\tr\n\t\tor\n", "line 3, column 3: there is no feature below this group"),
+    ("features\n\tr\n\t\tor\n\t\t\ta\n\t\t\tr\n", "line 5, column 4: the feature 'r' stands in line 2 already"),
+    ("features\n\tr\n\t\tor\n\t\t\ta\n  b\n", "line 5, column 3: this line is set in as no line above"),
+    ("features\n\tr\n\t\t[3..2]\n\t\t\ta\n", "line 3, column 3: the least, 3, is above the greatest, 2"),
+    ("features\n\tr\n\t\t[1.5]\n\t\t\ta\n", "line 3, column 4: '1.5' is no number of features"),
+    ("features\n\tr\n\t\t[*]\n\t\t\ta\n", "line 3, column 4: a number is due here, and not '*'"),
+    ("features\n\tInteger r\n", "line 2, column 2: features of the type Integer are not read; only Boolean ones are"),
+    ("features\n\tString r\n", "line 2, column 2: features of the type String are not read; only Boolean ones are"),
+    ("features\n\tr cardinality [1..3]\n", "line 2, column 4: a feature that comes several times is not read"),
+    ("features\n\tr.s\n", "line 2, column 2: features of other models are not read"),
+    ("features\n\tr {a 1\n", "line 2, column 4: this bracket is never closed"),
+    ("features\n\tr {a 1 2}\n", "line 2, column 9: ',' is due here, and not '2'"),
+    ("features\n\tr {a 1]\n", "line 2, column 8: no bracket is open that ']' closes"),
+    ("features\n\tr-s\n", "line 2, column 3: the line's end is due here, and not '-'"),
+    ("features\n\tr $\n", "line 2, column 4: '$' may not stand here; a name with such a character stands in quotes"),
+    ("features\n\t\"r\n", "line 2, column 2: a text in \" \" begins here and doesn't end on its line"),
+    ("features\n\tr /* x\n", "line 2, column 4: a comment begins here and doesn't end"),
+    ("features\n\tr\n", "there is no constraint in it, so nothing can be given up"),
+    (OPENING + "c", "line 7, column 2: 'c' is no feature of this model"),
+    (OPENING + "a &", "line 7, column 5: a feature, '!' or '(' is due here, and not the line's end"),
+    (OPENING + "a b", "line 7, column 4: '&', '|', '=>', '<=>' or the end of the constraint is due here, and not 'b'"),
+    (OPENING + "a => b => a", "line 7, column 9: '=>' stands twice: brackets say which comes first"),
+    (OPENING + "(a", "line 7, column 2: this bracket is never closed"),
+    (OPENING + "a)", "line 7, column 3: no bracket is open that ')' closes"),
+    (OPENING + "a.price > 3",
+     "line 7, column 2: 'a.price' is no feature of this model: attributes and other models are not read"),
+    (OPENING + "a > b", "line 7, column 4: '>' is not read: arithmetic is not Boolean"),
+    (OPENING + "a == 'x'", "line 7, column 4: '==' is not read: arithmetic is not Boolean"),
+    (OPENING + "3 < 4", "line 7, column 2: numbers and texts in constraints are not read; features are"),
+    (OPENING + "sum(price) < 4", "line 7, column 2: 'sum(..)' is not read; features are"),
+    (OPENING + "a <= b", "line 7, column 4: '<=' is not read: arithmetic is not Boolean"),
+    ("features\n\tr {constraint a}\nconstraints\n\tr\n", "line 2, column 16: 'a' is no feature of this model"),
+)
+
+
+class Refusals(unittest.TestCase):
+    def test_what_is_not_read_is_told_with_its_place(self):
+        for text, wanted in REFUSED:
+            self.assertEqual(refusal(text), "m: " + wanted, text)
+
+    def test_program_ends_as_all_tools_do(self):
+        def run(*words, given=b""):
+            return subprocess.run([sys.executable, os.path.join(TOOLS, "uvl.py"), *words], input=given, stdout=subprocess.PIPE,
+                                  stderr=subprocess.PIPE)
+
+        usage = b"\n    tools/uvl.py MODEL.uvl > RULES\n"
+        missing = os.path.join(TOOLS, "no such file")
+        for words, given, status, wanted in (
+                ([], b"", 2, b"uvl.py: one file is wanted" + usage),
+                (["--x"], b"", 2, b"uvl.py: '--x' is no option" + usage),
+                ([missing], b"", 1, b"uvl.py: " + os.fsencode(missing) + b": No such file or directory\n"),
+                (["-"], b"\xff", 1, b"uvl.py: -: line 1: the bytes are no UTF-8\n"),
+                (["-"], b"p gcnf 1 1 1\n", 1, b"uvl.py: -: line 1, column 1: 'p' begins no section; one of namespace, "
+                                             b"include, imports, features, constraints does\n"),
+        ):
+            ended = run(*words, given=given)
+            self.assertEqual((ended.returncode, ended.stdout, ended.stderr), (status, b"", wanted), words)
+        self.assertEqual(run("--help").returncode, 0)
+        ended = run("-", given=b"features\r\n\tr\r\nconstraints\r\n\t!r\r\n")
+        self.assertEqual((ended.returncode, ended.stdout, ended.stderr),
+                         (0, b"[always]\n# line 2\nr\n\n[!r]\n# line 4\nnot r\n", b""))
+
+
+if __name__ == "__main__":
+    unittest.main()
