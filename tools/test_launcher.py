@@ -1,10 +1,16 @@
 #!/usr/bin/env python3
-"""Tests of ./gmus over a made-up repository and a made-up rt: when it builds, what it says, and what it passes on."""
+"""Tests of ./gmus over a made-up repository and a made-up rt: when it builds, what it says, and what it passes on, to a
+file and to a terminal."""
+import fcntl
 import os
+import pty
 import shutil
+import signal
 import stat
 import subprocess
 import tempfile
+import termios
+import threading
 import unittest
 
 TOP = os.path.dirname(os.path.dirname(os.path.abspath(__file__)))
@@ -32,7 +38,15 @@ fi
 mkdir -p out && cp "$ROOM/program" out/gmus && shift 2 && out/gmus "$@"
 """
 
+# What the program is asked for in these tests; any other words end as a refused file does.
 PROGRAM = """#!/bin/sh
+case $1 in
+    ends) exit "$2" ;;
+    tells) echo "$$ $(sed -n 's/^SigIgn:.*\\(.\\)$/\\1/p' /proc/$$/status) $([ -e /dev/fd/0 ] && cat)" && exit 0 ;;
+    dies) kill -s "$2" $$ ;;
+    waits) echo $$ && exec sleep 9 ;;
+    lingers) trap 'sleep 0.2; echo " done"; exit 7' INT TERM HUP && echo $$ && while :; do sleep 0.05; done ;;
+esac
 [ "$*" != "list data/first.gcnf" ] || exit 0
 printf 'to output: %s' "$*"
 echo 'to errors' >&2
@@ -42,6 +56,13 @@ exit 5
 SAID = ("gmus: building, which proves each crate first; what is said of it goes to build.log\n"
         "gmus: low is done, 1 of 2\ngmus: gmus is done, 2 of 2\n")
 BUILT = ["all gmus", "run gmus"]
+BAD = "gmus: bad command line\n"
+
+
+def usage():
+    """What the launcher says behind a 2, as it stands in it."""
+    with open(os.path.join(TOP, "gmus"), encoding="utf-8") as launcher:
+        return launcher.read().partition("<<'END'\n")[2].partition("END\n")[0]
 
 
 class Launcher(unittest.TestCase):
@@ -66,11 +87,47 @@ class Launcher(unittest.TestCase):
         if executable:
             os.chmod(path, stat.S_IRWXU)
 
-    def run_it(self, *words, path=None):
-        environment = {"PATH": path or self.room + "/bin:" + os.environ["PATH"], "ROOM": self.room}
-        ended = subprocess.run([self.room + "/gmus", *words], env=environment, cwd="/", universal_newlines=True,
-                               stdout=subprocess.PIPE, stderr=subprocess.PIPE)
+    def environment(self, path=None):
+        return {"PATH": path or self.room + "/bin:" + os.environ["PATH"], "ROOM": self.room}
+
+    def run_it(self, *words, path=None, launcher="/gmus"):
+        ended = subprocess.run([self.room + launcher, *words], env=self.environment(path), cwd="/", universal_newlines=True,
+                               stdout=subprocess.PIPE, stderr=subprocess.PIPE, check=False)
         return ended.returncode, ended.stdout, ended.stderr
+
+    def begun(self, words, errors, before=lambda: None, stdin=subprocess.DEVNULL):
+        """The launcher, begun with standard error at `errors`, or else at a terminal, which is the controlling one."""
+        self.terminal, device = (None, None) if errors else pty.openpty()
+
+        def prepare():
+            if device:
+                fcntl.ioctl(device, termios.TIOCSCTTY, 0)
+            before()
+
+        going = subprocess.Popen([self.room + "/gmus", *words], env=self.environment(), stdin=stdin, stdout=subprocess.PIPE,
+                                 stderr=errors or device, start_new_session=True, preexec_fn=prepare)
+        if device:
+            os.close(device)
+            self.addCleanup(os.close, self.terminal)
+        return going
+
+    def at_terminal(self, *words):
+        """As `run_it`, with standard error at a terminal."""
+        with self.begun(words, None) as going:
+            said = []
+            reader = threading.Thread(target=lambda: said.extend(iter(self.next_told, b"")))
+            reader.start()
+            output = going.stdout.read().decode()
+            going.wait()
+            reader.join()
+        return going.returncode, output, b"".join(said).decode().replace("\r\n", "\n")
+
+    def next_told(self):
+        """What the terminal is told next, or nothing where nobody has it open any more."""
+        try:
+            return os.read(self.terminal, 4096)
+        except OSError:
+            return b""
 
     def builds(self):
         try:
@@ -125,6 +182,64 @@ class Launcher(unittest.TestCase):
         self.run_it("x")
         os.chmod(self.room + "/crates/gmus/out/gmus", 0o644)
         self.assertEqual(self.run_it("x"), (5, "to output: x", "to errors\n"))
+
+    def test_help_builds_nothing_and_ends_as_a_bad_command_line(self):
+        for words in ([], ["help"], ["-h"], ["--help", "x"], ["help", "list"]):
+            self.assertEqual(self.run_it(*words), (2, "", BAD), words)
+            self.assertEqual(self.at_terminal(*words), (2, "", BAD + usage()), words)
+        self.assertEqual(self.builds(), [])
+
+    def test_only_a_terminal_is_told_the_usage_and_only_behind_a_2(self):
+        self.run_it("x")
+        for words, status, output, said in (
+                (["ends", "2"], 2, "", usage()),
+                (["ends", "0"], 0, "", ""),
+                (["ends", "9"], 9, "", ""),
+                (["", "a  b"], 5, "to output:  a  b", "to errors\n"),
+        ):
+            self.assertEqual(self.at_terminal(*words), (status, output, said), words)
+            self.assertEqual(self.run_it(*words), (status, output, said.replace(usage(), "")), words)
+
+    def test_the_program_has_the_callers_input_signals_and_place(self):
+        self.write("bin/gmus", PROGRAM, executable=True)
+        plain = {"stdin": subprocess.PIPE}
+        ignores = {"before": lambda: signal.signal(signal.SIGINT, signal.SIG_IGN), **plain}
+        closed = {"before": lambda: os.close(0)}
+        for how, errors, ignored, given, is_beside in (
+                (plain, subprocess.PIPE, "0", "in put", False), (plain, None, "0", "in put", True),
+                (ignores, subprocess.PIPE, "2", "in put", False), (ignores, None, "2", "in put", False),
+                (closed, None, "0", "", False)):
+            with self.begun(["tells"], errors, **how) as going:
+                told = going.communicate(b"in put" if how is not closed else None)[0].decode().rstrip("\n").split(" ", 2)
+            self.assertEqual((told[0] != str(going.pid), told[1], told[2]), (is_beside, ignored, given), (how, errors))
+
+    def test_the_program_ends_as_a_signal_ends_it(self):
+        self.write("bin/gmus", PROGRAM, executable=True)
+        for name in ("INT", "TERM", "HUP", "KILL", "SEGV", "PIPE"):
+            for run in (self.run_it, self.at_terminal):
+                self.assertEqual(run("dies", name)[0], -getattr(signal, "SIG" + name), (name, run))
+
+    def test_signals_reach_the_program_and_its_end_is_waited_for(self):
+        self.write("bin/gmus", PROGRAM, executable=True)
+        for word, status, output in (("waits", None, b""), ("lingers", 7, b" done\n")):
+            for name, keys in (("INT", None), ("INT", b"\x03"), ("TERM", None), ("HUP", None)):
+                row = word, name, keys
+                with self.begun([word], None) as going:
+                    program = int(going.stdout.readline())
+                    if keys:
+                        os.write(self.terminal, keys)
+                    else:
+                        going.send_signal(getattr(signal, "SIG" + name))
+                    self.assertEqual(going.stdout.read(), output, row)
+                self.assertEqual(going.returncode, status or -getattr(signal, "SIG" + name), row)
+                self.assertFalse(os.path.exists(f"/proc/{program}"), row)
+
+    def test_a_release_builds_nothing(self):
+        self.write("bin/gmus", PROGRAM, executable=True)
+        os.symlink(self.room + "/gmus", self.room + "/bin/linked")
+        self.assertEqual(self.run_it("x"), (5, "to output: x", "to errors\n"))
+        self.assertEqual(self.run_it("x", launcher="/bin/linked"), (5, "to output: x", "to errors\n"))
+        self.assertEqual(self.builds(), [])
 
 
 if __name__ == "__main__":
