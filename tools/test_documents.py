@@ -1,9 +1,13 @@
 #!/usr/bin/env python3
-"""Tests of the documents: what they link to is there, the first example is the stored one, and no crate is left out."""
+"""Tests of the documents: what they link to is there, the first page is short and has what the program, the launcher and the
+man page have, and no crate is left out."""
 import os
 import re
+import shutil
+import subprocess
 import unittest
 
+import man
 from crates import TOP, areas_in, below_in, text_of
 
 DOCUMENTS = ["README.md", "CONTRIBUTING.md", "CHANGELOG.md", "bench/README.md", "bench/RESULTS.md", "examples/README.md"] + [
@@ -63,6 +67,21 @@ def read_in(cell):
     return found
 
 
+def prose_in(text):
+    """The paragraphs and items of a document, without headings, blocks of code and tables; code in a line is one word."""
+    text = re.sub(r"(?ms)^```.*?^```$", "", text)
+    lines = [line for line in text.split("\n") if not re.match(r"#|\|", line)]
+    for paragraph in re.split(r"\n\s*\n|\n(?=- |\d+\. )", "\n".join(lines)):
+        yield re.sub(r"\]\([^)]*\)", "]", re.sub(r"`[^`]*`", "CODE", " ".join(paragraph.split())))
+
+
+def sentences_in(text):
+    """The sentences of a document's prose, each as its words."""
+    for paragraph in prose_in(text):
+        for sentence in re.split(r"(?<=[.!?])[)*\]]* +(?=[A-Z*\[(])", paragraph):
+            yield [word for word in sentence.split() if re.search(r"\w", word)]
+
+
 class Documents(unittest.TestCase):
     def test_the_reading_list_counts_its_lines(self):
         proved = text_of("docs/PROVED.md").partition("## How to believe")[2].partition("\n## ")[0]
@@ -85,8 +104,69 @@ class Documents(unittest.TestCase):
                     path = os.path.join(TOP, os.path.dirname(name), link)
                     self.assertTrue(os.path.exists(path), f"{name}: {link}")
 
-    def test_the_first_example_has_the_stored_report(self):
-        self.assertIn("$ ./gmus list examples/laptop.gcnf\n" + text_of("examples/laptop.report") + "```", text_of("README.md"))
+    def test_the_first_page_is_short(self):
+        readme = text_of("README.md")
+        self.assertLessEqual(len([word for word in readme.split() if re.search(r"\w", word)]), 1700)
+        for document in ("README.md", "docs/TUTORIAL.md", "docs/REPORTING.md"):
+            for words in sentences_in(text_of(document)):
+                self.assertLessEqual(len(words), 40, " ".join(words))
+                self.assertLess([word.lower() for word in words].count("where"), 2, " ".join(words))
+
+    def test_sentences_are_told_apart(self):
+        for text, wanted in (
+                ("One two. Three `four five`!\n\n- Six\n  seven: *eight*.\n- (Nine.) Ten", [2, 2, 3, 1, 1]),
+                ("# No\n\n| no | no |\n|---|---|\n\n```text\nno. No\n```\nYes, e.g. 0.5 of [a b](c d.md). *So* it is", [6, 3]),
+        ):
+            self.assertEqual([len(words) for words in sentences_in(text) if words], wanted, text)
+
+    def test_the_first_example_has_the_stored_rules(self):
+        shown = text_of("README.md").partition("```text\n")[2].partition("```")[0].splitlines()
+        stored = [line.partition("#")[0].rstrip() for line in text_of("examples/laptop.rules").splitlines()]
+        self.assertEqual(shown, [line for line in stored if line])
+
+    def test_the_first_page_has_figures_that_were_measured(self):
+        measured = {}
+        for row in man.table(man.chapter(text_of("bench/RESULTS.md"), "The table"), ""):
+            _, family, size, seed, groups, _, _, sets, seconds, memory, status, _, baseline, *_ = row
+            if status == "complete":
+                measured[f"{family} {size} {seed}"] = [groups, str(sum(map(int, sets.split("+")))), seconds, memory, baseline]
+        rows = man.table(text_of("README.md"), "Problem")
+        self.assertEqual(len(rows), 6)
+        for name, *figures in rows:
+            self.assertEqual(figures, measured[name], name)
+
+    def test_the_launcher_and_the_formats_have_the_words_of_the_first_page(self):
+        readme = text_of("README.md")
+        usage = text_of("gmus").partition("<<'END'\n")[2].partition("END\n")[0].split("\n")[:-1]
+        self.assertLessEqual(len(usage), 10)
+        commands = man.synopsis(readme)
+        self.assertEqual(usage[:len(commands)], [("usage: " if not at else "       ") + it for at, it in enumerate(commands)])
+        wanted = [f"  {option.strip('`'):16} {says}" for option, says, _ in man.table(readme, "Option")]
+        self.assertEqual(usage[len(commands):len(commands) + len(wanted)], wanted)
+        self.assertIn(usage[-2].rstrip("."), readme)
+        self.assertIn("```text\n" + "\n".join(commands) + "\n```", text_of("docs/FORMATS.md"))
+
+    def test_the_man_page_is_the_one_that_is_made(self):
+        self.assertEqual(man.page(), text_of("docs/gmus.1"), "tools/man.py > docs/gmus.1 makes it anew")
+
+    @unittest.skipUnless(shutil.which("groff"), "no groff: how the man page looks is not tried")
+    def test_the_man_page_is_set_without_a_warning(self):
+        ended = subprocess.run(["groff", "-man", "-ww", "-Tutf8", os.path.join(TOP, "docs", "gmus.1")], check=False,
+                               stdout=subprocess.PIPE, stderr=subprocess.PIPE, universal_newlines=True)
+        self.assertEqual((ended.returncode, ended.stderr), (0, ""))
+        page = re.sub(".\b", "", ended.stdout)
+        for words in ("SYNOPSIS", "gmus check FILE EVIDENCE", "--evidence FILE", "gmus: out of memory"):
+            self.assertIn(words, page)
+
+    def test_texts_of_markdown_become_those_of_man_pages(self):
+        for text, wanted in (
+                ("a `b-c` d", r"a \fBb\-c\fR d"),
+                ("see [the `x` page](docs/x.md), **now**", r"see the \fBx\fR page, now"),
+                (".so", r"\&.so"),
+                ("'it", r"\&'it"),
+                ("a\\b", r"a\eb"),
+        ):
+            self.assertEqual(man.roff(text), wanted, text)
 
     def test_the_documents_have_the_areas_of_the_crates(self):
         areas = areas_in(text_of("crates.txt"))
