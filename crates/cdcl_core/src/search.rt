@@ -27,8 +27,10 @@
 //! It begins with the trail as the last search or clause left it (`resuming.rt`).
 ghost use Rattle.std.specs.Prelude.{◌≡◌, ℕ, ◌≤◌, [], length, true, IfOk, OnOk};
 ghost use Rattle.sat_base.specs.Literals.{AreLiterals};
-ghost use Rattle.trail_book.specs.Trail.{trues};
+ghost use Rattle.trail_book.specs.Trail.{trues, IsTrail};
 ghost use Rattle.propagate.specs.Propagation as propagation;
+ghost use Rattle.propagate.specs.Propagation.{Grows, IsDone};
+ghost use Rattle.propagate.specs.Watches.{IsKept, KeepsClauses};
 ghost use Rattle.cdcl_core.specs.Answers.{IsConsistent, IsHonestlyPaid, Tells, IsGreatest};
 ghost use Rattle.cdcl_core.specs.Search.{IsSearch, IsReady, IsRound, Ends};
 
@@ -36,7 +38,7 @@ use crate::plan::Plan;
 use crate::solved::Solved;
 use clause_store::Store;
 use lrat_steps::Log;
-use propagate::{Propagated, propagate};
+use propagate::{Propagated, propagate, propagate_parking};
 use sat_base::{Lit, Purse};
 use std::alloc::{AllocError, Global};
 use trail_book::Trail;
@@ -136,18 +138,35 @@ impl Search {
     fn spread(&mut self, alloc: Global, assumed: &[Lit]) -> Result<Propagated, AllocError>
         requires { IsSearch self.old assumed.now }
         ensures tells { IfOk result (λ told. propagation.Tells self.new.store.clauses (trues self.new.trail.entries) told) }
-        ensures all_done { IfOk result (λ told. propagation.IsDone self.new.store self.new.trail told) }
+        ensures all_done { IfOk result (λ told. IsDone self.new.store self.new.trail told) }
         ensures search { OnOk result (IsSearch self.new assumed.now) }
         ensures grows { OnOk result (length self.old.trail.entries ≤ length self.new.trail.entries) }
         ensures paid { (left : ℕ) → IsHonestlyPaid self.old.log self.new.log left left }
         ensures vars { self.new.trail.vars ≡ self.old.trail.vars }
         ensures true_first { self.new.true_first ≡ self.old.true_first }
     {
-        // Choices that are positive only satisfy the map's clauses for long, so watches are parked then.
-        let told = propagate(&mut self.store, &mut self.trail, self.true_first);
+        let told = propagate_by(&mut self.store, &mut self.trail, self.true_first);
         if self.trail.top() == 0 {
             self.log_units(alloc)?;
         }
         Ok(told)
+    }
+}
+
+// Propagates. Choices that are positive only satisfy the map's clauses for long, so watches are parked then.
+fn propagate_by(store: &mut Store, trail: &mut Trail, true_first: bool) -> Propagated
+    requires { IsKept store.old trail.old }
+    ensures kept { IsKept store.new trail.new }
+    ensures grows { Grows store.old.clauses trail.old.entries trail.new.entries }
+    ensures tells { propagation.Tells store.old.clauses (trues trail.new.entries) result }
+    ensures all_done { IsDone store.new trail.new result }
+    ensures clauses { KeepsClauses store.old store.new }
+    ensures vars { trail.new.vars ≡ trail.old.vars }
+    ensures trail { IsTrail trail.new.vars trail.new.entries }
+{
+    if true_first {
+        propagate_parking(store, trail)
+    } else {
+        propagate(store, trail)
     }
 }

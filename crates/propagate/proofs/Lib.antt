@@ -15,3 +15,4 @@ pub mod OpenLemmas
 pub mod EnterLemmas
 pub mod NewLemmas
 pub mod RebuildLemmas
+pub mod UnparkedLemmas

@@ -4,3 +4,4 @@ pub mod Walk
 pub mod Propagation
 pub mod Entrance
 pub mod Rebuild
+pub mod Laws

@@ -18,13 +18,14 @@ pub record CanWatch (vars : ℕ) (trues clause : List ℤ) (other to : ℤ) : Ty
   pub not_false : ¬ In (neg_ℤ to) trues
   pub literal : IsLiteral vars to
 
--- what a look at a clause tells, of which one watched literal is false and the other is this one
-abbrev pub Visits : ℕ → List ℤ → List ℤ → ℤ → Finding → Type 0
-Visits vars trues clause other finding.Satisfied = In other trues
-Visits vars trues clause other finding.Settled = In other trues
-Visits vars trues clause other (finding.Moved to position) = CanWatch vars trues clause other to
-Visits vars trues clause other finding.Forcing = IsUnset trues other × AllFalseBut trues clause other
-Visits vars trues clause other finding.Falsified = AllFalse trues clause
+-- what a look at a clause tells, of which one watched literal is false and the other is this one; a watch is parked only
+-- where that is asked for
+abbrev pub Visits : ℕ → List ℤ → List ℤ → ℤ → Bool → Finding → Type 0
+Visits vars trues clause other parks finding.Satisfied = In other trues
+Visits vars trues clause other parks finding.Settled = In other trues × (parks ≡ true)
+Visits vars trues clause other parks (finding.Moved to position) = CanWatch vars trues clause other to
+Visits vars trues clause other parks finding.Forcing = IsUnset trues other × AllFalseBut trues clause other
+Visits vars trues clause other parks finding.Falsified = AllFalse trues clause
 
 -- two different literals of the clause, of which the first is false
 pub record IsFalseWatch (trues clause : List ℤ) (lit other : ℤ) : Type 0 where

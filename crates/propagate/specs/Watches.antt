@@ -69,6 +69,10 @@ pub record AreHung (store : Clauses) (trail : Trail) : Type 0 where
   pub parked_watch : (n : ℕ) → parked n ≡ true → IsWatch store n
   pub watches : AreWatches store trail.entries trail.done
 
+-- nothing is parked
+pub record IsUnparked (store : Clauses) : Type 0 where
+  pub empty : (lit : ℤ) → IsLiteral store.vars lit → park_of store lit ≡ 0
+
 -- some literal of the clause is true at level 0
 abbrev pub IsSettled : List StoredClause → List Entry → ℕ → Type 0
 IsSettled db es id = (lit : ℤ) × In lit (clause_at db id).lits × In lit (trues (keep 0 es))

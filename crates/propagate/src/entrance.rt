@@ -16,7 +16,7 @@ ghost use Rattle.clause_store.specs.Clauses.{clause_at, IsId};
 ghost use Rattle.clause_store.specs.Links.{watched_at};
 ghost use Rattle.trail_book.specs.Trail.{trues, top, keep, IsTrail};
 ghost use Rattle.propagate.specs.Propagation.{Grows};
-ghost use Rattle.propagate.specs.Watches.{AreHung, IsGuarded, IsKeptBut, IsKept, KeepsClauses};
+ghost use Rattle.propagate.specs.Watches.{AreHung, IsUnparked, IsGuarded, IsKeptBut, IsKept, KeepsClauses};
 ghost use Rattle.propagate.specs.Entrance.{IsUnwatched, IsLooseBelow, StaysWhereOpen, IsLast, IsForcedAt};
 
 use crate::lists::append;
@@ -39,6 +39,7 @@ pub fn watch(store: &mut Store, trail: &Trail, id: u64, first: Lit, second: Lit)
     requires second_guard { IsGuarded trail.now.entries trail.now.done second first }
     ensures kept { IsKept store.new trail.now }
     ensures clauses { KeepsClauses store.old store.new }
+    ensures unparked { IsUnparked store.old → IsUnparked store.new }
 {
     let _vars = store.vars(); // The literals of its clauses are over the variables.
     append(store, id, 0, first);
@@ -56,6 +57,7 @@ pub fn enter(store: &mut Store, trail: &mut Trail, id: u64, lits: &[Lit])
     ensures kept { IsKept store.new trail.new }
     ensures clauses { store.new.clauses ≡ store.old.clauses }
     ensures store_vars { store.new.vars ≡ store.old.vars }
+    ensures unparked { IsUnparked store.old → IsUnparked store.new }
     ensures grows { Grows store.old.clauses (keep (top trail.new.entries) trail.old.entries) trail.new.entries }
     ensures loose { IsLooseBelow trail.old.entries (top trail.new.entries) lits.now }
     ensures stays { StaysWhereOpen trail.old.entries trail.new.entries lits.now }
@@ -79,6 +81,7 @@ fn reopen(store: &mut Store, trail: &mut Trail, lits: &[Lit]) -> Option<Lit>
     ensures kept { (but : ℕ) → IsKeptBut store.old trail.old but → IsKeptBut store.new trail.new but }
     ensures clauses { KeepsClauses store.old store.new }
     ensures watched { store.new.watched ≡ store.old.watched }
+    ensures unparked { IsUnparked store.old → IsUnparked store.new }
     ensures stays { StaysWhereOpen trail.old.entries trail.new.entries lits.now }
     ensures vars { trail.new.vars ≡ trail.old.vars }
     ensures trail { IsTrail trail.new.vars trail.new.entries }
@@ -107,6 +110,7 @@ fn below(store: &mut Store, trail: &mut Trail, lits: &[Lit], last: Lit) -> Optio
     ensures kept { (but : ℕ) → IsKeptBut store.old trail.old but → IsKeptBut store.new trail.new but }
     ensures clauses { KeepsClauses store.old store.new }
     ensures watched { store.new.watched ≡ store.old.watched }
+    ensures unparked { IsUnparked store.old → IsUnparked store.new }
     ensures stays { StaysWhereOpen trail.old.entries trail.new.entries lits.now }
     ensures vars { trail.new.vars ≡ trail.old.vars }
     ensures trail { IsTrail trail.new.vars trail.new.entries }
@@ -130,6 +134,7 @@ fn enter_open(store: &mut Store, trail: &mut Trail, id: u64, lits: &[Lit], first
     ensures kept { IsKept store.new trail.new }
     ensures clauses { store.new.clauses ≡ store.old.clauses }
     ensures store_vars { store.new.vars ≡ store.old.vars }
+    ensures unparked { IsUnparked store.old → IsUnparked store.new }
     ensures grows { Grows store.old.clauses (keep (top trail.new.entries) trail.old.entries) trail.new.entries }
     ensures loose { IsLooseBelow trail.old.entries (top trail.new.entries) lits.now }
     ensures stays { StaysWhereOpen trail.old.entries trail.new.entries lits.now }
@@ -154,6 +159,7 @@ fn enter_forcing(store: &mut Store, trail: &mut Trail, id: u64, lits: &[Lit], fi
     ensures kept { IsKept store.new trail.new }
     ensures clauses { store.new.clauses ≡ store.old.clauses }
     ensures store_vars { store.new.vars ≡ store.old.vars }
+    ensures unparked { IsUnparked store.old → IsUnparked store.new }
     ensures grows { Grows store.old.clauses (keep (top trail.new.entries) trail.old.entries) trail.new.entries }
     ensures loose { IsLooseBelow trail.old.entries (top trail.new.entries) lits.now }
     ensures stays { StaysWhereOpen trail.old.entries trail.new.entries lits.now }
@@ -181,6 +187,7 @@ fn force(store: &mut Store, trail: &mut Trail, lit: Lit, level: u32, id: u64)
     ensures kept { (but : ℕ) → IsKeptBut store.old trail.old but → IsKeptBut store.new trail.new but }
     ensures clauses { KeepsClauses store.old store.new }
     ensures watched { store.new.watched ≡ store.old.watched }
+    ensures unparked { IsUnparked store.old → IsUnparked store.new }
     ensures vars { trail.new.vars ≡ trail.old.vars }
     ensures trail { IsTrail trail.new.vars trail.new.entries }
 {

@@ -10,7 +10,7 @@ ghost use Rattle.sat_base.specs.Literals.{IsLiteral};
 ghost use Rattle.sat_base.specs.Members.{In};
 ghost use Rattle.clause_store.specs.Links.{link_of, park_of};
 ghost use Rattle.trail_book.specs.Trail.{trues, keep, IsTrail};
-ghost use Rattle.propagate.specs.Watches.{AreHung, IsKeptBut, KeepsClauses};
+ghost use Rattle.propagate.specs.Watches.{AreHung, IsUnparked, IsKeptBut, KeepsClauses};
 ghost use Rattle.propagate.specs.Walk.{IsReturning};
 
 use crate::lists::append;
@@ -25,6 +25,7 @@ pub fn back_to(store: &mut Store, trail: &mut Trail, level: u32)
     ensures kept { (but : ℕ) → IsKeptBut store.old trail.old but → IsKeptBut store.new trail.new but }
     ensures clauses { KeepsClauses store.old store.new }
     ensures watched { store.new.watched ≡ store.old.watched }
+    ensures unparked { IsUnparked store.old → IsUnparked store.new }
     ensures entries { trail.new.entries ≡ keep level trail.old.entries }
     ensures vars { trail.new.vars ≡ trail.old.vars }
     ensures done { trail.new.done ≡ min trail.old.done (length trail.new.entries) }
@@ -43,6 +44,7 @@ fn unpark_above(store: &mut Store, trail: &Trail, level: u32)
     requires hung { AreHung store.old trail.now }
     ensures hung { AreHung store.new trail.now }
     ensures empty { (lit : ℤ) → In lit (trues trail.now.entries) → In lit (trues (keep level trail.now.entries)) ⊎ (park_of store.new lit ≡ 0) }
+    ensures unparked { IsUnparked store.old → IsUnparked store.new }
     ensures rest { store.new ≡ record store.old { nexts = store.new.nexts; heads = store.new.heads; tails = store.new.tails; parks = store.new.parks } }
 {
     let _vars = trail.vars(); // Its literals are over the variables.
@@ -63,6 +65,7 @@ fn unpark(store: &mut Store, trail: &Trail, lit: Lit)
     ensures hung { AreHung store.new trail.now }
     ensures empty { park_of store.new lit ≡ 0 }
     ensures others { (other : ℤ) → other ≢ lit → park_of store.new other ≡ park_of store.old other }
+    ensures unparked { IsUnparked store.old → IsUnparked store.new }
     ensures rest { store.new ≡ record store.old { nexts = store.new.nexts; heads = store.new.heads; tails = store.new.tails; parks = store.new.parks } }
 {
     let mut at = store.parked(lit);

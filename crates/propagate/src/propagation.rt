@@ -13,13 +13,13 @@
 //! - where a watched literal is false and was propagated, the other one is true, at a level that is not above it: so
 //!   going back needs no work on the lists;
 //! - a live clause that is not watched has a literal that is true at level 0, unless one is kept that is false there.
-ghost use Rattle.std.specs.Prelude.{◌≡◌, suc, ◌+◌, ◌<◌, ◌∷◌, length, neg_ℤ, IfSome, IfNone};
+ghost use Rattle.std.specs.Prelude.{◌≡◌, suc, ◌+◌, ◌<◌, ◌∷◌, false, length, neg_ℤ, IfSome, IfNone};
 ghost use Rattle.sat_base.specs.Literals.{IsLiteral};
 ghost use Rattle.sat_base.specs.Units.{IsFalsified};
 ghost use Rattle.clause_store.specs.Links.{link_of};
 ghost use Rattle.trail_book.specs.Trail.{trues, oldest, IsTrail};
 ghost use Rattle.propagate.specs.Propagation.{Grows, Tells, IsDone};
-ghost use Rattle.propagate.specs.Watches.{IsKept, KeepsClauses};
+ghost use Rattle.propagate.specs.Watches.{IsKept, IsUnparked, KeepsClauses};
 ghost use Rattle.propagate.specs.Walk.{IsWalk};
 
 use crate::lists::{append, paired, park, unlink};
@@ -38,8 +38,8 @@ pub struct Cursor {
 
 /// Makes each literal true that a live clause forces, until a clause is falsified or none forces one.
 ///
-/// `parks` says whether watches are parked: it pays where clauses are satisfied for long, and is for the caller to choose.
-pub fn propagate(store: &mut Store, trail: &mut Trail, parks: bool) -> Propagated
+/// No watch is parked: where none was, the trail may go back by its own call (`laws`).
+pub fn propagate(store: &mut Store, trail: &mut Trail) -> Propagated
     requires { IsKept store.old trail.old }
     ensures kept { IsKept store.new trail.new }
     ensures grows { Grows store.old.clauses trail.old.entries trail.new.entries }
@@ -48,6 +48,36 @@ pub fn propagate(store: &mut Store, trail: &mut Trail, parks: bool) -> Propagate
     ensures clauses { KeepsClauses store.old store.new }
     ensures vars { trail.new.vars ≡ trail.old.vars }
     ensures trail { IsTrail trail.new.vars trail.new.entries }
+    ensures unparked { IsUnparked store.old → IsUnparked store.new }
+{
+    propagate_by(store, trail, false)
+}
+
+/// The same, and watches are parked: it pays where clauses are satisfied for long, and is for the caller to choose.
+pub fn propagate_parking(store: &mut Store, trail: &mut Trail) -> Propagated
+    requires { IsKept store.old trail.old }
+    ensures kept { IsKept store.new trail.new }
+    ensures grows { Grows store.old.clauses trail.old.entries trail.new.entries }
+    ensures answer { Tells store.old.clauses (trues trail.new.entries) result }
+    ensures all_done { IsDone store.new trail.new result }
+    ensures clauses { KeepsClauses store.old store.new }
+    ensures vars { trail.new.vars ≡ trail.old.vars }
+    ensures trail { IsTrail trail.new.vars trail.new.entries }
+{
+    propagate_by(store, trail, true)
+}
+
+// The same, whether watches are parked or not.
+fn propagate_by(store: &mut Store, trail: &mut Trail, parks: bool) -> Propagated
+    requires { IsKept store.old trail.old }
+    ensures kept { IsKept store.new trail.new }
+    ensures grows { Grows store.old.clauses trail.old.entries trail.new.entries }
+    ensures answer { Tells store.old.clauses (trues trail.new.entries) result }
+    ensures all_done { IsDone store.new trail.new result }
+    ensures clauses { KeepsClauses store.old store.new }
+    ensures vars { trail.new.vars ≡ trail.old.vars }
+    ensures trail { IsTrail trail.new.vars trail.new.entries }
+    ensures unasked { parks ≡ false → store.new.parks ≡ store.old.parks }
 {
     let _vars = trail.vars(); // A trail has no more values than variables, and so it ends.
     if let Some(id) = store.false_id() {
@@ -76,6 +106,7 @@ fn visit_all(store: &mut Store, trail: &mut Trail, falsified: Lit, parks: bool) 
     ensures propagated { IfNone result (IsKept store.new (record trail.new { done = trail.new.done + 1 })) }
     ensures grows { Grows store.old.clauses trail.old.entries trail.new.entries }
     ensures clauses { KeepsClauses store.old store.new }
+    ensures unasked { parks ≡ false → store.new.parks ≡ store.old.parks }
     ensures done { trail.new.done ≡ trail.old.done }
     ensures vars { trail.new.vars ≡ trail.old.vars }
     ensures trail { IsTrail trail.new.vars trail.new.entries }
@@ -120,6 +151,7 @@ fn step(
     ensures falsified { IfNone result (IsKept store.new trail.new × IsFalsified store.old.clauses (trues trail.new.entries) id) }
     ensures grows { Grows store.old.clauses trail.old.entries trail.new.entries }
     ensures clauses { KeepsClauses store.old store.new }
+    ensures unasked { parks ≡ false → store.new.parks ≡ store.old.parks }
     ensures done { trail.new.done ≡ trail.old.done }
     ensures vars { trail.new.vars ≡ trail.old.vars }
     ensures trail { IsTrail trail.new.vars trail.new.entries }

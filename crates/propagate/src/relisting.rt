@@ -8,7 +8,7 @@ ghost use Rattle.std.specs.Prelude.{◌≡◌, ℤ, ◌+◌, ◌*◌, true, Some
 ghost use Rattle.sat_base.specs.Literals.{IsLiteral};
 ghost use Rattle.clause_store.specs.Clauses.{clause_at, IsId};
 ghost use Rattle.clause_store.specs.Links.{watched_at, head_of, tail_of, park_of};
-ghost use Rattle.propagate.specs.Watches.{IsKept, KeepsClauses};
+ghost use Rattle.propagate.specs.Watches.{IsUnparked, IsKept, KeepsClauses};
 ghost use Rattle.propagate.specs.Rebuild.{IsStale, IsRelisted};
 
 use crate::lists::append;
@@ -20,6 +20,7 @@ use trail_book::Trail;
 pub fn rebuild(store: &mut Store, trail: &Trail)
     requires { IsStale store.old trail.now }
     ensures kept { IsKept store.new trail.now }
+    ensures unparked { IsUnparked store.new }
     ensures clauses { KeepsClauses store.old store.new }
 {
     clear(store);

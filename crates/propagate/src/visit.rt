@@ -50,7 +50,7 @@ pub fn visit(
     requires id { IsId store.now.clauses id }
     requires other { IsLiteral store.now.vars other }
     requires watch { IsFalseWatch (trues trail.now.entries) (clause_at store.now.clauses id).lits falsified other }
-    ensures { Visits store.now.vars (trues trail.now.entries) (clause_at store.now.clauses id).lits other result }
+    ensures { Visits store.now.vars (trues trail.now.entries) (clause_at store.now.clauses id).lits other parks result }
 {
     let value = trail.value(other);
     if value == Some(true) {
@@ -69,7 +69,7 @@ pub fn visit(
 // The watch may stay, or be parked.
 fn satisfied(trail: &Trail, other: Lit, parks: bool) -> Finding
     requires { In other (trues trail.now.entries) }
-    ensures { (vars : ℕ) (clause : List ℤ) → Visits vars (trues trail.now.entries) clause other result }
+    ensures { (vars : ℕ) (clause : List ℤ) → Visits vars (trues trail.now.entries) clause other parks result }
 {
     if parks && level_of(trail, other) < trail.top() {
         Finding::Settled

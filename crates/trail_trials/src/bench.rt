@@ -1,9 +1,13 @@
 //! A store and a trail, of which always holds what propagation needs.
+//!
+//! One that parks no watch is a caller that has nothing to do with parking: it propagates by `propagate`, and goes back by the
+//! trail alone. That nothing is parked is part of what always holds of it.
 ghost use Rattle.std.specs.Prelude.{◌≡◌, ◌<◌, ◌^◌, IfOk};
 ghost use Rattle.sat_base.specs.Literals.{AreLiterals, IsLiteral};
 
 use clause_store::Store;
-use propagate::{Propagated, back_to, enter, propagate};
+use propagate::laws::back_keeps;
+use propagate::{Propagated, back_to, enter, propagate, propagate_parking};
 use sat_base::Lit;
 use std::alloc::{AllocError, Global};
 use std::marker::Model;
@@ -18,14 +22,14 @@ pub struct Bench {
 }
 
 impl Model for Bench {
-    ghost use Rattle.std.specs.Prelude.{ℕ};
-    ghost use Rattle.propagate.specs.Watches.{IsKept};
+    ghost use Rattle.std.specs.Prelude.{◌≡◌, ℕ, false};
+    ghost use Rattle.propagate.specs.Watches.{IsKept, IsUnparked};
 
     ghost Value = { ℕ };
 
     ghost view = { λ bench. bench.store.vars };
 
-    ghost invariant = { λ bench. IsKept bench.store bench.trail };
+    ghost invariant = { λ bench. IsKept bench.store bench.trail × (bench.parks ≡ false → IsUnparked bench.store) };
 }
 
 impl Bench {
@@ -62,9 +66,10 @@ impl Bench {
     pub fn propagate(&mut self) -> Option<u64>
         ensures { self.new ≡ self.old }
     {
-        match propagate(&mut self.store, &mut self.trail, self.parks) {
-            Propagated::Fixpoint => None,
-            Propagated::Conflict(id) => Some(id),
+        if self.parks {
+            falsified(propagate_parking(&mut self.store, &mut self.trail))
+        } else {
+            falsified(propagate(&mut self.store, &mut self.trail))
         }
     }
 
@@ -84,6 +89,19 @@ impl Bench {
     pub fn back(&mut self, level: u32)
         ensures { self.new ≡ self.old }
     {
-        back_to(&mut self.store, &mut self.trail, level);
+        if self.parks {
+            back_to(&mut self.store, &mut self.trail, level);
+        } else {
+            let _vars = self.trail.vars(); // It is a trail.
+            back_keeps();
+            self.trail.back_to(level);
+        }
+    }
+}
+
+fn falsified(told: Propagated) -> Option<u64> {
+    match told {
+        Propagated::Fixpoint => None,
+        Propagated::Conflict(id) => Some(id),
     }
 }

@@ -1,8 +1,8 @@
-use Rattle.std.proofs.Common.{◌≡◌, List, true, subst, sym, arith}
+use Rattle.std.proofs.Common.{◌≡◌, List, true, ap, subst, sym, arith}
 use Rattle.std.specs.Prelude.{ℤ, neg_ℤ}
 use Rattle.sat_base.specs.Members.{In}
 use Rattle.sat_base.specs.Database.{StoredClause}
-use Rattle.clause_store.specs.Clauses.{clause_at, IsId}
+use Rattle.clause_store.specs.Clauses.{Clauses, clause_at, IsId}
 use Rattle.propagate.specs.Propagation.{Grows}
 use Rattle.trail_book.specs.declared.entry.Entry.{Entry}
 use Rattle.trail_book.specs.Trail.{trues, top, keep}
@@ -10,6 +10,7 @@ use Rattle.propagate.proofs.GrowsLemmas.{grows-from}
 use Rattle.propagate.proofs.KeptLemmas.{kept_false}
 use Rattle.propagate.proofs.OpenLemmas.{at_root}
 use Rattle.propagate.proofs.EnterLemmas.{joined_grows, joined_loose, joined_stays}
+use Rattle.propagate.proofs.UnparkedLemmas.{unparked_same}
 use Rattle.propagate.proofs.entrance.enter.Goals as goal
 
 -- all its literals are false, at level 0
@@ -52,3 +53,8 @@ returns-in-Some-clause-stays c =
     joined_stays c.args.store.now.clauses c.args.trail.now.entries c.reopen.new.trail.entries c.enter_open.new.trail.entries c.args.lits.now c.reopen.ensures.entries
     (subst (λ (db : List StoredClause). Grows db (keep (top c.enter_open.new.trail.entries) c.reopen.new.trail.entries) c.enter_open.new.trail.entries) c.reopen.ensures.clauses.clauses c.enter_open.ensures.grows) c.reopen.ensures.stays
     c.enter_open.ensures.stays
+
+pub returns-in-None-clause-unparked : goal.returns-in-None-clause-unparked
+returns-in-None-clause-unparked c = λ none.
+    let rest = c.set_false_id.ensures in
+    unparked_same c.reopen.new.store c.set_false_id.new.self (ap (λ (x : Clauses). x.vars) rest) (ap (λ (x : Clauses). x.parks) rest) (c.reopen.ensures.unparked none)

@@ -4,6 +4,7 @@ use Rattle.clause_store.specs.Clauses.{Clauses}
 use Rattle.clause_store.specs.Links.{watched_at, tail_of}
 use Rattle.propagate.proofs.StepLemmas.{tail_ok}
 use Rattle.propagate.proofs.EntranceLemmas.{literal_of_clause, last_node, entered}
+use Rattle.propagate.proofs.UnparkedLemmas.{unparked_same}
 use Rattle.propagate.proofs.entrance.watch.Goals as goal
 
 pub append-requires-clause-lit : goal.append-requires-clause-lit
@@ -51,3 +52,11 @@ returns-clause-kept c =
     let second = literal_of_clause s.vars s.clauses c.args.id c.args.second c.vars-vars.ensures.over r.id r.second in
     entered s c.append.new.store c.append-2.new.store c.set_watched.new.self c.args.trail.now c.args.id c.args.first c.args.second r.kept r.id r.live r.idle r.first r.second r.differ first second r.first_guard r.second_guard
     c.append.ensures.appends c.append.ensures.rest c.append-2.ensures.appends c.append-2.ensures.rest c.set_watched.ensures.set c.set_watched.ensures.others c.set_watched.ensures.rest
+
+pub returns-clause-unparked : goal.returns-clause-unparked
+returns-clause-unparked c =
+    let third = c.set_watched.ensures.rest in
+    let second = c.append-2.ensures.rest in
+    let first = c.append.ensures.rest in
+    unparked_same c.args.store.now c.set_watched.new.self (ap (λ (x : Clauses). x.vars) third ∙ ap (λ (x : Clauses). x.vars) second ∙ ap (λ (x : Clauses). x.vars) first)
+    (ap (λ (x : Clauses). x.parks) third ∙ ap (λ (x : Clauses). x.parks) second ∙ ap (λ (x : Clauses). x.parks) first)

@@ -4,6 +4,7 @@ use Rattle.clause_store.specs.Links.{link_of}
 use Rattle.propagate.specs.Walk.{IsReturning}
 use Rattle.propagate.proofs.LengthLemmas.{list_fits}
 use Rattle.propagate.proofs.ReturnLemmas.{begin_returning, rest_of_parks, step_left}
+use Rattle.propagate.proofs.UnparkedLemmas.{unparked_under}
 use Rattle.propagate.proofs.parking.unpark.Goals as goal
 
 -- all of them are still to go back
@@ -29,3 +30,8 @@ release-at-requires-clause-returning c =
     let left = step_left l.store c.args.trail.now c.args.lit c.in-Some.id l.left some r in
     let same : l.left ≡ suc (l.left - 1) = omega (arith, left) in
     subst (λ (k : ℕ). IsReturning l.store c.args.trail.now c.args.lit c.in-Some.id k) same r
+
+pub returns-clause-unparked : goal.returns-clause-unparked
+returns-clause-unparked c =
+    let i = c.loop-at.invariant in
+    unparked_under c.args.store.now c.loop-at.store c.args.lit (ap (λ (x : Clauses). x.vars) i.rest) i.returning.taken i.others

@@ -1,6 +1,6 @@
 use Rattle.std.proofs.Common.{◌∙◌, ℕ, suc, refl, sym, ap, subst, inl, inr, List}
 use Rattle.std.specs.Prelude.{ℤ}
-use Rattle.std.proofs.lemmas.Bool.{cases_eq}
+use Rattle.std.proofs.lemmas.Bool.{cases_eq, false≢true}
 use Rattle.sat_base.specs.Literals.{IsLiteral}
 use Rattle.sat_base.specs.Members.{In}
 use Rattle.clause_store.specs.Clauses.{Clauses}
@@ -109,7 +109,15 @@ returns-in-Settled-clause-walk c =
     let r = c.requires in
     let e = c.place_of-place.ensures in
     parked_walk c.args.store.now c.unlink.new.store c.park.new.store c.args.trail.now c.args.falsified c.place_of-place.result.1 (link_of c.args.before) c.args.id c.args.left c.place_of-place.result.0 (link_of c.next-at.result)
-    r.walk r.from_one e.place e.first e.second e.other c.in-Settled.ensures e.over c.next-at.ensures.next c.unlink.ensures.unlinks c.unlink.ensures.rest c.park.ensures.parks c.park.ensures.rest
+    r.walk r.from_one e.place e.first e.second e.other c.in-Settled.ensures.0 e.over c.next-at.ensures.next c.unlink.ensures.unlinks c.unlink.ensures.rest c.park.ensures.parks c.park.ensures.rest
+
+-- it is parked only where that is asked for
+pub returns-in-Settled-clause-unasked : goal.returns-in-Settled-clause-unasked
+returns-in-Settled-clause-unasked c = λ none. absurd (false≢true (sym none ∙ c.in-Settled.ensures.1))
+
+pub returns-in-Moved-clause-unasked : goal.returns-in-Moved-clause-unasked
+returns-in-Moved-clause-unasked c = λ none.
+    ap (λ (x : Clauses). x.parks) c.set_position.ensures ∙ ap (λ (x : Clauses). x.parks) c.set_watched.ensures.rest ∙ ap (λ (x : Clauses). x.parks) c.append.ensures.rest ∙ ap (λ (x : Clauses). x.parks) c.unlink-in-Moved.ensures.rest
 
 pub returns-in-Settled-clause-grows : goal.returns-in-Settled-clause-grows
 returns-in-Settled-clause-grows c = grows-refl c.args.store.now.clauses c.args.trail.now.entries

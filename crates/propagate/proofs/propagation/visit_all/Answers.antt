@@ -24,6 +24,7 @@ loop-cursor-init c =
       done = refl;
       vars = refl;
       trail = c.vars-vars.ensures.trail;
+      unasked = λ none. refl;
     }
 
 pub step-requires-clause-walk : goal.step-requires-clause-walk
@@ -51,6 +52,7 @@ loop-cursor-preserved c =
       done = e.done ∙ i.done;
       vars = e.vars ∙ i.vars;
       trail = e.trail;
+      unasked = λ none. e.unasked none ∙ i.unasked none;
     }
 
 pub returns-in-None-clause-grows : goal.returns-in-None-clause-grows

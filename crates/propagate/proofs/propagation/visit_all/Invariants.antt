@@ -1,4 +1,4 @@
-use Rattle.std.proofs.Common.{◌≡◌, ◌<◌, IfSome}
+use Rattle.std.proofs.Common.{◌≡◌, ◌<◌, IfSome, false}
 use Rattle.clause_store.specs.Links.{link_of}
 use Rattle.trail_book.specs.Trail.{IsTrail}
 use Rattle.propagate.specs.Propagation.{Grows}
@@ -17,6 +17,7 @@ invariant-loop-cursor l =
       done : l.trail.done ≡ l.fn.trail.done;
       vars : l.trail.vars ≡ l.fn.trail.vars;
       trail : IsTrail l.trail.vars l.trail.entries;
+      unasked : l.parks ≡ false → l.store.parks ≡ l.fn.store.parks;
     }
 
 -- each step leaves one watch fewer

@@ -14,14 +14,14 @@ use Rattle.cdcl_core.proofs.search.Search.spread.Goals as goal
 pub log_units-requires : goal.log_units-requires
 log_units-requires c =
     let s = c.args.self.now in
-    let told = c.propagate-told.ensures in
-    let es = c.propagate-told.new.trail.entries in
+    let told = c.propagate_by-told.ensures in
+    let es = c.propagate_by-told.new.trail.entries in
     let level : top es ≡ 0 = omega (arith, c.top.ensures, c.if-top-eq0.true) in
     let state = grown_state s.trail.vars s.store.clauses s.log s.trail.entries es c.args.assumed.now s.assumed_levels c.requires.state told.grows (subst (λ (n : ℕ). IsTrail n es) told.vars told.trail) in
     record {
       vars = told.kept.vars;
       kept = told.kept;
-      root = subst (λ (db : List StoredClause). IsRoot c.propagate-told.new.trail.vars db s.log es) (sym told.clauses.clauses)
+      root = subst (λ (db : List StoredClause). IsRoot c.propagate_by-told.new.trail.vars db s.log es) (sym told.clauses.clauses)
           (subst (λ (n : ℕ). IsRoot n s.store.clauses s.log es) (sym told.vars) (root_of s.trail.vars s.store.clauses s.log es c.args.assumed.now s.assumed_levels state level));
     }
 
@@ -30,8 +30,8 @@ pub returns-in_ok-log_units-clause-search : goal.returns-in_ok-log_units-clause-
 returns-in_ok-log_units-clause-search c =
     let s = c.args.self.now in
     let new = c.log_units.new.self in
-    let told = c.propagate-told.ensures in
-    let es = c.propagate-told.new.trail.entries in
+    let told = c.propagate_by-told.ensures in
+    let es = c.propagate_by-told.new.trail.entries in
     let r = c.in_ok-log_units.ensures in
     let level : top es ≡ 0 = omega (arith, c.top.ensures, c.if-top-eq0.true) in
     let same = top_grows s.store.clauses s.trail.entries es told.grows in
@@ -51,25 +51,25 @@ returns-in_ok-log_units-clause-search c =
 pub returns-in_ok-log_units-clause-grows : goal.returns-in_ok-log_units-clause-grows
 returns-in_ok-log_units-clause-grows c =
     let s = c.args.self.now in
-    let es = c.propagate-told.new.trail.entries in
-    let grown = length_grows s.store.clauses s.trail.entries es c.propagate-told.ensures.grows in
+    let es = c.propagate_by-told.new.trail.entries in
+    let grown = length_grows s.store.clauses s.trail.entries es c.propagate_by-told.ensures.grows in
     let same = same_length es c.log_units.new.self.trail.entries c.in_ok-log_units.ensures.keeps.trues_are in
     omega (arith, grown, same)
 
 pub returns-else-top-eq0-clause-search : goal.returns-else-top-eq0-clause-search
 returns-else-top-eq0-clause-search c =
     let s = c.args.self.now in
-    let told = c.propagate-told.ensures in
-    let es = c.propagate-told.new.trail.entries in
+    let told = c.propagate_by-told.ensures in
+    let es = c.propagate_by-told.new.trail.entries in
     let state = grown_state s.trail.vars s.store.clauses s.log s.trail.entries es c.args.assumed.now s.assumed_levels c.requires.state told.grows (subst (λ (n : ℕ). IsTrail n es) told.vars told.trail) in
     record {
       vars = told.kept.vars;
       kept = told.kept;
-      state = subst (λ (db : List StoredClause). IsState c.propagate-told.new.trail.vars db s.log es c.args.assumed.now s.assumed_levels) (sym told.clauses.clauses)
+      state = subst (λ (db : List StoredClause). IsState c.propagate_by-told.new.trail.vars db s.log es c.args.assumed.now s.assumed_levels) (sym told.clauses.clauses)
           (subst (λ (n : ℕ). IsState n s.store.clauses s.log es c.args.assumed.now s.assumed_levels) (sym told.vars) state);
       reached = λ l i. in_grows s.store.clauses s.trail.entries es l told.grows (c.requires.reached l i);
       positive = λ asked. positive_grows s.store.clauses s.assumed_levels s.trail.entries es told.grows (c.requires.positive asked);
     }
 
 pub returns-else-top-eq0-clause-grows : goal.returns-else-top-eq0-clause-grows
-returns-else-top-eq0-clause-grows c = length_grows c.args.self.now.store.clauses c.args.self.now.trail.entries c.propagate-told.new.trail.entries c.propagate-told.ensures.grows
+returns-else-top-eq0-clause-grows c = length_grows c.args.self.now.store.clauses c.args.self.now.trail.entries c.propagate_by-told.new.trail.entries c.propagate_by-told.ensures.grows

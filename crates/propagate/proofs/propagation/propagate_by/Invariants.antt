@@ -1,8 +1,8 @@
-use Rattle.std.proofs.Common.{◌≡◌, ◌-◌}
+use Rattle.std.proofs.Common.{◌≡◌, ◌-◌, false}
 use Rattle.trail_book.specs.Trail.{IsTrail}
 use Rattle.propagate.specs.Propagation.{Grows}
 use Rattle.propagate.specs.Watches.{IsKept, KeepsClauses}
-use Rattle.propagate.proofs.propagation.propagate.Given as goal
+use Rattle.propagate.proofs.propagation.propagate_by.Given as goal
 
 abbrev pub invariant-loop-trail : goal.invariant-loop-trail
 invariant-loop-trail l =
@@ -13,6 +13,7 @@ invariant-loop-trail l =
       clauses : KeepsClauses l.fn.store l.store;
       vars : l.trail.vars ≡ l.fn.trail.vars;
       trail : IsTrail l.trail.vars l.trail.entries;
+      unasked : l.parks ≡ false → l.store.parks ≡ l.fn.store.parks;
     }
 
 -- each step propagates a value, and there are no more values than variables
