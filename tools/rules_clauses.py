@@ -15,6 +15,7 @@ import math
 
 PLAIN_CLAUSES = 64       # so many clauses of a part, or choices of a count, are written plainly
 PLAIN_LITERALS = 2_000   # and they have at most so many literals
+PLAIN_IFF = 4            # so many clauses of each side of an `iff`, each of which is written twice
 PLAIN_PAIRS = 64         # the list of an `at most one of` with a clause for each pair is at most so long
 
 
@@ -24,9 +25,10 @@ class Clauses:
     def __init__(self, new_variable):
         self.new_variable = new_variable
         self.definitions = []     # clauses that say what the defined variables stand for
-        self.variables = {}       # the variable of a part, by the part's id
-        self.defined = set()      # the parts' ids with the sign for which clauses say what the variable stands for
-        self.kept = []            # parts that were made here, since an id is good only as long as its part is there
+        # by the id of a part, which the part keeps as long as it is here too
+        self.known = {}           # its clauses and the part, for each sign: `iff` asks for them again and again
+        self.variables = {}       # its variable and the part
+        self.defined = set()      # with a sign: whether clauses say that the variable stands for this
 
     def of(self, tree):
         """The clauses that say the tree, and those that say what the variables stand for that were defined for it."""
@@ -40,12 +42,18 @@ class Clauses:
         """The clauses that say the tree, or that it doesn't hold if the sign is false."""
         if isinstance(tree, int):
             return [[tree if sign else -tree]]
+        if (id(tree), sign) not in self.known:
+            self.known[id(tree), sign] = self.clauses_of_part(tree, sign), tree
+        return self.known[id(tree), sign][0]
+
+    def clauses_of_part(self, tree, sign):
         kind = tree[0]
         if kind == "not":
             return self.clauses(tree[1], not sign)
         if kind == "iff":
             left, right = tree[1:]
-            return self.one_of([(left, False), (right, sign)]) + self.one_of([(left, True), (right, not sign)])
+            return (self.one_of([(left, False), (right, sign)], PLAIN_IFF)
+                    + self.one_of([(left, True), (right, not sign)], PLAIN_IFF))
         if kind == "count":
             return self.count(tree, sign)
         if (kind == "and") == sign:
@@ -58,9 +66,9 @@ class Clauses:
             tree, sign = tree[1], not sign
         if isinstance(tree, int):
             return tree if sign else -tree
-        variable = self.variables.get(id(tree))
-        if variable is None:
-            variable = self.variables[id(tree)] = self.new_variable()
+        if id(tree) not in self.variables:
+            self.variables[id(tree)] = self.new_variable(), tree
+        variable = self.variables[id(tree)][0]
         literal = variable if sign else -variable
         if (id(tree), sign) not in self.defined:
             self.defined.add((id(tree), sign))
@@ -69,26 +77,24 @@ class Clauses:
 
     # ---- one of several parts holds
 
-    def one_of(self, parts):
-        """The clauses that say that one of the parts holds, each with its sign."""
+    def one_of(self, parts, shared=None):
+        """The clauses that say that one of the parts holds, each with its sign.
+
+        Parts that are asked for in other places too are distributed only if that gives at most `shared` clauses.
+        """
         lists = [self.clauses(*part) for part in parts]
         if not all(lists):
             return []         # a part that holds anyway
         wide = [place for place, clauses in enumerate(lists) if len(clauses) > 1]
-        if not self.are_plain(lists, wide):
-            if sum(len(clauses[0]) for clauses in lists if len(clauses) == 1) + len(wide) <= 3:
+        count = math.prod(len(lists[place]) for place in wide)
+        literals = count * sum(max(map(len, clauses)) for clauses in lists)
+        if count > 1 and (count > (shared or PLAIN_CLAUSES) or literals > PLAIN_LITERALS):
+            if shared is None and sum(len(clauses[0]) for clauses in lists if len(clauses) == 1) + len(wide) <= 3:
                 wide.remove(max(wide, key=lambda place: len(lists[place])))
             for place in wide:
                 lists[place] = [[self.literal(*parts[place])]]
-            wide = []
         found = [list(itertools.chain.from_iterable(choice)) for choice in itertools.product(*lists)]
         return cleaned(found) if len(wide) > 1 else found
-
-    @staticmethod
-    def are_plain(lists, wide):
-        count = math.prod(len(lists[place]) for place in wide)
-        literals = count * sum(max(map(len, clauses)) for clauses in lists)
-        return count <= 1 or count <= PLAIN_CLAUSES and literals <= PLAIN_LITERALS
 
     # ---- counts
 
@@ -98,7 +104,6 @@ class Clauses:
             return self.at_least(least, trees) + self.at_most(most, trees)
         if least and most < len(trees):
             fewer, more = ("count", 0, least - 1, trees), ("count", most + 1, len(trees), trees)
-            self.kept += [fewer, more]
             return self.one_of([(fewer, True), (more, True)])
         return self.at_most(least - 1, trees) if least else self.at_least(most + 1, trees)
 
@@ -122,8 +127,9 @@ class Clauses:
 
     def each_choice(self, size, trees, sign):
         """The plain form: of each choice of so many trees, one has this sign."""
+        shared = max(1, PLAIN_CLAUSES // math.comb(len(trees), size))
         return [clause for choice in itertools.combinations(trees, size)
-                for clause in self.one_of([(tree, sign) for tree in choice])]
+                for clause in self.one_of([(tree, sign) for tree in choice], shared)]
 
     def counter(self, goal, trees, sign):
         """With defined variables: at least `goal` of the trees hold, or fewer than that if the sign is false.

@@ -139,6 +139,7 @@ class Clauses(unittest.TestCase):
                 ("exactly 2 of (a, b) implies c", [[-1, -2, 3]]),
                 ("not at least one of a, b", [[-1], [-2]]),
                 ("at most one of (a and b), c", [[-1, -2, -3]]),
+                ("at most one of a, (at least one of b, c)", [[-1, -2], [-1, -3]]),
                 ("at most 3 of a, b", []),
                 ("at least 3 of a, b", [[]]),
                 ("NOT a Or b", [[-1, 2]]),
@@ -261,7 +262,9 @@ class Notes(unittest.TestCase):
                  ["r: line 2: 'Touch-screen' stands with one sign only. Is 'touch_screen' meant?",
                   "r: line 2: 'touch_screen' stands with one sign only. Is 'Touch-screen' meant?",
                   "r: line 2: 'tuochscreen' stands with one sign only. Is 'Touch-screen' meant?"]),
-                ("slot_11 and slot_12 and n:int and m:int and fan and fans", [f"r: 6 names {others}"]),
+                ("slot_11 and slot_12 and slot_1_2 and n:int and m:int and fan and fans", [f"r: 7 names {others}"]),
+                ("x-on and X_on", ["r: line 2: 'x-on' stands with one sign only. Is 'X_on' meant?",
+                                   "r: line 2: 'X_on' stands with one sign only. Is 'x-on' meant?"]),
                 ("c# implies dotnet\nnot c", ["r: line 2: '#' begins a comment, though it stands right behind 'c': a name with '#' stands "
                                               "in quotes"]),
                 ("at least 3 of a, b\nnot a or not b", ["r: line 2: 3 of 2 never hold"]),

@@ -211,5 +211,5 @@ class Refutation:
         needed = {len(hints) - 1}
         for at in range(len(hints) - 1, -1, -1):
             if at in needed:
-                needed.update(falses[lit] for lit in clauses[at] if falses.get(lit) is not None and falses[lit] < at)
+                needed.update(falses[lit] for lit in clauses[at] if falses.get(lit) is not None)
         return [hints[at] for at in needed]
