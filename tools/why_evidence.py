@@ -170,6 +170,9 @@ class Refutation:
             if needed[place]:
                 for hint in self.needed_hints(place):
                     self.mark(hint, inputs, needed)
+            # only later steps name this one, and they have been followed
+            self.read.pop(place, None)
+            self.texts[place] = None
         return sorted(inputs)
 
     def mark(self, identity, inputs, needed):
