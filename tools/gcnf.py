@@ -22,6 +22,7 @@ is a name that they may be meant for. With --strict nothing is written if there 
 """
 import sys
 
+import limits
 import rules
 import telling
 
@@ -38,8 +39,11 @@ def main(words):
     for note in notes:
         print(f"gcnf.py: {note}", file=sys.stderr)
     if notes and "--strict" in words:
-        return telling.REFUSED
-    sys.stdout.buffer.write(made.gcnf().encode("utf-8", "replace"))
+        raise telling.Refused(f"{files[0]}: with --strict this is refused")
+    file = made.gcnf().encode("utf-8", "replace")
+    if len(file) > limits.BYTES:
+        raise telling.Refused(f"{files[0]}: the file would have more than {limits.BYTES:,} bytes")
+    sys.stdout.buffer.write(file)
     return telling.DONE
 
 

@@ -17,7 +17,7 @@ import sys
 
 import limits
 from rules_clauses import Clauses
-from rules_formula import DEPTH, FRAMES, formula_of, signs_in
+from rules_formula import DEPTH, formula_of, signs_in
 from rules_near import near_names
 from rules_words import Mistake, words_of, written
 from telling import Refused, plain
@@ -28,6 +28,7 @@ ALWAYS = "always"
 # Defined variables are counted from here until all names are known. Then they are numbered behind the names.
 DEFINED = 1 << 40
 POSITIVE, NEGATIVE = 1, 2
+FRAMES = 40       # how many calls deep one pair of brackets is read, and turned into clauses, at most
 IN_FORMATS = "docs/FORMATS.md has the limits of a file"
 
 # A line of rules: its number, its text without the comment, and the clauses that come of it.
@@ -107,7 +108,7 @@ def read(text, source):
 def room_for_brackets():
     """Lets calls be as deep as brackets may be."""
     before = sys.getrecursionlimit()
-    sys.setrecursionlimit(max(before, before + 2 * DEPTH * FRAMES))
+    sys.setrecursionlimit(before + DEPTH * FRAMES)
     try:
         yield
     finally:

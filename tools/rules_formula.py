@@ -14,7 +14,6 @@ from rules_hints import MEANT, behind, number_meant
 from rules_words import Mistake
 
 DEPTH = 200         # how deep brackets may stand in each other
-FRAMES = 8          # how many calls of the reader one bracket takes, at most
 BINARY = "'and', 'or', 'implies', 'iff'"
 COUNT_STARTS = ("at", "exactly")
 OPERAND = "a name, 'not', '(', 'at most', 'at least' or 'exactly'"

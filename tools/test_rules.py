@@ -234,10 +234,20 @@ class Mistakes(unittest.TestCase):
             with mock.patch.object(limits, name, limit):
                 self.assertEqual(refusal(text), f"f.rules: {wanted}\n  docs/FORMATS.md has the limits of a file", text)
 
+    def test_limits_are_those_of_the_documents(self):
+        with open(os.path.join(os.path.dirname(TOOLS), "docs", "FORMATS.md"), encoding="utf-8") as formats:
+            self.assertIn(f"At most {limits.VARIABLES:,} variables, {limits.CLAUSES:,} clauses, {limits.GROUPS:,} groups, "
+                          f"{limits.LITERALS:,} literals in all clauses, and {limits.BYTES:,} bytes.", formats.read())
+
     def test_brackets_may_be_deep_but_not_too_deep(self):
         for deep, told in ((200, None), (201, "f.rules: line 2: more than 200 brackets stand in each other")):
             said = refusal("[r]\n" + "(a or not " * deep + "b" + ")" * deep)
             self.assertEqual(said and said.split("\n")[0], told)
+        for nested in ("(a iff b or c and not at least 2 of d, e, {})", "(not exactly 2 of a, (b iff {}), c, d, e, f, g, h, i)"):
+            text = "x"
+            for _ in range(200 // nested.count("(")):
+                text = nested.format(text)
+            self.assertIsNone(refusal("[r]\n" + text), nested)
         self.assertEqual(clauses("not " * 20_001 + "a"), [[-1]])
         self.assertEqual(clauses("a implies " * 5_000 + "b")[0][-1], 2)
 
@@ -287,7 +297,8 @@ class Program(unittest.TestCase):
                     ([], b"", 2, b"gcnf.py: one file of rules is wanted\n" + usage),
                     (["a", "b"], b"", 2, b"gcnf.py: one file of rules is wanted\n" + usage),
                     (["--lax", "a"], b"", 2, b"gcnf.py: what is --lax?\n" + usage),
-                    (["--strict", "-"], b"[r]\na\n", 1, b"gcnf.py: -: 1 name stands with one sign only"),
+                    (["--strict", "-"], b"[r]\na\n", 1, b"gcnf.py: -: 1 name stands with one sign only: no clause with such "
+                     b"a name is in any conflict\ngcnf.py: -: with --strict this is refused\n"),
             ):
                 ended = run(*words, given=given)
                 self.assertEqual((ended.returncode, ended.stdout), (status, b""), words)

@@ -1,5 +1,8 @@
 #!/usr/bin/env python3
-"""Tests that rules and their GCNF files say the same: formulas made by chance, against what they say for each assignment."""
+"""Tests that rules and their GCNF files say the same: formulas made by chance, against what they say for each assignment.
+
+GMUS_TRIALS=1000 in the environment tries so many of them.
+"""
 import itertools
 import os
 import random

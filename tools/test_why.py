@@ -1,5 +1,8 @@
 #!/usr/bin/env python3
-"""Tests of why.py. What is wanted was worked out by hand; of problems made by chance, it is tried for each assignment."""
+"""Tests of why.py. What is wanted was worked out by hand; of problems made by chance, it is tried for each assignment.
+
+GMUS_TRIALS=300 in the environment tries so many of these, and GMUS names another program than the built one.
+"""
 import html.parser
 import io
 import itertools

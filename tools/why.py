@@ -70,7 +70,7 @@ def as_text(page):
     lines = [page.title, "=" * len(page.title), "", page.summary()]
     for reason in page.reasons:
         heading = page.heading(reason)
-        lines += ["", heading, "-" * len(heading), "", MEANING, ""]
+        lines += ["", heading, "-" * min(len(heading), 100), "", MEANING, ""]
         width = max(len(place) for part in reason.parts for place, _ in part.lines)
         for part in reason.parts:
             lines.append(page.part_name(part))
