@@ -7,8 +7,9 @@
     made.variables    the number of each name
     made.notes()      what may be a mistake, a line of text each
 
-docs/RULES.md has the language, docs/FORMATS.md the comments in the file. `rules.written(name)` is the name as rules have it,
-with quotes if it needs them.
+docs/RULES.md has the language, docs/FORMATS.md the comments in the file. For those who write rules by a program,
+`rules.written(name)` is the name as formulas have it, with quotes if it needs them, and `rules.heading(name)` the line with
+which a rule of this name begins.
 """
 import collections
 import contextlib
@@ -22,7 +23,7 @@ from rules_near import near_names
 from rules_words import Mistake, words_of, written
 from telling import Refused, plain
 
-__all__ = ["Rules", "read", "written"]
+__all__ = ["Rules", "heading", "read", "written"]
 
 ALWAYS = "always"
 # Defined variables are counted from here until all names are known. Then they are numbered behind the names.
@@ -47,7 +48,7 @@ class Rules:
         self.groups = {}            # by name
         self.defined = self.clauses = self.literals = 0
         self.signs = {}             # of each name, by its number
-        self.stands = []            # the line in which each name stands first
+        self.first_lines = []       # in which each name stands
         self.told = []              # notes on single lines
 
     def gcnf(self):
@@ -78,11 +79,11 @@ class Rules:
     def notes(self):
         """What may be a mistake: what was seen in single lines, and names that stand with one sign only."""
         names = list(self.variables)
-        lonely = [name for name, number in self.variables.items() if self.signs[number] != POSITIVE | NEGATIVE]
-        near = near_names(lonely, names)
-        told = [f"{self.source}: line {self.stands[self.variables[name] - 1]}: '{plain(name)}' stands with one sign only. "
-                f"Is '{plain(near[name])}' meant?" for name in lonely if name in near]
-        others = len(lonely) - len(near)
+        pure = [name for name, number in self.variables.items() if self.signs[number] != POSITIVE | NEGATIVE]
+        near = near_names(pure, names)
+        told = [f"{self.source}: line {self.first_lines[self.variables[name] - 1]}: '{plain(name)}' stands with one sign only. "
+                f"Is '{plain(near[name])}' meant?" for name in pure if name in near]
+        others = len(pure) - len(near)
         if others:
             other = "other " if near else ""
             count = f"1 {other}name stands" if others == 1 else f"{others} {other}names stand"
@@ -130,6 +131,19 @@ def head_of(line):
             raise Mistake("no rule begins here: its ']' is missing", begin + len(bare), "a rule begins with [NAME]")
         raise Mistake("behind ']' stands nothing but a comment", begin + end + 1, "the lines of a rule stand below its [NAME]")
     return " ".join(bare[1:-1].split())
+
+
+def heading(name):
+    """The line with which the rule of this name begins. Blanks in a row, and line ends, count as one blank."""
+    name = " ".join(name.split())
+    line = f"[{name}]"
+    try:
+        is_read_back = head_of(line) == name
+    except Mistake:
+        is_read_back = False
+    if not name or not is_read_back or name.lower() == ALWAYS:
+        raise Refused(f"no rule can have the name '{plain(name)}'")
+    return line
 
 
 def is_glued_comment(line, words):
@@ -212,7 +226,7 @@ class Reader:
         if number is None:
             number = rules.variables[name] = len(rules.variables) + 1
             rules.signs[number] = 0
-            rules.stands.append(self.number)
+            rules.first_lines.append(self.number)
         return number
 
     def new_variable(self):

@@ -41,17 +41,20 @@ class Reader:
     def __init__(self, words, number_of):
         self.words = words
         self.number_of = number_of
-        self.at = 0
-        self.word = words[0]
+        self.at = -1
         self.depth = 0
         self.in_list = False      # whether a comma here belongs to a list around
         self.remarks = []
+        self.word = None
+        self.take()
 
     def take(self):
         """Goes on by a word, and gives the one that stood here."""
         taken = self.word
         self.at += 1
         self.word = self.words[self.at]
+        if self.word.kind == "mistake":
+            raise self.word.text
         return taken
 
     def line(self):
@@ -161,7 +164,7 @@ class Reader:
         self.take()
         trees = self.list_of(start)
         if kind != "most" and wanted > len(trees):
-            self.remarks.append(f"{wanted} of {len(trees)} never hold")
+            self.remarks.append(f"{wanted} of a list of {len(trees)} never hold")
         least, most = {"most": (0, wanted), "least": (wanted, len(trees)), "exactly": (wanted, wanted)}[kind]
         return ("count", least, min(most, len(trees)), trees)
 

@@ -12,8 +12,9 @@ import unicodedata
 from rules_hints import MEANT, meant_by
 from telling import plain
 
-# A word of a line: its kind ("name", "end", a mark, a keyword in small letters, or "other"), its text, where it stands, and
-# whether it is in quotes, which are no part of its text. An "other" is what other languages write for a keyword.
+# A word of a line: its kind ("name", "end", a mark, a keyword in small letters, "other" or "mistake"), its text, where it
+# stands, and whether it is in quotes, which are no part of its text. An "other" is what other languages write for a keyword.
+# What is no word is a mistake, which stands in place of the text, and ends the words. It is told once a reader comes to it.
 Word = collections.namedtuple("Word", "kind text at quoted")
 
 KEYWORDS = ("always", "and", "iff", "implies", "never", "not", "of", "or")
@@ -65,20 +66,28 @@ def words_of(line):
     words, at, end = [], 0, len(line.rstrip())
     while at < end:
         found = TOKEN.match(line, at)
-        kind = found.lastgroup
-        text, begin, at = found.group(kind), found.start(kind), found.end()
-        if kind == "word":
-            words.append(name_or_keyword(text, begin))
-        elif kind == "mark":
-            words.append(Word(text, text, begin, False))
-        elif kind == "quoted":
-            words.append(Word("name", unquoted(text, begin), begin, True))
-        elif kind == "open":
-            raise Mistake("the quote that begins here has no end", begin, 'a name in quotes is "any text"')
-        else:
+        kind, begin = found.lastgroup, found.start(found.lastgroup)
+        at = found.end()
+        if kind == "comment":
             end = len(line[:begin].rstrip())
+        else:
+            try:
+                words.append(word_of(kind, found.group(kind), begin))
+            except Mistake as mistake:
+                words.append(Word("mistake", mistake, begin, False))
+                break
     words.append(Word("end", "the line's end", end, False))
     return words
+
+
+def word_of(kind, text, at):
+    if kind == "word":
+        return name_or_keyword(text, at)
+    if kind == "mark":
+        return Word(text, text, at, False)
+    if kind == "open":
+        raise Mistake("the quote that begins here has no end", at, 'a name in quotes is "any text"')
+    return Word("name", unquoted(text, at), at, True)
 
 
 def unquoted(text, at):

@@ -65,6 +65,7 @@ MISTAKES = (
     ('"a|\\n"', "'\\n' says nothing in a quoted name", 'in a quoted name stand \\" for " and \\\\ for \\'),
     ('a or |""', "nothing stands in these quotes", QUOTES),
     ("日本語 or (日本|; x)", "a name has no ';' without quotes", NAMES),
+    ("touch |screen implies a!", "'screen' can't come here: a name with a blank in it stands in quotes, \"touch screen\"", OPERATOR),
     ("[x|", "no rule begins here: its ']' is missing", HEAD),
     ("[x]| a", "behind ']' stands nothing but a comment", "the lines of a rule stand below its [NAME]"),
     ("[| ]", "a rule without a name", HEAD),
@@ -160,6 +161,16 @@ class Clauses(unittest.TestCase):
             self.assertEqual(list(made.variables), wanted, line)
             again = rules.read("[r]\n" + " or ".join(map(rules.written, made.variables)), "r")
             self.assertEqual(again.variables, made.variables, line)
+
+    def test_headings(self):
+        for name, wanted in (("a", "[a]"), (" a \n b] ", "[a b]]"), ("C# or #2", "[C# or #2]"), ("always on", "[always on]"),
+                             ("a # b", None), ("a] #", None), ("Always", None), (" ", None)):
+            if wanted:
+                self.assertEqual(rules.heading(name), wanted)
+                self.assertEqual(rules.read(f"{wanted}\nx", "r").names, ["", wanted[1:-1]])
+            else:
+                with self.assertRaisesRegex(telling.Refused, "no rule can have the name", msg=name):
+                    rules.heading(name)
 
     def test_variables_are_numbered_as_they_come_and_keep_their_numbers(self):
         self.assertEqual(clauses("b or a", "never a and c"), [[1, 2], [-2, -3]])
@@ -277,7 +288,7 @@ class Notes(unittest.TestCase):
                                    "r: line 2: 'X_on' stands with one sign only. Is 'x-on' meant?"]),
                 ("c# implies dotnet\nnot c", ["r: line 2: '#' begins a comment, though it stands right behind 'c': a name with '#' stands "
                                               "in quotes"]),
-                ("at least 3 of a, b\nnot a or not b", ["r: line 2: 3 of 2 never hold"]),
+                ("at least 3 of a, b\nnot a or not b", ["r: line 2: 3 of a list of 2 never hold"]),
         ):
             self.assertEqual(rules.read(f"[r]\n{lines}", "r").notes(), wanted, lines)
 
