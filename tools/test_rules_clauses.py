@@ -33,8 +33,18 @@ def formula(draw, depth):
     if kind != "count":
         return kind, parts
     # a list has no literal twice
-    parts = tuple(dict.fromkeys(parts))
+    parts = tuple({literal_of(part): part for part in parts}.values())
     return kind, parts, draw.choice(["at most", "at least", "exactly"]), draw.randint(0, len(parts) + 1)
+
+
+def literal_of(tree):
+    """The name and the sign of a formula that is a literal; any other formula itself."""
+    if tree[0] == "name":
+        return tree[1], True
+    if tree[0] in ("not", "never"):
+        name, sign, *more = literal_of(tree[1][0])
+        return (name, not sign) if isinstance(sign, bool) and not more else tree
+    return tree
 
 
 def text_of(draw, tree, tighter_than=-1):
