@@ -81,8 +81,8 @@ class Rules:
         names = list(self.variables)
         pure = [name for name, number in self.variables.items() if self.signs[number] != POSITIVE | NEGATIVE]
         near = near_names(pure, names)
-        told = [f"{self.source}: line {self.first_lines[self.variables[name] - 1]}: '{plain(name)}' stands with one sign only. "
-                f"Is '{plain(near[name])}' meant?" for name in pure if name in near]
+        told = [f"{self.source}: line {self.first_lines[self.variables[name] - 1]}: "
+                f"'{plain(name)}' stands with one sign only. Is '{plain(near[name])}' meant?" for name in pure if name in near]
         others = len(pure) - len(near)
         if others:
             other = "other " if near else ""
@@ -129,7 +129,8 @@ def head_of(line):
         begin = line.index("[")
         if end < 0:
             raise Mistake("no rule begins here: its ']' is missing", begin + len(bare), "a rule begins with [NAME]")
-        raise Mistake("behind ']' stands nothing but a comment", begin + end + 1, "the lines of a rule stand below its [NAME]")
+        raise Mistake("behind ']' stands nothing but a comment", begin + end + 1,
+                      "the lines of a rule stand below its [NAME]")
     return " ".join(bare[1:-1].split())
 
 
@@ -168,7 +169,8 @@ class Reader:
         if name is not None:
             self.begin(name, line)
         elif self.group is None:
-            raise Mistake("no rule begins before this line", len(line) - len(line.lstrip()), "here may come [NAME] or [always]")
+            raise Mistake("no rule begins before this line", len(line) - len(line.lstrip()),
+                          "here may come [NAME] or [always]")
         else:
             self.add(line)
 
@@ -193,8 +195,8 @@ class Reader:
     def end_rule(self):
         """Refuses the rule before if no line stands in it."""
         if self.group and not self.rules.lines[self.group]:
-            number = self.rules.heads[self.group]
-            raise Refused(f"{self.rules.source}: line {number}: the rule '{plain(self.rules.names[self.group])}' has no line\n"
+            number, name = self.rules.heads[self.group], plain(self.rules.names[self.group])
+            raise Refused(f"{self.rules.source}: line {number}: the rule '{name}' has no line\n"
                           "  below it comes what it asks for, such as: a implies b")
 
     def end(self, text):
@@ -209,8 +211,8 @@ class Reader:
         rules, words = self.rules, words_of(line)
         tree, remarks = formula_of(words, self.number_of)
         if is_glued_comment(line, words):
-            remarks.append(f"'#' begins a comment, though it stands right behind '{plain(words[-2].text)}': a name with '#' stands "
-                           "in quotes")
+            remarks.append(f"'#' begins a comment, though it stands right behind '{plain(words[-2].text)}': "
+                           "a name with '#' stands in quotes")
         rules.told += [f"{rules.source}: line {self.number}: {remark}" for remark in remarks]
         for literal in signs_in(tree):
             rules.signs[abs(literal)] |= POSITIVE if literal > 0 else NEGATIVE

@@ -17,9 +17,10 @@ DEPTH = 200         # how deep brackets may stand in each other
 BINARY = "'and', 'or', 'implies', 'iff'"
 COUNT_STARTS = ("at", "exactly")
 OPERAND = "a name, 'not', '(', 'at most', 'at least' or 'exactly'"
+LIST = "here may come ',' or the list's end; "
 # what is said of a keyword in a list, which is either one that binds what it counts, or one that binds the whole count
-IN_LISTS = ("here may come ',' or the list's end; a list that is part of a formula stands in brackets: exactly one of (a, b)",
-            "here may come ',' or the list's end; a formula that counts as one stands in brackets: (a or b)")
+IN_LISTS = (LIST + "a list that is part of a formula stands in brackets: exactly one of (a, b)",
+            LIST + "a formula that counts as one stands in brackets: (a or b)")
 
 
 def formula_of(words, number_of):
@@ -91,7 +92,8 @@ class Reader:
         self.take()
         tree = self.disjunction()
         if self.word.kind in ("implies", "iff"):
-            raise Mistake(f"'{self.word.text}' can't come behind 'never ..'", self.word.at, "brackets say what is meant: never (..)")
+            raise Mistake(f"'{self.word.text}' can't come behind 'never ..'", self.word.at,
+                          "brackets say what is meant: never (..)")
         return ("not", tree)
 
     def disjunction(self):
@@ -139,7 +141,8 @@ class Reader:
         outer, self.in_list = self.in_list, False
         self.depth += 1
         if self.depth > DEPTH:
-            raise Mistake(f"more than {DEPTH} brackets stand in each other", begin.at, "a line of its own may name a part: x iff (..)")
+            raise Mistake(f"more than {DEPTH} brackets stand in each other", begin.at,
+                          "a line of its own may name a part: x iff (..)")
         tree = inside()
         if self.word.kind == "end":
             raise Mistake("the bracket that begins here has no end", begin.at, f"at the line's end may come {BINARY} or ')'")
@@ -170,11 +173,12 @@ class Reader:
 
     def how_many(self):
         word = self.word
-        text = word.text.lower()
-        if word.kind == "name" and not word.quoted and (text == "one" or text.isdecimal() and text.isascii() and len(text) < 10):
+        text = "1" if word.text.lower() == "one" else word.text
+        if word.kind == "name" and not word.quoted and text.isdecimal() and text.isascii() and len(text) < 10:
             self.take()
-            return 1 if text == "one" else int(text)
-        raise Mistake(f"a number is due in place of {self.named()}{number_meant(word.text)}", word.at, "here may come 'one', or a number as 2")
+            return int(text)
+        raise Mistake(f"a number is due in place of {self.named()}{number_meant(word.text)}", word.at,
+                      "here may come 'one', or a number as 2")
 
     def list_of(self, start):
         """The formulas of a list, which may stand in brackets of its own."""
@@ -186,7 +190,7 @@ class Reader:
         trees = self.items()
         self.in_list = outer
         if self.word.kind not in ("end", ")"):
-            self.refuse_behind("here may come ',', or the list's end; brackets around the list let it be part of a formula")
+            self.refuse_behind(LIST + "brackets around the list let it be part of a formula")
         return trees
 
     def items(self):
@@ -204,7 +208,8 @@ class Reader:
                 break
             self.take()
         if self.word.kind in ("and", "or", "implies", "iff"):
-            raise Mistake(f"'{self.word.text}' can't come in a list", self.word.at, IN_LISTS[self.word.kind in ("and", "or")])
+            raise Mistake(f"'{self.word.text}' can't come in a list", self.word.at,
+                          IN_LISTS[self.word.kind in ("and", "or")])
         self.in_list = outer
         return trees
 
@@ -230,9 +235,11 @@ class Reader:
         if word.kind == "end":
             raise Mistake("a formula is due at the line's end", word.at, f"here may come {OPERAND}")
         if word.kind == "never":
-            raise Mistake("'never' can't come here", word.at, "it begins a line, a bracket, or what is implied; else 'not' is the word")
+            raise Mistake("'never' can't come here", word.at,
+                          "it begins a line, a bracket, or what is implied; else 'not' is the word")
         if word.kind == "always":
-            raise Mistake("'always' is no literal", word.at, "[always] is a line of its own; a name that is a keyword stands in quotes")
+            raise Mistake("'always' is no literal", word.at,
+                          "[always] is a line of its own; a name that is a keyword stands in quotes")
         hint = f". Is '{MEANT[word.text]}' meant?" if word.kind == "other" else ""
         raise Mistake(f"'{word.text}' can't come here{hint}", word.at, f"here may come {OPERAND}")
 

@@ -21,6 +21,7 @@ NAMES = "a name is letters, digits and any of _ - . + : = / ~ @; any other text 
 LIST = "here may come ',' or the list's end; a formula that counts as one stands in brackets: (a or b)"
 COUNT = "here may come ',' or the list's end; a list that is part of a formula stands in brackets: exactly one of (a, b)"
 HEAD = "a rule begins with [NAME]"
+SCREEN = "'screen' can't come here: a name with a blank in it stands in quotes, \"touch screen\""
 QUOTES = 'a name in quotes is "any text"'
 # A line with | before the place, what is told of it, and what may come there.
 MISTAKES = (
@@ -38,7 +39,7 @@ MISTAKES = (
     ("a |unless b", "'unless' can't come here: 'b implies a' says that a holds if b does", OPERATOR),
     ("if |a then b", "'a' can't come here: without 'if', 'a implies b' says that b holds if a does", OPERATOR),
     ("nver |a and b", "'a' can't come here. Is 'never' meant in place of 'nver'?", OPERATOR),
-    ("touch |screen implies glossy", "'screen' can't come here: a name with a blank in it stands in quotes, \"touch screen\"", OPERATOR),
+    ("touch |screen implies glossy", SCREEN, OPERATOR),
     ("a|, b", "',' can't come here: commas stand in the lists of counts alone", "such as: at most one of a, b"),
     ("a or|", "a formula is due at the line's end", OPERAND),
     ("|and b", "'and' can't come here", OPERAND),
@@ -48,7 +49,8 @@ MISTAKES = (
     ("a iff b |iff c", "'iff' stands twice", "brackets say which comes first: (a iff b) iff c"),
     ("a or |(b", "the bracket that begins here has no end", "at the line's end may come 'and', 'or', 'implies', 'iff' or ')'"),
     ("a or b|)", "')' can't come here: no bracket is open", OPERATOR),
-    ("(a |b)", "'b' can't come here: a name with a blank in it stands in quotes, \"a b\"", "here may come 'and', 'or', 'implies', 'iff' or ')'"),
+    ("(a |b)", "'b' can't come here: a name with a blank in it stands in quotes, \"a b\"",
+     "here may come 'and', 'or', 'implies', 'iff' or ')'"),
     ("one |of a, b", "'of' can't come here: a count begins with 'at most', 'at least' or 'exactly'", OPERATOR),
     ("at |mst one of a", "'mst' can't come here. Is 'most' meant?", OPERATOR),
     ("at most |two of a, b", "a number is due in place of 'two'. Is '2' meant?", "here may come 'one', or a number as 2"),
@@ -56,7 +58,8 @@ MISTAKES = (
     ("at least 2 |a, b", "'of' is due in place of 'a'", "a count is 'at most 2 of a, b, c'"),
     ("exactly one of a, b |or c", "'or' can't come in a list", LIST),
     ("exactly 2 of a, b |implies c", "'implies' can't come in a list", COUNT),
-    ("at most one of a, |at most 1 of b, c", "a count in a list needs brackets around its own list", "such as: at most one of (a, b)"),
+    ("at most one of a, |at most 1 of b, c", "a count in a list needs brackets around its own list",
+     "such as: at most one of (a, b)"),
     ("exactly one of a, b, |a", "a literal stands twice in this list", "each literal counts once"),
     ("a or b|.", "a name doesn't end with '.' without quotes", NAMES),
     ("a|: b", "a name doesn't end with ':' without quotes", NAMES),
@@ -65,7 +68,7 @@ MISTAKES = (
     ('"a|\\n"', "'\\n' says nothing in a quoted name", 'in a quoted name stand \\" for " and \\\\ for \\'),
     ('a or |""', "nothing stands in these quotes", QUOTES),
     ("日本語 or (日本|; x)", "a name has no ';' without quotes", NAMES),
-    ("touch |screen implies a!", "'screen' can't come here: a name with a blank in it stands in quotes, \"touch screen\"", OPERATOR),
+    ("touch |screen implies a!", SCREEN, OPERATOR),
     ("[x|", "no rule begins here: its ']' is missing", HEAD),
     ("[x]| a", "behind ']' stands nothing but a comment", "the lines of a rule stand below its [NAME]"),
     ("[| ]", "a rule without a name", HEAD),
@@ -210,7 +213,8 @@ class Mistakes(unittest.TestCase):
         for marked, told, may in MISTAKES:
             line, before = marked.replace("|", "", 1), marked.partition("|")[0]
             blanks = " " * sum(2 if char in "日本語" else 1 for char in before)
-            self.assertEqual(refusal(f"[r]\na\n{line}\n[end]\na"), f"f.rules: line 3: {told}\n    {line}\n    {blanks}^\n  {may}", marked)
+            wanted = f"f.rules: line 3: {told}\n    {line}\n    {blanks}^\n  {may}"
+            self.assertEqual(refusal(f"[r]\na\n{line}\n[end]\na"), wanted, marked)
 
     def test_texts_without_what_they_need(self):
         ask = "  below it comes what it asks for, such as: a implies b"
@@ -230,7 +234,7 @@ class Mistakes(unittest.TestCase):
     def test_a_long_line_is_shown_around_its_place(self):
         told = refusal("[r]\n" + "a or " * 2000 + "b\x1b c").split("\n")
         self.assertEqual(told[0], "f.rules: line 2: a name has no 'U+001B' without quotes")
-        self.assertEqual((told[1][:7], told[1][-3:], told[2].rstrip("^")), ("    .. ", "b\ufffd c"[-3:], " " * told[1].index("\ufffd")))
+        self.assertEqual((told[1][:7], told[1][-3:], told[2]), ("    .. ", "\ufffd c", " " * told[1].index("\ufffd") + "^"))
         self.assertLess(len(told[1]), 120)
 
     def test_limits_are_told_at_their_line(self):
@@ -254,7 +258,8 @@ class Mistakes(unittest.TestCase):
         for deep, told in ((200, None), (201, "f.rules: line 2: more than 200 brackets stand in each other")):
             said = refusal("[r]\n" + "(a or not " * deep + "b" + ")" * deep)
             self.assertEqual(said and said.split("\n")[0], told)
-        for nested in ("(a iff b or c and not at least 2 of d, e, {})", "(not exactly 2 of a, (b iff {}), c, d, e, f, g, h, i)"):
+        for nested in ("(a iff b or c and not at least 2 of d, e, {})",
+                       "(not exactly 2 of a, (b iff {}), c, d, e, f, g, h, i)"):
             text = "x"
             for _ in range(200 // nested.count("(")):
                 text = nested.format(text)
@@ -286,8 +291,8 @@ class Notes(unittest.TestCase):
                 ("slot_11 and slot_12 and slot_1_2 and n:int and m:int and fan and fans", [f"r: 7 names {others}"]),
                 ("x-on and X_on", ["r: line 2: 'x-on' stands with one sign only. Is 'X_on' meant?",
                                    "r: line 2: 'X_on' stands with one sign only. Is 'x-on' meant?"]),
-                ("c# implies dotnet\nnot c", ["r: line 2: '#' begins a comment, though it stands right behind 'c': a name with '#' stands "
-                                              "in quotes"]),
+                ("c# implies dotnet\nnot c",
+                 ["r: line 2: '#' begins a comment, though it stands right behind 'c': a name with '#' stands in quotes"]),
                 ("at least 3 of a, b\nnot a or not b", ["r: line 2: 3 of a list of 2 never hold"]),
         ):
             self.assertEqual(rules.read(f"[r]\n{lines}", "r").notes(), wanted, lines)

@@ -36,6 +36,7 @@ p gcnf 3 4 2
 c rule 2 x implies "a y" and z
 {0} -1 2 0
 {0} -1 3 0
+c group 0 as it is
 c group 1 the first
 c rule 5 x
 {1} 1 0
@@ -99,17 +100,18 @@ class Followed(unittest.TestCase):
         self.assertEqual(list(used(PLAIN, turned)), [(1, 2), (1, 3, 4)])
 
     def test_other_files(self):
+        record = "u 1 2 0\nd 5 -3 -4 0 1 2 0\nr 0 5\nw 1 0\nw 2 1 0\n"
         for what, file, text, wanted in (
-                ("the background clashes", "p gcnf 1 2 1\n{0} 1 0\n{0} -1 0\n", "p gmev 1 1 2 1\nu 0\nd 3 0 1 2 0\nr 0 3\ne partial\n", {(): [1, 2]}),
+                ("the background clashes", "p gcnf 1 2 1\n{0} 1 0\n{0} -1 0\n",
+                 "p gmev 1 1 2 1\nu 0\nd 3 0 1 2 0\nr 0 3\ne partial\n", {(): [1, 2]}),
                 ("an empty clause", "p gcnf 0 1 1\n{1} 0\n", "p gmev 1 0 1 1\nu 1 0\nr 0 1\nw 1 0\ne partial\n", {(1,): [1]}),
-                ("the background helps", "p gcnf 1 2 1\n{0} -1 0\n{1} 1 0\n", "p gmev 1 1 2 1\nu 1 0\nd 3 -2 0 1 2 0\nr 0 3\nw 1 0\ne partial\n",
-                 {(1,): [1, 2]}),
+                ("the background helps", "p gcnf 1 2 1\n{0} -1 0\n{1} 1 0\n",
+                 "p gmev 1 1 2 1\nu 1 0\nd 3 -2 0 1 2 0\nr 0 3\nw 1 0\ne partial\n", {(1,): [1, 2]}),
                 ("no conflict", "p gcnf 0 0 0\n", "p gmev 1 0 0 0\nm 0\nw 0 0\nx 1\ne complete\n", {}),
-                ("a CNF file", "p cnf 2 4\n1 0\n-1 0 -1\n2 0\n-2 0", HEAD + "u 1 2 0\nd 5 -3 -4 0 1 2 0\nr 0 5\nw 1 0\nw 2 1 0\ne partial\n",
-                 {(1, 2): [1, 2]}),
+                ("a CNF file", "p cnf 2 4\n1 0\n-1 0 -1\n2 0\n-2 0", HEAD + record + "e partial\n", {(1, 2): [1, 2]}),
                 ("a layout of its own", "p gcnf\n 2 4 4\r\n{ 1 }1 0\n\tc x\n{2} -1 0 {3} -1\n2 0\n{4} -2 0",
-                 HEAD + "u 1 2 0\nd 5 -3 -4 0 1 2 0\nr 0 5\nw 1 0\nw 2 1 0\ne partial\n", {(1, 2): [1, 2]}),
-                ("version 2", PLAIN, "p gmev 2 2 4 4\nm 1 0\nt 2 3\nw 0 0\nt 5 6\nr 1 5\nu 1 2 0\nd 5 -3 -4 0 1 2 0\nr 0 5\nw 1 0\nw 2 1 0\ne partial\n",
+                 HEAD + record + "e partial\n", {(1, 2): [1, 2]}),
+                ("version 2", PLAIN, "p gmev 2 2 4 4\nm 1 0\nt 2 3\nw 0 0\nt 5 6\nr 1 5\n" + record + "e partial\n",
                  {(1, 2): [1, 2]}),
         ):
             self.assertEqual(used(file, text), wanted, what)
@@ -148,7 +150,8 @@ class Followed(unittest.TestCase):
                 (record.replace("r 0 5", "r 0 1"), "e: line 4: 17 NotRefuting"),
                 (record.replace("r 0 5", "r 1 5"), "e: line 4: 1 BadLine"),
                 (record.replace("r 0 5\n", ""), "e: line 4: 1 BadLine"),
-                (record.replace("u 1 2 0", "u 1 2 3 0"), "e: line 4: this conflict is not minimal: its refutation rests on no clause of group 3"),
+                (record.replace("u 1 2 0", "u 1 2 3 0"), "e: line 4: this conflict is not minimal: its refutation rests on no "
+                                                         "clause of group 3"),
         ):
             with self.assertRaises(telling.Refused, msg=text) as refused:
                 used(PLAIN, text)
@@ -187,7 +190,7 @@ Conflict 1 of 1: the first; the <second>
 
 These lines can't all hold together.
 
-What always holds
+What always holds: as it is
     line 2  x implies "a y" and z
 the first
     line 5  x
@@ -199,7 +202,8 @@ the <second>
         without = "".join(line + "\n" for line in RULED.split("\n")[:-1] if not line.startswith("c rule"))
         of = problem(without.replace("c variable 1 x\n", ""))
         reason = next(why.reasons(of, evidence(RULED_EVIDENCE, of)))
-        self.assertEqual(reason.parts, [(0, [("clause 1", 'not 1 or "a y"')]), (1, [("clause 3", "1")]), (2, [("clause 4", 'not "a y"')])])
+        self.assertEqual(reason.parts, [(0, [("clause 1", 'not 1 or "a y"')]), (1, [("clause 3", "1")]),
+                                        (2, [("clause 4", 'not "a y"')])])
 
     def test_a_rule_counts_up_to_a_clause_of_another_group(self):
         of = problem("c group 1 a\nc group 1 b\np gcnf 1 4 2\n{1} 1 0\nc rule 3 x\x1b[2J\n{1} 1 0 {1} 1 0\n{2} 1 0\n")
@@ -239,7 +243,8 @@ the <second>
                     ([FIRST, EVIDENCE, "2", "--html"], 0, b""),
                     ([FIRST, EVIDENCE, "3"], 1, f"why.py: {EVIDENCE}: there is no conflict 3: it has 2\n".encode()),
                     ([EVIDENCE, FIRST], 1, f"why.py: {EVIDENCE}: line 1: this is no GCNF file".encode()),
-                    ([laptop, EVIDENCE], 1, f"why.py: {EVIDENCE}: line 1: 4 OtherProblem: this is no evidence about {laptop}\n".encode()),
+                    ([laptop, EVIDENCE], 1,
+                     f"why.py: {EVIDENCE}: line 1: 4 OtherProblem: this is no evidence about {laptop}\n".encode()),
                     ([FIRST, os.path.join(EXAMPLES, "first.report")], 1, b"why.py: "),
                     ([FIRST, FIRST], 1, f"why.py: {FIRST}: line 1: this is no evidence of gmus".encode()),
                     ([FIRST, cut], 1, f"why.py: {cut}: line ".encode()),
@@ -266,9 +271,16 @@ def chance_problem(draw):
     clauses = []
     for _ in range(count):
         size = 0 if draw.random() < 0.01 else draw.choice((1, 2, 2, 3, 3, 3))
-        clauses.append((draw.choice([0] + list(range(1, groups + 1))), [draw.choice((1, -1)) * draw.randint(1, variables) for _ in range(size)]))
+        lits = [draw.choice((1, -1)) * draw.randint(1, variables) for _ in range(size)]
+        clauses.append((draw.randint(0, groups), lits))
     lines = [" ".join([f"{{{group}}}", *map(str, lits), "0"]) for group, lits in clauses]
     return f"p gcnf {variables} {count} {groups}\n" + "\n".join(lines) + "\n", variables, clauses
+
+
+def can_hold(variables, clauses):
+    """Whether one of all assignments makes the clauses true."""
+    return any(all(any(lit * values[abs(lit) - 1] > 0 for lit in lits) for lits in clauses)
+               for values in itertools.product((1, -1), repeat=variables))
 
 
 @unittest.skipUnless(os.access(GMUS, os.X_OK), f"the program is not built ({GMUS}), so no evidence of it is tried")
@@ -290,8 +302,7 @@ class Program(unittest.TestCase):
                     for at, groups in enumerate(found.conflicts):
                         used = [clauses[clause - 1] for clause in found.clauses_of(at)]
                         self.assertEqual({group for group, _ in used} - {0}, set(groups), (number, groups))
-                        for values in itertools.product((1, -1), repeat=variables):
-                            self.assertFalse(all(any(lit * values[abs(lit) - 1] > 0 for lit in lits) for _, lits in used), (number, groups))
+                        self.assertFalse(can_hold(variables, [lits for _, lits in used]), (number, groups))
                         conflicts += 1
         self.assertGreater(conflicts, 10)
 

@@ -63,7 +63,8 @@ class Page:
         return f"Conflict {reason.number} of {self.count}: {names}"
 
     def part_name(self, part):
-        return self.problem.name(part.group) if part.group else ALWAYS
+        name = self.problem.group_names.get(0)
+        return self.problem.name(part.group) if part.group else f"{ALWAYS}: {name}" if name else ALWAYS
 
 
 def as_text(page):
@@ -79,9 +80,11 @@ def as_text(page):
 
 
 STYLE = """
-body { font: 16px/1.45 system-ui, sans-serif; max-width: 52rem; margin: 2rem auto; padding: 0 1rem; color: #222; background: #fff }
+body { font: 16px/1.45 system-ui, sans-serif; max-width: 52rem; margin: 2rem auto; padding: 0 1rem }
+body { color: #222; background: #fff }
 h1 { font-size: 1.5rem } h2 { font-size: 1.2rem; margin-top: 2rem } h1, h2, dt, code { overflow-wrap: anywhere }
-dt { font-weight: 600; margin-top: .6rem } dd { margin: .1rem 0 .1rem 1.2rem } dd span { color: #666; display: inline-block; min-width: 5.5rem }
+dt { font-weight: 600; margin-top: .6rem } dd { margin: .1rem 0 .1rem 1.2rem } code { white-space: pre-wrap }
+dd span { color: #666; display: inline-block; min-width: 5.5rem }
 @media print { body { margin: 0; max-width: none; font-size: 11pt } section { break-inside: avoid } }
 """
 
@@ -95,7 +98,8 @@ def as_html(page):
         f"<h1>{text(page.title)}</h1>", f"<p>{text(page.summary())}</p>",
     ]
     for reason in page.reasons:
-        parts += [f'<section id="c{reason.number}">', f"<h2>{text(page.heading(reason))}</h2>", f"<p>{text(MEANING)}</p>", "<dl>"]
+        parts += [f'<section id="c{reason.number}">', f"<h2>{text(page.heading(reason))}</h2>", f"<p>{text(MEANING)}</p>",
+                  "<dl>"]
         for part in reason.parts:
             parts.append(f"<dt>{text(page.part_name(part))}</dt>")
             parts += [f"<dd><span>{text(place)}</span> <code>{text(line)}</code></dd>" for place, line in part.lines]

@@ -66,10 +66,10 @@ class Evidence:
 
     def numbers(self, number, line, greatest):
         """The numbers of a set, which ascend."""
-        words = self.integers(number, line[2:])
-        if words[-1:] != [0] or any(a >= b for a, b in zip([0] + words[:-2], words[:-1])) or words[:-1] and words[-2] > greatest:
+        *groups, end = self.integers(number, line[2:])
+        if end != 0 or any(first >= second for first, second in zip([0, *groups], [*groups, greatest + 1])):
             self.refuse(number, "2 BadNumber: this is no set of groups")
-        return tuple(words[:-1])
+        return tuple(groups)
 
     def integers(self, number, text):
         """The numbers of a text, with a blank between each two."""
@@ -123,7 +123,7 @@ class Refutation:
         if not 1 <= identity <= LARGEST_ID:
             self.evidence.refuse(number, "2 BadNumber: a step's id is due here")
         if identity <= (self.ids[-1] if self.ids else self.inputs):
-            self.evidence.refuse(number, f"14 IdNotRising: step {identity} stands behind a clause of this id or a greater one")
+            self.evidence.refuse(number, f"14 IdNotRising: step {identity} is not above each clause before it")
         self.ids.append(identity)
         self.texts.append(words[2])
 
@@ -163,7 +163,7 @@ class Refutation:
             self.evidence.refuse(number, f"16 UnknownClause: no clause has the id {goal}")
         selectors = {-(self.evidence.problem.variables + group) for group in groups}
         if any(lit not in selectors for lit in clause):
-            self.evidence.refuse(number, f"17 NotRefuting: clause {goal} has another literal than a negated selector of the set")
+            self.evidence.refuse(number, f"17 NotRefuting: clause {goal} has a literal that is no negated selector of the set")
         inputs, needed = set(), bytearray(len(self.ids))
         self.mark(goal, inputs, needed)
         for place in range(len(self.ids) - 1, -1, -1):

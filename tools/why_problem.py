@@ -99,7 +99,7 @@ class Reader:
             self.rule, self.rule_group = len(problem.rules) - 1, None
 
     def is_header_read(self):
-        return self.header[:2] == [b"p", b"gcnf"] and len(self.header) == 5 or self.header[:2] == [b"p", b"cnf"] and len(self.header) == 4
+        return len(self.header) == (4 if self.header[1:2] == [b"cnf"] else 5)
 
     def words(self, line):
         words = line.replace(b"{", b" { ").replace(b"}", b" } ").split()
@@ -108,7 +108,8 @@ class Reader:
         if not self.is_header_read():
             words = self.read_header(words)
         try:
-            if self.clause is None and self.group is None and words[-1:] == [b"0"] and words.count(b"0") == 1 + (words[:2] == [b"{", b"0"]):
+            zeros = 1 + (words[:2] == [b"{", b"0"])
+            if self.clause is None and self.group is None and words[-1:] == [b"0"] and words.count(b"0") == zeros:
                 self.whole_clause(words)
             else:
                 for word in words:
