@@ -60,9 +60,9 @@ def text_of(draw, tree, tighter_than=-1):
         number = "one" if tree[3] == 1 else tree[3]
         text = f"{tree[2]} {number} of ({', '.join(text_of(draw, part, 3) for part in parts)})"
     elif kind == "implies":
-        text = f"{text_of(draw, parts[0], 1)} implies {text_of(draw, parts[1], 0)}"
+        text = f"{text_of(draw, parts[0], 1)} implies {text_of(draw, parts[1], int(parts[1][0] == 'never'))}"
     elif kind == "iff":
-        text = " iff ".join(text_of(draw, part, 1 if part[0] == "never" else 0) for part in parts)
+        text = " iff ".join(text_of(draw, part, int(part[0] == "never")) for part in parts)
     else:
         text = f" {kind} ".join(text_of(draw, part, TIGHTNESS[kind]) for part in parts)
     return f"({text})" if TIGHTNESS[kind] <= tighter_than or draw.random() < 0.1 else text
