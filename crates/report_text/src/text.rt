@@ -1,5 +1,6 @@
 //! The report's text.
-ghost use Rattle.std.specs.Prelude.{◌≡◌, ◌++◌, codes, OnOk, IfOk};
+ghost use Rattle.std.specs.Prelude.{◌≡◌, ◌++◌, codes, if◌then◌else◌, OnOk, IfOk};
+ghost use Rattle.std.specs.Fmt.{decimal};
 ghost use Rattle.std.specs.List.{flat_map};
 ghost use Rattle.gm_base.specs.Lent.{lists_of};
 ghost use Rattle.report_text.specs.Report.{report_text, set_line};
@@ -16,14 +17,21 @@ fn push_text(out: &mut Vec<u8>, text: &str) -> Result<(), AllocError>
     out.extend_from_slice(text.as_bytes())
 }
 
+/// A group behind a blank.
+fn push_group(out: &mut Vec<u8>, g: u32) -> Result<(), AllocError>
+    ensures { OnOk result (out.new.items ≡ out.old.items ++ (codes " " ++ decimal g)) }
+{
+    push_text(out, " ")?;
+    put_number(out, i128::from(g))
+}
+
 /// A line: a letter, the groups and 0.
 fn push_set(out: &mut Vec<u8>, letter: &str, set: &GroupSet) -> Result<(), AllocError>
     ensures { OnOk result (out.new.items ≡ out.old.items ++ set_line letter.now set.now) }
 {
     push_text(out, letter)?;
     for g in set.as_slice() {
-        push_text(out, " ")?;
-        put_number(out, i128::from(*g))?;
+        push_group(out, *g)?;
     }
     push_text(out, " 0\n")
 }
@@ -35,6 +43,34 @@ fn push_sets(out: &mut Vec<u8>, letter: &str, sets: &[&GroupSet]) -> Result<(), 
         push_set(out, letter, set)?;
     }
     Ok(())
+}
+
+/// The lines before the sets: the number of groups, and whether all sets are there.
+fn push_head(out: &mut Vec<u8>, groups: u32, complete: bool) -> Result<(), AllocError>
+    ensures { OnOk result (out.new.items ≡ out.old.items ++ (codes "p gmus " ++ decimal groups ++ codes "\n" ++ (if complete then codes "s COMPLETE\n" else codes "s PARTIAL\n"))) }
+{
+    push_text(out, "p gmus ")?;
+    put_number(out, i128::from(groups))?;
+    push_text(out, "\n")?;
+    push_text(
+        out,
+        if complete {
+            "s COMPLETE\n"
+        } else {
+            "s PARTIAL\n"
+        },
+    )
+}
+
+/// The last line: how many sets there are of each kind.
+fn push_counts(out: &mut Vec<u8>, conflicts: usize, corrections: usize) -> Result<(), AllocError>
+    ensures { OnOk result (out.new.items ≡ out.old.items ++ (codes "e " ++ decimal conflicts ++ codes " " ++ decimal corrections ++ codes "\n")) }
+{
+    push_text(out, "e ")?;
+    put_number(out, conflicts as i128)?;
+    push_text(out, " ")?;
+    put_number(out, corrections as i128)?;
+    push_text(out, "\n")
 }
 
 /// The report of sets in the order in which they stand.
@@ -49,24 +85,10 @@ fn text_in_order(
     ensures { IfOk result (λ text. text.items ≡ report_text groups complete (lists_of conflicts.now) (lists_of corrections.now)) }
 {
     let mut out = Vec::new(alloc);
-    push_text(&mut out, "p gmus ")?;
-    put_number(&mut out, i128::from(groups))?;
-    push_text(&mut out, "\n")?;
-    push_text(
-        &mut out,
-        if complete {
-            "s COMPLETE\n"
-        } else {
-            "s PARTIAL\n"
-        },
-    )?;
+    push_head(&mut out, groups, complete)?;
     push_sets(&mut out, "u", conflicts)?;
     push_sets(&mut out, "m", corrections)?;
-    push_text(&mut out, "e ")?;
-    put_number(&mut out, conflicts.len() as i128)?;
-    push_text(&mut out, " ")?;
-    put_number(&mut out, corrections.len() as i128)?;
-    push_text(&mut out, "\n")?;
+    push_counts(&mut out, conflicts.len(), corrections.len())?;
     Ok(out)
 }
 
