@@ -1,6 +1,7 @@
 //! Adding to lists whose lengths and numbers fit 32 bits. What does not fit is answered as want of memory.
 ghost use Rattle.std.specs.Prelude.{◌≡◌, ◌+◌, ◌++◌, ◌<◌, ◌^◌, ◌↔◌, All, IsTrue, IfOk, OnOk, OnErr};
 
+use sat_base::Lit;
 use std::alloc::AllocError;
 
 /// Where a list of this length ends once so many more were added.
@@ -16,8 +17,25 @@ pub fn end_of(len: usize, more: usize) -> Result<u32, AllocError>
     Ok(end)
 }
 
-/// Adds hints at the end, all or none.
-pub fn push_hints(hints: &mut Vec<u32>, more: &[u64]) -> Result<(), AllocError>
+/// Adds literals and hints at the ends of their lists, all or none.
+pub fn push_both(
+    lits: &mut Vec<Lit>,
+    hints: &mut Vec<u32>,
+    more_lits: &[Lit],
+    more_hints: &[u64],
+) -> Result<(), AllocError>
+    ensures lits { OnOk result (lits.new.items ≡ lits.old.items ++ more_lits.now) }
+    ensures hints { OnOk result (hints.new.items ≡ hints.old.items ++ more_hints.now) }
+    ensures err_lits { OnErr result (lits.new.items ≡ lits.old.items) }
+    ensures err_hints { OnErr result (hints.new.items ≡ hints.old.items) }
+{
+    lits.reserve(more_lits.len())?;
+    push_hints(hints, more_hints)?;
+    lits.extend_from_slice(more_lits)
+}
+
+// Adds hints at the end, all or none.
+fn push_hints(hints: &mut Vec<u32>, more: &[u64]) -> Result<(), AllocError>
     ensures ok { OnOk result (hints.new.items ≡ hints.old.items ++ more.now) }
     ensures err { OnErr result (hints.new.items ≡ hints.old.items) }
 {

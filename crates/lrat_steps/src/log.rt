@@ -8,19 +8,20 @@
 //!
 //! Among the steps stand marks of the clauses that were forgotten. A mark takes no id, so the marks lie in a list of
 //! their own, each with the number of the steps before it, and the id of a step is the place of its record.
-ghost use Rattle.std.specs.Prelude.{◌≡◌, ◌<◌, ◌≤◌, ◌++◌, ◌∷◌, [], length, IfOk, OnOk, OnErr, Some, List, ℤ};
+ghost use Rattle.std.specs.Prelude.{◌≡◌, ◌<◌, ◌≤◌, ◌+◌, ◌^◌, ◌++◌, ◌∷◌, [], length, IfOk, OnOk, OnErr, Some, List, ℤ};
 ghost use Rattle.sat_base.specs.Derivation.{clause_of};
 ghost use Rattle.sat_base.specs.Database.{known_of};
 ghost use Rattle.lrat_steps.specs.Log.{Forgot, step_of, steps_of, step_at, lits_of, hints_of, kind_of, learned_count, inputs_of, db_of};
+ghost use Rattle.lrat_steps.specs.Parts.{inputs_in};
 ghost use Rattle.lrat_steps.specs.Forgetting.{IsLiveLearned, live_count};
 ghost use Rattle.lrat_steps.specs.Cone.{inputs_up_to, IsBackward};
 ghost use Rattle.lrat_steps.specs.Honest.{IsHonest};
 ghost use Rattle.lrat_steps.specs.Trimmed.{IsTrimmed};
 
-use crate::arena::{end_of, push_hints};
+use crate::arena::{end_of, push_both};
 use crate::cone::cone_of;
 use crate::renumber::derivation_of;
-use crate::step::{LogStep, StepKind, counts_of, parts_of};
+use crate::step::{LogStep, Parts, StepKind, counts_of, parts_of};
 use sat_base::{Derivation, Lit};
 use std::alloc::{AllocError, Global};
 use std::marker::Model;
@@ -92,32 +93,24 @@ impl Log {
         ensures err { OnErr result (self.new ≡ self.old) }
     {
         let parts = parts_of(step);
-        let id = end_of(self.steps.len(), 1)?;
-        let lits_to = end_of(self.lits.len(), parts.lits.len())?;
-        let hints_to = end_of(self.hints.len(), parts.hints.len())?;
+        let record = next_record(
+            self.steps.len(),
+            self.lits.len(),
+            self.hints.len(),
+            self.inputs,
+            parts,
+        )?;
         // Room first, so that all is as it was where there is none.
         self.steps.reserve(1)?;
-        self.lits.reserve(parts.lits.len())?;
-        let lits_from = self.lits.len() as u32;
-        let hints_from = self.hints.len() as u32;
-        push_hints(&mut self.hints, parts.hints)?;
-        self.lits.extend_from_slice(parts.lits)?;
-        let (more_inputs, more_learned) = counts_of(parts.kind);
-        let inputs = self.inputs + more_inputs;
+        push_both(&mut self.lits, &mut self.hints, parts.lits, parts.hints)?;
+        let (_, more_learned) = counts_of(parts.kind);
         let learned = self.learned + more_learned;
         let live = self.live + more_learned;
-        self.steps.push_reserved(StepRecord {
-            kind: parts.kind,
-            lits_from,
-            lits_to,
-            hints_from,
-            hints_to,
-            inputs,
-        });
-        self.inputs = inputs;
+        self.steps.push_reserved(record);
+        self.inputs = record.inputs;
         self.learned = learned;
         self.live = live;
-        Ok(u64::from(id))
+        Ok(self.steps.len() as u64)
     }
 
     /// Marks that a learnt clause, which is live, is so no more. Its step stays, and may be named still.
@@ -249,4 +242,37 @@ impl Log {
     {
         self.steps[(id - 1) as usize].inputs
     }
+}
+
+// The record of a step behind so many steps, literals, hints and inputs, where its numbers fit.
+fn next_record(
+    steps: usize,
+    lits: usize,
+    hints: usize,
+    inputs: u32,
+    parts: Parts<'_>,
+) -> Result<StepRecord, AllocError>
+    requires { inputs ≤ steps }
+    ensures few { OnOk result (steps + 1 < 2 ^ 32) }
+    ensures record { IfOk result (λ next. next ≡ record {
+      kind = parts.entry.kind;
+      lits_from = lits;
+      lits_to = lits + length parts.entry.lits.now;
+      hints_from = hints;
+      hints_to = hints + length parts.entry.hints.now;
+      inputs = inputs + inputs_in parts.entry.kind;
+    }) }
+{
+    let _id = end_of(steps, 1)?;
+    let lits_to = end_of(lits, parts.lits.len())?;
+    let hints_to = end_of(hints, parts.hints.len())?;
+    let (more_inputs, _) = counts_of(parts.kind);
+    Ok(StepRecord {
+        kind: parts.kind,
+        lits_from: lits as u32,
+        lits_to,
+        hints_from: hints as u32,
+        hints_to,
+        inputs: inputs + more_inputs,
+    })
 }

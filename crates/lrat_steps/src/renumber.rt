@@ -2,10 +2,10 @@
 //!
 //! A derivation numbers its clauses anew: the inputs from 1, in the order of the log, and the steps on from there. So
 //! an input gets its number among the inputs, and a derived step its place among those that the goal needs.
-ghost use Rattle.std.specs.Prelude.{◌≡◌, ℕ, ◌<◌, ◌≤◌, length, map, All, IfOk, OnOk};
+ghost use Rattle.std.specs.Prelude.{◌≡◌, ℕ, ◌<◌, ◌≤◌, [], ◌∷◌, ◌++◌, length, map, All, IfOk, OnOk};
 ghost use Rattle.sat_base.specs.Derivation.{max_id};
 ghost use Rattle.lrat_steps.specs.Log.{steps_of};
-ghost use Rattle.lrat_steps.specs.Cone.{IsBackward, IsCone, AreDerivedIds, IsReached, Ascends, place_in, number_in, hints_at, trimmed};
+ghost use Rattle.lrat_steps.specs.Cone.{IsBackward, IsCone, AreDerivedIds, IsReached, Ascends, place_in, number_in, hints_at, trimmed, trimmed_step};
 ghost use Rattle.sat_base.specs.Members.{In};
 
 use crate::cone::is_input;
@@ -27,12 +27,45 @@ pub fn derivation_of(
     ensures { IfOk result (λ d. d ≡ trimmed (steps_of log.now) goal cone.now) }
 {
     let mut builder = DerivationBuilder::new(alloc, number_of(log, cone, goal));
+    push_steps(log, alloc, cone, goal, &mut builder)?;
+    builder.finish(alloc)
+}
+
+// Adds the steps of a cone, in order. One list serves for the hints of each.
+fn push_steps(
+    log: &Log,
+    alloc: Global,
+    cone: &[u64],
+    goal: u64,
+    builder: &mut DerivationBuilder,
+) -> Result<(), AllocError>
+    requires backward { IsBackward (steps_of log.now) }
+    requires cone { IsCone (steps_of log.now) goal cone.now }
+    ensures { OnOk result (builder.new ≡ record builder.old { steps = builder.old.steps ++ map (trimmed_step (steps_of log.now) cone.now) cone.now }) }
+{
     let mut numbers = Vec::new(alloc);
     for id in cone {
-        renumber(log, cone, *id, &mut numbers)?;
-        builder.push(number_of(log, cone, *id), log.lits(*id), numbers.as_slice())?;
+        push_step(log, cone, *id, &mut numbers, builder)?;
     }
-    builder.finish(alloc)
+    Ok(())
+}
+
+// Adds a step of the cone.
+fn push_step(
+    log: &Log,
+    cone: &[u64],
+    id: u64,
+    numbers: &mut Vec<u64>,
+    builder: &mut DerivationBuilder,
+) -> Result<(), AllocError>
+    requires backward { IsBackward (steps_of log.now) }
+    requires cone { AreDerivedIds (steps_of log.now) cone.now }
+    requires has { In id cone.now }
+    requires reached { (h : ℕ) → In h (hints_at (steps_of log.now) id) → IsReached (steps_of log.now) cone.now h }
+    ensures { OnOk result (builder.new ≡ record builder.old { steps = builder.old.steps ++ trimmed_step (steps_of log.now) cone.now id ∷ [] }) }
+{
+    renumber(log, cone, id, numbers)?;
+    builder.push(number_of(log, cone, id), log.lits(id), numbers.as_slice())
 }
 
 // The hints of a step by their new numbers, in place of what was there.

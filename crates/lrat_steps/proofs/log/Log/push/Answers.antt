@@ -1,7 +1,6 @@
-use Rattle.std.proofs.Common.{◌+◌, ◌∷◌, [], ◌++◌, List, length, ap, sym, refl, ◌∙◌, arith}
-use Rattle.std.specs.Prelude.{ℤ}
+use Rattle.std.proofs.Common.{◌+◌, ◌∷◌, [], ◌++◌, List, length, ap, ap₂, sym, refl, ◌∙◌, arith}
 use Rattle.std.proofs.lemmas.List.{length-append, length_push}
-use Rattle.lrat_steps.specs.Parts.{step_with}
+use Rattle.lrat_steps.specs.Parts.{step_with, inputs_in}
 use Rattle.lrat_steps.specs.declared.log.StepRecord.{StepRecord}
 use Rattle.lrat_steps.specs.declared.log.Log.TheInside.{Inside}
 use Rattle.lrat_steps.specs.Log.{LogStep}
@@ -11,35 +10,36 @@ use Rattle.lrat_steps.proofs.LayoutLemmas.{IsPushed, log_pushed, laid_out_pushed
 use Rattle.lrat_steps.proofs.log.Log.push.Goals as goal
 
 -- the record that was added
-abbrev pushed_record : goal.After-from → StepRecord
+abbrev pushed_record : goal.After-len-4 → StepRecord
 pushed_record c =
     record {
       kind = c.parts_of-parts.result.kind;
-      lits_from = c.len-lits_from.result;
-      lits_to = c.in_ok-lits_to.lits_to;
-      hints_from = c.len-hints_from.result;
-      hints_to = c.in_ok-hints_to.hints_to;
-      inputs = c.self.inside.inputs + c.counts_of-more_inputs.result.0;
+      lits_from = c.len-2.result;
+      lits_to = c.len-2.result + length c.parts_of-parts.result.lits.now;
+      hints_from = c.len-3.result;
+      hints_to = c.len-3.result + length c.parts_of-parts.result.hints.now;
+      inputs = c.self.inside.inputs + inputs_in c.parts_of-parts.result.kind;
     }
 
-abbrev new_inside : goal.After-from → Inside
+abbrev new_inside : goal.After-len-4 → Inside
 new_inside c =
     record {
       steps = c.push_reserved.new.self;
-      lits = c.extend_from_slice.new.self;
-      hints = c.push_hints.new.hints;
-      inputs = c.self.inside.inputs + c.counts_of-more_inputs.result.0;
-      learned = c.self.inside.learned + c.counts_of-more_inputs.result.1;
+      lits = c.push_both.new.lits;
+      hints = c.push_both.new.hints;
+      inputs = c.in_ok-record.record.inputs;
+      learned = c.self.inside.learned + c.counts_of-more_learned.result.1;
       marks = c.self.inside.marks;
-      live = c.self.inside.live + c.counts_of-more_inputs.result.1;
+      live = c.self.inside.live + c.counts_of-more_learned.result.1;
     }
 
-pushed : (c : goal.After-from) → IsPushed c.self.inside (new_inside c) c.parts_of-parts.result.kind c.parts_of-parts.result.lits.now c.parts_of-parts.result.hints.now (pushed_record c)
+pushed : (c : goal.After-len-4) → IsPushed c.self.inside (new_inside c) c.parts_of-parts.result.kind c.parts_of-parts.result.lits.now c.parts_of-parts.result.hints.now (pushed_record c)
 pushed c =
+    let inputs = ap (λ (r : StepRecord). r.inputs) c.in_ok-record.ensures.record in
     record {
-      steps = c.push_reserved.ensures.items ∙ ap (λ (steps : List StepRecord). steps ++ pushed_record c ∷ []) c.reserve.ensures.items;
-      lits = c.in_ok-extend_from_slice.ensures.items ∙ ap (λ (lits : List ℤ). lits ++ c.parts_of-parts.result.lits.now) c.reserve-2.ensures.items;
-      hints = c.in_ok-push_hints.ensures.ok;
+      steps = c.push_reserved.ensures.items ∙ ap₂ (λ (steps : List StepRecord) (r : StepRecord). steps ++ r ∷ []) c.reserve.ensures.items c.in_ok-record.ensures.record;
+      lits = c.in_ok-push_both.ensures.lits;
+      hints = c.in_ok-push_both.ensures.hints;
       last =
           record {
             lits_from = omega arith;
@@ -49,12 +49,12 @@ pushed c =
             no_hints = c.parts_of-parts.ensures.no_hints;
           };
       is_kind = refl;
-      counted = refl;
-      inputs = ap (λ n. c.self.inside.inputs + n) c.counts_of-more_inputs.ensures.inputs;
-      learned = ap (λ n. c.self.inside.learned + n) c.counts_of-more_inputs.ensures.learned;
-      live = ap (λ n. c.self.inside.live + n) c.counts_of-more_inputs.ensures.learned;
+      counted = sym inputs;
+      inputs = inputs;
+      learned = ap (λ n. c.self.inside.learned + n) c.counts_of-more_learned.ensures.learned;
+      live = ap (λ n. c.self.inside.live + n) c.counts_of-more_learned.ensures.learned;
       marks = refl;
-      few = omega arith;
+      few = omega (arith, c.in_ok-record.ensures.few);
       one = omega arith;
     }
 
@@ -75,5 +75,4 @@ returns-clause-id c =
     let count = (read (new_inside c) (log_of (new_inside c)) refl).count in
     let one = length_push c.self.inside.steps.items (pushed_record c) in
     let all = ap length (pushed c).steps in
-    let id = c.in_ok-id.ensures in
     omega arith
