@@ -16,11 +16,13 @@
 //! Where there are at most 64 variables, a table beside the records has the literals of each clause as a set (`words.rt`).
 //!
 //! Places in the list of literals and ids are kept in 32 bits. A store that would outgrow them answers want of memory.
-ghost use Rattle.std.specs.Prelude.{◌≡◌, ℕ, ℤ, ◌+◌, ◌<◌, ◌≤◌, ◌^◌, ◌++◌, ◌∷◌, [], None, length, replicate, IfOk, OnOk, OnErr, IsOk};
+ghost use Rattle.std.specs.Prelude.{◌≡◌, ℕ, ℤ, ◌+◌, ◌<◌, ◌≤◌, ◌^◌, ◌++◌, ◌∷◌, [], None, false, min, length, replicate, vec_len, vec_capacity, is_ok, if◌then◌else◌, IfOk, OnOk, OnErr, IsOk};
 ghost use Rattle.sat_base.specs.Literals.{AreLiterals};
 ghost use Rattle.sat_base.specs.Database.{AreOver};
 ghost use Rattle.sat_base.specs.Forgotten.{forgotten};
 ghost use Rattle.clause_store.specs.Clauses.{clause_at, IsId, HasRoomFor};
+ghost use Rattle.clause_store.specs.Inner.{most};
+ghost use Rattle.clause_store.specs.Thirds.{mix_of};
 ghost use Rattle.clause_store.specs.Links.{watched_at, next_of, head_of, tail_of, park_of, KeepsLinks};
 
 use crate::thirds::mix;
@@ -97,14 +99,17 @@ impl Store {
         ensures false_id { IfOk result (λ store. store.false_id ≡ 0) }
     {
         let rows = 2 * vars as usize + 2;
+        let heads = no_clauses(alloc, rows)?;
+        let tails = no_clauses(alloc, rows)?;
+        let parks = no_clauses(alloc, rows)?;
         Ok(Store {
             vars,
             lits: Vec::new(alloc),
             records: Vec::new(alloc),
             words: Vec::new(alloc),
-            heads: no_clauses(alloc, rows)?,
-            tails: no_clauses(alloc, rows)?,
-            parks: no_clauses(alloc, rows)?,
+            heads,
+            tails,
+            parks,
             false_id: 0,
         })
     }
@@ -157,23 +162,12 @@ impl Store {
         ensures room { self.old.room ≤ self.new.room + 1 }
         ensures literal_room { self.old.literal_room ≤ self.new.literal_room + length lits.now }
     {
-        if self.records.len() == MOST || lits.len() > MOST - self.lits.len() {
-            return Err(AllocError);
-        }
         let start = self.lits.len() as u32;
-        self.records.reserve(1)?;
-        self.lits.extend_from_slice(lits)?;
+        add_lits(&mut self.lits, &mut self.records, lits)?;
         let end = self.lits.len() as u32;
         keep_words(&mut self.words, self.vars, self.records.len(), lits);
-        self.records.push_reserved(ClauseRecord {
-            watched: [Lit::new(1), Lit::new(1)],
-            next: [0, 0],
-            start,
-            end,
-            third: mix(lits),
-            live,
-            is_watched: false,
-        });
+        self.records
+            .push_reserved(new_record(lits, start, end, live));
         Ok(self.records.len() as u64)
     }
 
@@ -218,5 +212,47 @@ impl Store {
         ensures { result ≡ (clause_at self.now.clauses id).live }
     {
         self.records[(id - 1) as usize].live
+    }
+}
+
+// Adds the literals of a clause, and makes room for its record.
+fn add_lits(
+    lits: &mut Vec<Lit>,
+    records: &mut Vec<ClauseRecord>,
+    more: &[Lit],
+) -> Result<(), AllocError>
+    requires lits { vec_len lits.old ≤ most }
+    requires records { vec_len records.old ≤ most }
+    ensures lits { lits.new.items ≡ (if is_ok result then lits.old.items ++ more.now else lits.old.items) }
+    ensures len { vec_len lits.new ≡ (if is_ok result then vec_len lits.old + length more.now else vec_len lits.old) }
+    ensures small { vec_len lits.new ≤ most }
+    ensures capacity { vec_capacity lits.old ≤ vec_capacity lits.new }
+    ensures records { records.new.items ≡ records.old.items }
+    ensures records_len { vec_len records.new ≡ vec_len records.old }
+    ensures records_capacity { vec_capacity records.old ≤ vec_capacity records.new }
+    ensures one_more { OnOk result (vec_len records.new < min (vec_capacity records.new) most) }
+    ensures succeeds { vec_len records.old < min (vec_capacity records.old) most → vec_len lits.old + length more.now ≤ min (vec_capacity lits.old) most → IsOk result }
+{
+    if records.len() == MOST || more.len() > MOST - lits.len() {
+        return Err(AllocError);
+    }
+    records.reserve(1)?;
+    lits.extend_from_slice(more)
+}
+
+// The record of a clause that watches nothing.
+fn new_record(lits: &[Lit], start: u32, end: u32, live: bool) -> ClauseRecord
+    ensures third { length lits.now ≡ 3 → result.third ≡ mix_of lits.now }
+    ensures two { length result.watched ≡ 2 }
+    ensures rest { result ≡ record { watched = result.watched; next = 0 ∷ 0 ∷ []; start = start; end = end; third = result.third; live = live; is_watched = false } }
+{
+    ClauseRecord {
+        watched: [Lit::new(1), Lit::new(1)],
+        next: [0, 0],
+        start,
+        end,
+        third: mix(lits),
+        live,
+        is_watched: false,
     }
 }

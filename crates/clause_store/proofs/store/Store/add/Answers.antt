@@ -19,20 +19,20 @@ pub returns-clause-added : goal.returns-clause-added
 returns-clause-added c =
     let a = c.self.inside in
     let starts : c.len-start.result ≡ length a.lits.items = grind arith in
-    let long : c.len-end.result ≡ length c.extend_from_slice.new.self.items = grind arith in
-    let longer : c.extend_from_slice.new.self.items ≡ a.lits.items ++ c.args.lits.now = c.in_ok-extend_from_slice.ensures.items in
-    let same : c.reserve.new.self.items ≡ a.records.items = c.in_ok-reserve.ensures.items in
+    let long : c.len-end.result ≡ length c.add_lits.new.lits.items = grind arith in
+    let longer : c.add_lits.new.lits.items ≡ a.lits.items ++ c.args.lits.now = c.in_ok-add_lits.ensures.lits in
+    let same : c.add_lits.new.records.items ≡ a.records.items = c.in_ok-add_lits.ensures.records in
     let ends : c.len-end.result ≡ length (a.lits.items ++ c.args.lits.now) = long ∙ ap length longer in
-    let y : ClauseRecord = record { start = c.len-start.result; end = c.len-end.result; watched = c.new.result ∷ c.new-2.result ∷ []; next = 0 ∷ 0 ∷ []; third = c.mix.result; live = c.args.live; is_watched = false } in
-    rw (← c.self.view_is, c.push_reserved.ensures.items, same, longer) (cuts_after_add a.vars (length a.records.items) a.lits.items c.args.lits.now a.records.items y c.self.invariant.within starts ends)
+    let y : ClauseRecord = record { start = c.len-start.result; end = c.len-end.result; watched = c.new_record.result.watched; next = 0 ∷ 0 ∷ []; third = c.new_record.result.third; live = c.args.live; is_watched = false } in
+    rw (← c.self.view_is, c.push_reserved.ensures.items, c.new_record.ensures.rest, same, longer) (cuts_after_add a.vars (length a.records.items) a.lits.items c.args.lits.now a.records.items y c.self.invariant.within starts ends)
 
 -- it is not watched
 pub returns-clause-links : goal.returns-clause-links
 returns-clause-links c =
     let a = c.self.inside in
-    let same : c.reserve.new.self.items ≡ a.records.items = c.in_ok-reserve.ensures.items in
-    let y : ClauseRecord = record { start = c.len-start.result; end = c.len-end.result; watched = c.new.result ∷ c.new-2.result ∷ []; next = 0 ∷ 0 ∷ []; third = c.mix.result; live = c.args.live; is_watched = false } in
-    rw (← c.self.view_is, c.push_reserved.ensures.items, same) (record {
+    let same : c.add_lits.new.records.items ≡ a.records.items = c.in_ok-add_lits.ensures.records in
+    let y : ClauseRecord = record { start = c.len-start.result; end = c.len-end.result; watched = c.new_record.result.watched; next = 0 ∷ 0 ∷ []; third = c.new_record.result.third; live = c.args.live; is_watched = false } in
+    rw (← c.self.view_is, c.push_reserved.ensures.items, c.new_record.ensures.rest, same) (record {
       watched = λ id. watches-push a.records.items watched_by y refl id;
       nexts = λ node. nexts-push a.records.items (λ r. r.next) y refl (node / 2) (node % 2);
       heads = refl;
@@ -47,41 +47,41 @@ invariant_of-self-2 c =
     let a = c.self.inside in
     let inv = c.self.invariant in
     let starts : c.len-start.result ≡ length a.lits.items = grind arith in
-    let long : c.len-end.result ≡ length c.extend_from_slice.new.self.items = grind arith in
-    let longer : c.extend_from_slice.new.self.items ≡ a.lits.items ++ c.args.lits.now = c.in_ok-extend_from_slice.ensures.items in
+    let long : c.len-end.result ≡ length c.add_lits.new.lits.items = grind arith in
+    let longer : c.add_lits.new.lits.items ≡ a.lits.items ++ c.args.lits.now = c.in_ok-add_lits.ensures.lits in
     let over_args : AreLiterals a.vars c.args.lits.now = subst (λ (s : Clauses). AreLiterals s.vars c.args.lits.now) (sym c.self.view_is) c.requires in
-    let lits_more : length a.lits.items ≤ length c.extend_from_slice.new.self.items = omega (arith, ap length longer, length-append a.lits.items c.args.lits.now) in
-    let y : ClauseRecord = record { start = c.len-start.result; end = c.len-end.result; watched = c.new.result ∷ c.new-2.result ∷ []; next = 0 ∷ 0 ∷ []; third = c.mix.result; live = c.args.live; is_watched = false } in
-    let items : c.push_reserved.new.self.items ≡ a.records.items ++ y ∷ [] = c.push_reserved.ensures.items ∙ ap (λ (rs : List ClauseRecord). rs ++ y ∷ []) c.in_ok-reserve.ensures.items in
+    let lits_more : length a.lits.items ≤ length c.add_lits.new.lits.items = omega (arith, ap length longer, length-append a.lits.items c.args.lits.now) in
+    let y : ClauseRecord = record { start = c.len-start.result; end = c.len-end.result; watched = c.new_record.result.watched; next = 0 ∷ 0 ∷ []; third = c.new_record.result.third; live = c.args.live; is_watched = false } in
+    let items : c.push_reserved.new.self.items ≡ a.records.items ++ y ∷ [] = c.push_reserved.ensures.items ∙ ap₂ (λ (rs : List ClauseRecord) (r : ClauseRecord). rs ++ r ∷ []) c.in_ok-add_lits.ensures.records c.new_record.ensures.rest in
     let more : length c.push_reserved.new.self.items ≡ length a.records.items + 1 = ap length items ∙ length_push a.records.items y in
-    let cut : (cut_by c.extend_from_slice.new.self.items y).lits ≡ c.args.lits.now = rw (longer, starts) (range_at_end a.lits.items c.args.lits.now c.len-end.result (long ∙ ap length longer)) in
-    let P = IsWithin a.vars (length c.extend_from_slice.new.self.items) (length c.push_reserved.new.self.items) in
+    let cut : (cut_by c.add_lits.new.lits.items y).lits ≡ c.args.lits.now = rw (longer, starts) (range_at_end a.lits.items c.args.lits.now c.len-end.result (long ∙ ap length longer)) in
+    let P = IsWithin a.vars (length c.add_lits.new.lits.items) (length c.push_reserved.new.self.items) in
     let fits : P y = record {
       ordered = omega (arith, starts, long, lits_more);
       within = omega (arith, long);
       watched = λ is. absurd (false≢true is);
       next = λ k d h. no_more k d h (length c.push_reserved.new.self.items);
-      two_watched = refl;
+      two_watched = c.new_record.ensures.two;
       two_next = refl;
     } in
     let old : All P a.records.items = all-more (IsWithin a.vars (length a.lits.items) (length a.records.items)) P a.records.items
-    (λ r w. within-more a.vars (length a.lits.items) (length a.records.items) (length c.extend_from_slice.new.self.items) (length c.push_reserved.new.self.items) r lits_more (omega (arith, more)) w) inv.within
+    (λ r w. within-more a.vars (length a.lits.items) (length a.records.items) (length c.add_lits.new.lits.items) (length c.push_reserved.new.self.items) r lits_more (omega (arith, more)) w) inv.within
     in
-    let counted : c.len-2.result ≡ length a.records.items = grind arith in
-    let literals : map (λ r. (cut_by c.extend_from_slice.new.self.items r).lits) c.push_reserved.new.self.items ≡ map (λ r. (cut_by a.lits.items r).lits) a.records.items ++ c.args.lits.now ∷ [] =
-    ap (map (λ r. (cut_by c.extend_from_slice.new.self.items r).lits)) items
-    ∙ map_push (λ r. (cut_by c.extend_from_slice.new.self.items r).lits) a.records.items y
+    let counted : c.len.result ≡ length a.records.items = grind arith in
+    let literals : map (λ r. (cut_by c.add_lits.new.lits.items r).lits) c.push_reserved.new.self.items ≡ map (λ r. (cut_by a.lits.items r).lits) a.records.items ++ c.args.lits.now ∷ [] =
+    ap (map (λ r. (cut_by c.add_lits.new.lits.items r).lits)) items
+    ∙ map_push (λ r. (cut_by c.add_lits.new.lits.items r).lits) a.records.items y
     ∙ ap₂ (λ (ls : List (List ℤ)) (l : List ℤ). ls ++ l ∷ []) (ap (λ (ls : List ℤ). map (λ r. (cut_by ls r).lits) a.records.items) longer ∙ lits_before a.vars (length a.records.items) a.lits.items c.args.lits.now a.records.items inv.within) cut
     in
     record {
       small = inv.small;
       over = subst (λ (ls : List ℤ). All (IsLiteral a.vars) ls) (sym longer) (All-append (IsLiteral a.vars) a.lits.items c.args.lits.now inv.over (from_recursion (IsLiteral a.vars) c.args.lits.now over_args));
       within = subst (λ (rs : List ClauseRecord). All P rs) (sym items) (All-push P a.records.items y old fits);
-      mixes = subst (λ (rs : List ClauseRecord). All (HasMix c.extend_from_slice.new.self.items) rs) (sym items) (All-push (HasMix c.extend_from_slice.new.self.items) a.records.items y
+      mixes = subst (λ (rs : List ClauseRecord). All (HasMix c.add_lits.new.lits.items) rs) (sym items) (All-push (HasMix c.add_lits.new.lits.items) a.records.items y
           (subst (λ (ls : List ℤ). All (HasMix ls) a.records.items) (sym longer) (mixes_before a.vars (length a.records.items) a.lits.items c.args.lits.now a.records.items inv.within inv.mixes))
-          (λ is. c.mix.ensures (ap length (sym cut) ∙ is) ∙ ap mix_of (sym cut)));
+          (λ is. c.new_record.ensures.third (ap length (sym cut) ∙ is) ∙ ap mix_of (sym cut)));
       sets = subst (λ (ls : List (List ℤ)). AreSets c.keep_words.new.words.items ls) (sym literals)
-          (sets_keep_up a.words.items c.keep_words.new.words.items (map (λ r. (cut_by a.lits.items r).lits) a.records.items) c.args.lits.now c.len-2.result inv.sets
+          (sets_keep_up a.words.items c.keep_words.new.words.items (map (λ r. (cut_by a.lits.items r).lits) a.records.items) c.args.lits.now c.len.result inv.sets
           (omega (arith, counted, length-map a.records.items (λ r. (cut_by a.lits.items r).lits))) c.keep_words.ensures);
       counted = grind (arith, starts, more);
       lits_counted = grind (arith, long, starts);
