@@ -44,13 +44,20 @@ fn push_ids(out: &mut Vec<u8>, ids: &[u64]) -> Result<(), AllocError>
     Ok(())
 }
 
+/// A blank and a literal.
+fn push_lit(out: &mut Vec<u8>, lit: Lit) -> Result<(), AllocError>
+    ensures { OnOk result (out.new.items ≡ out.old.items ++ (codes " " ++ signed_decimal lit)) }
+{
+    push_text(out, " ")?;
+    put_number(out, i128::from(lit.number()))
+}
+
 /// Literals, each behind a blank.
 fn push_lits(out: &mut Vec<u8>, lits: &[Lit]) -> Result<(), AllocError>
     ensures { OnOk result (out.new.items ≡ out.old.items ++ flat_map (λ lit. codes " " ++ signed_decimal lit) lits.now) }
 {
     for lit in lits {
-        push_text(out, " ")?;
-        put_number(out, i128::from(lit.number()))?;
+        push_lit(out, *lit)?;
     }
     Ok(())
 }
