@@ -82,17 +82,35 @@ impl MemFiles {
         ensures rooms { IfOk result (λ made. (name : List ℕ) → room_under made.files name ≡ room_named rooms name) }
         ensures rest { IfOk result (λ made. made ≡ fresh_files made.files per_read per_write failing_reads failing_writes) }
     {
-        Ok(MemFiles {
-            files: FileList::new(alloc, held, rooms)?,
+        let files = FileList::new(alloc, held, rooms)?;
+        let reads = Schedule::new(failing_reads);
+        let writes = Schedule::new(failing_writes);
+        Ok(MemFiles::fresh(files, per_read, per_write, reads, writes))
+    }
+
+    // Files of which nothing was opened yet.
+    fn fresh(
+        files: FileList,
+        per_read: usize,
+        per_write: usize,
+        reads: Schedule,
+        writes: Schedule,
+    ) -> MemFiles
+        requires reads_some { 0 < per_read }
+        requires writes_some { 0 < per_write }
+        ensures { result ≡ record (fresh_files files per_read per_write [] []) { reads = reads; writes = writes } }
+    {
+        MemFiles {
+            files,
             input: None,
             at: 0,
             output: None,
             is_open: false,
             per_read,
             per_write,
-            reads: Schedule::new(failing_reads),
-            writes: Schedule::new(failing_writes),
-        })
+            reads,
+            writes,
+        }
     }
 
     /// What is held under a name, where there is such a file.
@@ -140,18 +158,12 @@ impl MemFiles {
             ≡ record self.old { input = None; at = 0; reads = after_fault self.old.reads }) }
         ensures cause { HasCause self.old.reads.faults self.new.reads.faults result }
     {
+        let place = self.files.place_to_read(name);
         self.input = None;
         self.at = 0;
-        if self.reads.begin() {
-            return Err(self.reads.fail());
-        }
-        match self.files.place_to_read(name) {
-            Some(place) => {
-                self.input = Some(place);
-                Ok(())
-            }
-            None => Err(self.reads.fail()),
-        }
+        self.reads.begin(place.is_some())?;
+        self.input = place;
+        Ok(())
     }
 
     /// Reads from the opened input.
@@ -165,11 +177,9 @@ impl MemFiles {
         ensures end { IfOk result (λ n. n ≡ 0 → 0 < length into.new → unread_of self.old ≡ []) }
         ensures cause { HasCause self.old.reads.faults self.new.reads.faults result }
     {
-        if self.reads.begin() {
-            return Err(self.reads.fail());
-        }
+        self.reads.begin(self.input.is_some())?;
         let Some(place) = self.input else {
-            return Err(self.reads.fail());
+            unreachable!()
         };
         let text = self.files.text(place);
         let start = self.at.min(text.len());
@@ -192,20 +202,15 @@ impl MemFiles {
         ensures cause { HasCause self.old.writes.faults self.new.writes.faults result }
         ensures holds { HoldsWhatIsWritten (files_state self.new) }
     {
+        let found = self.files.place_to_write(name);
         self.output = None;
         self.is_open = false;
-        if self.writes.begin() {
-            return Err(self.writes.fail());
-        }
-        match self.files.place_to_write(name) {
-            Some(place) => {
-                self.files.clear(place);
-                self.output = Some(place);
-                self.is_open = true;
-                Ok(())
-            }
-            None => Err(self.writes.fail()),
-        }
+        self.writes.begin(found.is_some())?;
+        let Some(place) = found else { unreachable!() };
+        self.files.clear(place);
+        self.output = Some(place);
+        self.is_open = true;
+        Ok(())
     }
 
     /// Writes to the opened output.
@@ -220,19 +225,25 @@ impl MemFiles {
         ensures holds { HoldsWhatIsWritten (files_state self.new) }
         ensures cause { WriteHasCause self.old.writes.faults self.new.writes.faults piece.now result }
     {
-        if self.writes.begin() || !self.is_open {
-            return Err(self.writes.fail());
-        }
+        let left = self.left();
+        self.writes
+            .begin(self.is_open && (left > 0 || piece.is_empty()))?;
         let Some(place) = self.output else {
             unreachable!()
         };
-        let left = self.files.room_left(place);
-        if left == 0 && !piece.is_empty() {
-            return Err(self.writes.fail());
-        }
         let count = piece.len().min(self.per_write).min(left);
         self.files.append(place, &piece[..count]);
         Ok(count)
+    }
+
+    // How many bytes the output may still grow by.
+    fn left(&self) -> usize
+        ensures { result ≡ room_left self.now }
+    {
+        match self.output {
+            Some(place) => self.files.room_left(place),
+            None => 0,
+        }
     }
 
     /// Ends the opened output. Whatever it answers, the output is closed.
@@ -246,10 +257,7 @@ impl MemFiles {
     {
         let was_open = self.is_open;
         self.is_open = false;
-        if self.writes.begin() || !was_open {
-            return Err(self.writes.fail());
-        }
-        Ok(())
+        self.writes.begin(was_open)
     }
 }
 

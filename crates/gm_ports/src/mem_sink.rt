@@ -88,13 +88,8 @@ impl Sink for MemSink {
         ensures err { OnErr result (self.new ≡ record self.old { writes = after_fault self.old.writes }) }
         ensures cause { WriteHasCause self.old.writes.faults self.new.writes.faults piece.now result }
     {
-        if self.writes.begin() {
-            return Err(self.writes.fail());
-        }
         let left = (self.room - self.got.len() as u64) as usize;
-        if left == 0 && !piece.is_empty() {
-            return Err(self.writes.fail());
-        }
+        self.writes.begin(left > 0 || piece.is_empty())?;
         let count = piece.len().min(self.per_write).min(left);
         match self.got.extend_from_slice(&piece[..count]) {
             Ok(()) => Ok(count),

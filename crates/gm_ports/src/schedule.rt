@@ -2,8 +2,9 @@
 //!
 //! An object in memory has one schedule for each kind of call. A call takes the next number, from 1, and fails where
 //! its number is listed; it may fail for a reason of its own too. Each call that fails is counted.
-ghost use Rattle.std.specs.Prelude.{◌≡◌, ◌≤◌, ◌-◌, ◌^◌, ◌↔◌, IsTrue, Contains};
-ghost use Rattle.gm_ports.specs.Schedule.{after_call, next_count};
+ghost use Rattle.std.specs.Prelude.{◌≡◌, ◌↔◌, ◌⊎◌, false, IsErr, OnOk, OnErr};
+ghost use Rattle.gm_ports.specs.Faults.{HasCause};
+ghost use Rattle.gm_ports.specs.Schedule.{Fails, after_call, after_fault};
 
 use crate::{Calls, Failed};
 use std::marker::Model;
@@ -37,22 +38,19 @@ impl Schedule {
         }
     }
 
-    /// Begins a call, and answers whether it is one that fails.
-    pub(crate) fn begin(&mut self) -> bool
-        ensures counts { self.new ≡ after_call self.old }
-        ensures fails { IsTrue result ↔ Contains self.old.failing (next_count self.old.calls) }
-        ensures bounded { self.new.faults ≤ 2 ^ 64 - 1 }
+    /// Begins a call, which fails where its number is listed and where it can't do its work. Then its fault is counted.
+    pub(crate) fn begin(&mut self, can: bool) -> Result<(), Failed>
+        ensures fails { IsErr result ↔ (Fails self.old ⊎ (can ≡ false)) }
+        ensures ok { OnOk result (self.new ≡ after_call self.old) }
+        ensures err { OnErr result (self.new ≡ after_fault self.old) }
+        ensures cause { HasCause self.old.faults self.new.faults result }
     {
         self.calls = self.calls.saturating_add(1);
-        self.failing.contains(self.calls)
-    }
-
-    /// Counts the fault of the call that was begun.
-    pub(crate) fn fail(&mut self) -> Failed
-        ensures { self.new ≡ record self.old { faults = next_count self.old.faults } }
-    {
+        if can && !self.failing.contains(self.calls) {
+            return Ok(());
+        }
         self.faults = self.faults.saturating_add(1);
-        Failed
+        Err(Failed)
     }
 
     pub(crate) fn faults(&self) -> u64

@@ -6,11 +6,8 @@ use Rattle.gm_ports.proofs.MemFilesPort.{text_at-holding}
 use Rattle.gm_ports.proofs.mem_files.MemFiles.write.Goals as goal
 
 -- a write that failed leaves the files
-pub returns-then-begin-clause-holds : goal.returns-then-begin-clause-holds
-returns-then-begin-clause-holds c = HoldsWhatIsWritten-of _ (AreMemFiles-counted _ c.fail.new.self c.self.invariant)
-
-pub returns-then-not-is_empty-clause-holds : goal.returns-then-not-is_empty-clause-holds
-returns-then-not-is_empty-clause-holds c = HoldsWhatIsWritten-of _ (AreMemFiles-counted _ c.fail-then-not-is_empty.new.self c.self.invariant)
+pub returns-in_err-begin-clause-holds : goal.returns-in_err-begin-clause-holds
+returns-in_err-begin-clause-holds c = HoldsWhatIsWritten-of _ (AreMemFiles-counted _ c.begin.new.self c.self.invariant)
 
 -- what is taken of the piece fits the room
 pub invariant_of-self-2 : goal.invariant_of-self-2
