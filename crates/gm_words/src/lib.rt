@@ -12,8 +12,9 @@
 //! ```
 //!
 //! Start reading at `specs/Reading.antt`, which has the command as a value of clap's specification and what it reads of
-//! any words; `specs/Rows.antt` has worked command lines. What a request does is for the crates above, and no text of
-//! clap is printed: asking for help is a wrong command line like others.
+//! any words; `specs/Rows.antt` has worked command lines, and `specs/WrongLines.antt` has lines in which clap itself finds a
+//! fault. What a request does is for the crates above, and no text of clap is printed: asking for help is a wrong command
+//! line like others.
 #![tactic(auto)]
 
 mod command;
@@ -23,6 +24,3 @@ mod request;
 
 pub use read::read_words;
 pub use request::{Checking, Drilling, Listing, Request};
-
-#[cfg(test)]
-mod tests;
