@@ -176,12 +176,16 @@ memory-at_once (Some (drilling d)) o = record {
 }
 
 -- words without a reading
-pub bad_words : (o : Outside) → EndsAs None o o BadWords
-bad_words o = record {
+untouched-bad_words : (o : Outside) → EndsAs None o o BadWords
+untouched-bad_words o = record {
   every =
       run-bare (bounds_of None) None o.files o.files o.got o.faults (λ told. line_of BadWords ≡ told) 2 refl (ReadingLeaves-nothing o.files) (λ _. refl) (λ _. refl);
   done = record { statuses = refl; nothing_listed = refl; untouched = refl };
 }
+
+pub bad_words : (old new : Outside) (e : Ending) → e ≡ BadWords → new ≡ old → EndsAs None old new e
+bad_words old new e bad untouched =
+    subst (EndsAs None old new) (sym bad) (subst (λ (o : Outside). EndsAs None old o BadWords) (sym untouched) (untouched-bad_words old))
 
 -- ---- endings behind what was read
 

@@ -3,6 +3,7 @@ ghost use Rattle.std.specs.Prelude.{◌≡◌, Some, None};
 ghost use Rattle.gm_words.specs.Reading.{Listing as Listed, Checking as Checked, Drilling as Drilled, listing, checking, drilling};
 ghost use Rattle.gm_tool.specs.Checking.{IsChecking};
 ghost use Rattle.gm_tool.specs.Drilling.{IsDrilling};
+ghost use Rattle.gm_tool.specs.Endings.{finish_of};
 ghost use Rattle.gm_tool.specs.Listing.{IsListing};
 ghost use Rattle.gm_tool.specs.Outside.{GetsLine, outside};
 ghost use Rattle.gm_tool.specs.Run.{IsRun};
@@ -79,7 +80,16 @@ fn obey<R: Threads + Wait + Sync, F: Files, O: Sink, G: Gate>(
         Ok(Some(Request::List(listing))) => list_file(rt, alloc, listing, files, out, gate),
         Ok(Some(Request::Check(checking))) => check_file(alloc, checking, files, out),
         Ok(Some(Request::Drill(drilling))) => drill_case(rt, alloc, drilling, out, gate),
-        Ok(None) => Ending::BadWords,
+        Ok(None) => obey_none(files, out),
         Err(AllocError) => Ending::Memory,
     }
+}
+
+/// Ends a run whose words ask for nothing. It is handed all that such a run has to leave as it is.
+fn obey_none<F: Files, O: Sink>(files: &mut F, out: &mut O) -> Ending
+    ensures bad_words { result ≡ Ending.BadWords }
+    ensures unread { IsUnread (outside (F.state files.old) (O.got out.old) (O.faults out.old))
+        (outside (F.state files.new) (O.got out.new) (O.faults out.new)) (finish_of result) }
+{
+    Ending::BadWords
 }

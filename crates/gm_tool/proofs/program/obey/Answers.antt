@@ -1,6 +1,5 @@
 use Rattle.std.proofs.Common.{Some, ◌∙◌, ap, option_map, subst, sym}
 use Rattle.gm_words.specs.Requests.{asked_by}
-use Rattle.gm_tool.specs.declared.ending.Ending.TheVariants.{BadWords}
 use Rattle.gm_tool.specs.Outside.{outside}
 use Rattle.gm_tool.specs.Words.{EndsAs, asked_in}
 use Rattle.gm_tool.proofs.RunLemmas.{bad_words, memory-at_once}
@@ -33,7 +32,9 @@ returns-in-Ok-Some-Drill g c =
 pub returns-in-Ok-None : goal.returns-in-Ok-None
 returns-in-Ok-None g c =
     let old = outside (g.F.Files.state c.args.files.now) (g.O.Sink.got c.args.out.now) (g.O.Sink.faults c.args.out.now) in
-    subst (λ asked. EndsAs asked old old BadWords) (sym (ap (option_map asked_by) c.in-Ok-None.field-0-is) ∙ c.in-Ok-None.ensures.asked) (bad_words old)
+    let new = outside (g.F.Files.state c.obey_none.new.files) (g.O.Sink.got c.obey_none.new.out) (g.O.Sink.faults c.obey_none.new.out) in
+    subst (λ asked. EndsAs asked old new c.obey_none.result) (sym (ap (option_map asked_by) c.in-Ok-None.field-0-is) ∙ c.in-Ok-None.ensures.asked)
+    (bad_words old new c.obey_none.result c.obey_none.ensures.bad_words c.obey_none.ensures.unread.untouched)
 
 -- nor do those for which memory is wanting
 pub returns-in-Err : goal.returns-in-Err
