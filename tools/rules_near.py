@@ -17,17 +17,23 @@ SIGNS = re.compile(r"[\W_]+")
 
 
 def near_names(asked, names):
-    """For each name that is asked for, the first of the names that is near to it, if there is one."""
-    by_trace = {}
-    for name in asked:
-        for trace in traces(name):
-            by_trace.setdefault(trace, []).append(name)
-    near = {}
+    """For each name that is asked for, one of the names that is near to it, if there is one."""
+    # the first name that has a trace, and the first other one
+    first, second = {trace: None for name in asked for trace in traces(name)}, {}
     for name in names:
         for trace in traces(name):
-            for other in by_trace.get(trace, ()):
-                if other != name:
-                    near.setdefault(other, name)
+            if trace in first:
+                if first[trace] is None:
+                    first[trace] = name
+                elif first[trace] != name:
+                    second.setdefault(trace, name)
+    near = {}
+    for name in asked:
+        for trace in traces(name):
+            other = first[trace] if first[trace] != name else second.get(trace)
+            if other is not None:
+                near[name] = other
+                break
     return near
 
 

@@ -16,7 +16,7 @@ from telling import Refused, plain
 GROUP = re.compile(r"c[ \t]+group[ \t]+([0-9]{1,18})[ \t]+(\S.*)")
 VARIABLE = re.compile(r"c[ \t]+variable[ \t]+([0-9]{1,18})[ \t]+(\S.*)")
 RULE = re.compile(r"c[ \t]+rule[ \t]+([0-9]{1,18})[ \t]+(\S.*)")
-LARGEST = 2 ** 31 - 1
+LARGEST = 2 ** 30
 
 
 class Problem:
