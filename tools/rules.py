@@ -30,6 +30,7 @@ ALWAYS = "always"
 DEFINED = 1 << 40
 POSITIVE, NEGATIVE = 1, 2
 FRAMES = 40       # how many calls deep one pair of brackets is read, and turned into clauses, at most
+FILES = "p gcnf ", "p cnf ", "p gmus ", "p gmev ", "c group ", "c variable "      # what files of gmus begin with
 IN_FORMATS = "docs/FORMATS.md has the limits of a file"
 
 # A line of rules: its number, its text without the comment, and the clauses that come of it.
@@ -169,7 +170,8 @@ class Reader:
         if name is not None:
             self.begin(name, line)
         elif self.group is None:
-            raise Mistake("no rule begins before this line", len(line) - len(line.lstrip()),
+            hint = ": this is a file of gmus, and no text of rules" if bare.startswith(FILES) else ""
+            raise Mistake("no rule begins before this line" + hint, len(line) - len(line.lstrip()),
                           "here may come [NAME] or [always]")
         else:
             self.add(line)

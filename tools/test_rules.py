@@ -221,6 +221,8 @@ class Mistakes(unittest.TestCase):
         none = "  a rule begins with [NAME], and below it comes what it asks for, such as: a implies b"
         for text, wanted in (
                 ("a or b", "line 1: no rule begins before this line\n    a or b\n    ^\n  here may come [NAME] or [always]"),
+                ("p gmus 7\ns COMPLETE", "line 1: no rule begins before this line: this is a file of gmus, and no text of rules\n"
+                                         "    p gmus 7\n    ^\n  here may come [NAME] or [always]"),
                 ("[a]\nx\n[b]\n# nothing\n\n[c]\nx", "line 3: the rule 'b' has no line\n" + ask),
                 ("[a]\n[always]\nx", "line 1: the rule 'a' has no line\n" + ask),
                 ("[a]\nx\n[b]\n", "line 3: the rule 'b' has no line\n" + ask),
