@@ -1,67 +1,64 @@
 //! The adapters over a real file and real streams, whose counts are all that a contract says of the system; and `run` over
 //! files and sinks in memory, on one problem, and where two workers have to be at work at the same time. What else is tried
 //! of `run` stands in the script of `run_trials`.
+mod adapters;
 mod meeting;
 
 use crate::files::RealFiles;
-use crate::sinks::StreamSink;
-use gm_ports::{
-    Calls, Files, Gate, MemFiles, MemSink, OpenGate, Reading, Rooms, Sink, Texts, read_whole,
-};
+use adapters::{fill, read_text, tell, write_text};
+use gm_ports::{Calls, Gate, MemFiles, MemSink, OpenGate, Rooms, Texts};
 use gm_tool::run;
 use meeting::Meeting;
-use std::alloc::Global;
+use std::alloc::{AllocError, Global};
 use std::fs;
 use std::sync::Wait;
 use std::test::Fail;
 use std::thread::Threads;
 use std::time::{SystemTime, UNIX_EPOCH};
 
+// A name of this moment's, for a file.
+fn fresh_name(rt: &HostRuntime) -> Result<String, Fail> {
+    let now = SystemTime::now(rt)?.duration_since(UNIX_EPOCH)?;
+    let (seconds, nanos) = (now.as_secs(), now.subsec_nanos());
+    Ok(format!(in rt.alloc(); "/tmp/gmus-adapters-{seconds}-{nanos}")?)
+}
+
 #[test]
 fn adapters_move_bytes_and_count_faults(rt: HostRuntime) -> Result<(), Fail> {
     let alloc = rt.alloc();
-    let now = SystemTime::now(&rt)?.duration_since(UNIX_EPOCH)?;
-    let name = format!(in alloc;
-        "/tmp/gmus-adapters-{}-{}",
-        now.as_secs(),
-        now.subsec_nanos()
-    )?;
+    let name = fresh_name(&rt)?;
     let name = name.as_str();
-
     let mut files = RealFiles::new(&rt);
-    assert!(rt; files.write(b"x").is_err(), "nothing is opened");
-    assert!(rt; files.open_out("").is_err(), "the empty name is no file's");
-    assert!(rt; files.open_out(name).is_ok());
-    assert_eq!(rt; files.write(b"p gcnf 0 0 0\n").ok(), Some(13));
-    assert!(rt; files.finish_out().is_ok());
-    assert!(rt; files.finish_out().is_err(), "it is finished");
+    assert_eq!(rt;
+        write_text(&mut files, name),
+        (13, [false, false, true, true, false])
+    );
     assert_eq!(rt; files.faults(), (0, 3));
 
-    match read_whole(alloc, &mut files, name, 13) {
-        Reading::Whole(bytes) => assert_eq!(rt; bytes.as_slice(), b"p gcnf 0 0 0\n".as_slice()),
-        _ => return Err(Fail::from("the file was not read")),
-    }
-    assert!(rt; matches!(read_whole(alloc, &mut files, name, 12), Reading::TooLong));
-    fs::remove_file(&rt, name)?;
-    assert!(rt;
-        matches!(read_whole(alloc, &mut files, name, 13), Reading::Failed),
+    assert_eq!(rt; read_text(alloc, &mut files, name, 13), "the text");
+    assert_eq!(rt; read_text(alloc, &mut files, name, 12), "too long");
+    assert!(rt; fs::remove_file(&rt, name).is_ok());
+    assert_eq!(rt;
+        read_text(alloc, &mut files, name, 13),
+        "failed",
         "it is gone"
     );
-    assert!(rt;
-        matches!(read_whole(alloc, &mut files, "/tmp", 13), Reading::Failed),
+    assert_eq!(rt;
+        read_text(alloc, &mut files, "/tmp", 13),
+        "failed",
         "a folder opens"
     );
     assert_eq!(rt; files.faults(), (2, 3));
 
-    assert!(rt; files.open_out("/dev/full").is_ok());
-    assert!(rt; files.write(b"x").is_err(), "a full device takes nothing");
+    assert_eq!(rt;
+        fill(&mut files),
+        [true, false],
+        "a full device takes nothing"
+    );
     assert_eq!(rt; files.faults(), (2, 4));
 
-    let mut out = StreamSink::new(rt.stdout());
-    let mut err = StreamSink::new(rt.stderr());
-    assert_eq!(rt; out.write(b"to standard output\n").ok(), Some(19));
-    assert_eq!(rt; err.write(b"to standard error\n").ok(), Some(18));
-    assert_eq!(rt; (out.faults(), err.faults()), (0, 0));
+    assert_eq!(rt; tell(rt.stdout(), b"to standard output\n"), (19, 0));
+    assert_eq!(rt; tell(rt.stderr(), b"to standard error\n"), (18, 0));
     Ok(())
 }
 
@@ -71,42 +68,54 @@ const FIRST: &str = "p gcnf 2 4 4\n{1} 1 0\n{2} -1 0\n{3} -1 2 0\n{4} -2 0\n";
 const FIRST_REPORT: &str =
     "p gmus 4\ns COMPLETE\nu 1 2 0\nu 1 3 4 0\nm 1 0\nm 2 3 0\nm 2 4 0\ne 2 3\n";
 
-// Runs these words over files in memory, of which `f` holds the four clauses. The status, and the report's sink.
+// Files in memory, of which `f` holds the four clauses.
+fn first_files(alloc: Global) -> Result<MemFiles, AllocError> {
+    let mut held = Texts::new(alloc);
+    held.push(alloc, "f", FIRST.as_bytes())?;
+    let rooms = Rooms::new(alloc);
+    let (reads, writes) = (Calls::new(alloc), Calls::new(alloc));
+    MemFiles::new(alloc, held, rooms, 1000, 1000, reads, writes)
+}
+
+fn words_of(alloc: Global, line: &str) -> Result<Vec<String>, AllocError> {
+    let mut words = Vec::new(alloc);
+    for word in line.split(' ') {
+        words.push(String::from_str(alloc, word)?)?;
+    }
+    Ok(words)
+}
+
+// Runs the words of this line over such files. The status, and whether the report's sink got the report.
 fn run_on_first<R: Threads + Wait + Sync, G: Gate>(
     rt: &R,
     alloc: Global,
     line: &str,
     gate: &G,
-) -> Result<(u8, MemSink), Fail> {
-    let mut words = Vec::new(alloc);
-    for word in line.split(' ') {
-        words.push(String::from_str(alloc, word)?)?;
-    }
-    let mut held = Texts::new(alloc);
-    held.push(alloc, "f", FIRST.as_bytes())?;
-    let rooms = Rooms::new(alloc);
-    let reads = Calls::new(alloc);
-    let writes = Calls::new(alloc);
-    let mut files = MemFiles::new(alloc, held, rooms, 1000, 1000, reads, writes)?;
-    let mut out = MemSink::new(alloc, 1000, 1000, Calls::new(alloc))?;
-    let mut err = MemSink::new(alloc, 1000, 1000, Calls::new(alloc))?;
-    let finish = run(
-        rt,
-        alloc,
-        words.as_slice(),
-        &mut files,
-        &mut out,
-        &mut err,
-        gate,
-    );
-    Ok((finish.status, out))
+) -> Result<(u8, bool), AllocError> {
+    let words = words_of(alloc, line)?;
+    let files = first_files(alloc)?;
+    let out = MemSink::new(alloc, 1000, 1000, Calls::new(alloc))?;
+    let err = MemSink::new(alloc, 1000, 1000, Calls::new(alloc))?;
+    Ok(run_words(rt, alloc, words.as_slice(), files, out, err, gate))
+}
+
+fn run_words<R: Threads + Wait + Sync, G: Gate>(
+    rt: &R,
+    alloc: Global,
+    words: &[String],
+    mut files: MemFiles,
+    mut out: MemSink,
+    mut err: MemSink,
+    gate: &G,
+) -> (u8, bool) {
+    let finish = run(rt, alloc, words, &mut files, &mut out, &mut err, gate);
+    (finish.status, out.got() == FIRST_REPORT.as_bytes())
 }
 
 #[test]
 fn four_clauses_are_listed(rt: HostRuntime) -> Result<(), Fail> {
-    let (status, out) = run_on_first(&rt, rt.alloc(), "list f", &OpenGate)?;
-    assert_eq!(rt; status, 0);
-    assert_eq!(rt; out.got(), FIRST_REPORT.as_bytes());
+    let listed = run_on_first(&rt, rt.alloc(), "list f", &OpenGate)?;
+    assert_eq!(rt; listed, (0, true));
     Ok(())
 }
 
@@ -114,11 +123,10 @@ fn four_clauses_are_listed(rt: HostRuntime) -> Result<(), Fail> {
 #[test]
 fn two_workers_have_jobs_at_the_same_time(rt: HostRuntime) -> Result<(), Fail> {
     let gate = Meeting::new();
-    let (status, out) = run_on_first(&rt, rt.alloc(), "list f --jobs 2", &gate)?;
-    assert_eq!(rt; status, 0);
+    let listed = run_on_first(&rt, rt.alloc(), "list f --jobs 2", &gate)?;
+    assert_eq!(rt; listed, (0, true));
     let (others, missed) = gate.others_and_missed();
     assert!(rt; others > 0);
     assert_eq!(rt; missed, 0);
-    assert_eq!(rt; out.got(), FIRST_REPORT.as_bytes());
     Ok(())
 }
