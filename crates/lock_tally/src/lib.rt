@@ -26,8 +26,6 @@
 mod count;
 mod crew;
 mod tally;
-#[cfg(test)]
-mod tests;
 mod worker;
 
 pub use count::{Counted, count_by_two, count_together};

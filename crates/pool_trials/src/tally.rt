@@ -1,7 +1,8 @@
+//! Seats of one tally: what each is told, in threads and one after the other.
 ghost use Rattle.std.specs.Prelude.{◌≤◌};
 ghost use Rattle.lock_tally.specs.Works.{CanWork, HasWorked};
 
-use crate::{Counted, Tally, Worker, count_by_two, count_together, hire, settle, work};
+use lock_tally::{Counted, Tally, Worker, count_by_two, count_together, hire, settle, work};
 use std::alloc::{AllocError, Global};
 use std::process::Abort;
 use std::sync::Wait;

@@ -1,7 +1,7 @@
 use Rattle.std.proofs.Common.{◌++◌, [], ◌∷◌, ap, sym, ◌∙◌, subst}
 use Rattle.lock_tally.specs.Crews.{AreDone}
 use Rattle.lock_tally.proofs.Worked.{both_done, taken_out}
-use Rattle.lock_tally.proofs.tests.count_in_turn.Goals as goal
+use Rattle.pool_trials.proofs.tally.count_in_turn.Goals as goal
 
 -- the two workers come back in their order
 pub settle-requires-clause-done : goal.settle-requires-clause-done
