@@ -15,6 +15,7 @@ import sys
 import time
 
 from crates import TOP, below_in, lowest_first, text_of
+from read_of import note_proved, own_of
 
 PROGRAM = "gmus"
 # What a check takes at most, in bytes.
@@ -115,7 +116,8 @@ def call(words, crate, building, is_enough):
 
 def main():
     below = below_in(text_of("crates.txt"))
-    began, done, many = time.monotonic(), [], len(lowest_first(below, PROGRAM))
+    owns = {crate: own_of(crate) for crate in lowest_first(below, PROGRAM)}
+    began, done, many = time.monotonic(), [], len(owns)
 
     def told(crate):
         done.append(crate)
@@ -126,6 +128,8 @@ def main():
     with open(os.path.join(TOP, "build.log"), "w", encoding="utf-8") as log:
         if prove(PROGRAM, below, log, told):
             return 1
+        for crate, own in owns.items():
+            note_proved(crate, below, own)
         # The run tells whether there is a program that works.
         ended = subprocess.run(["rt", "run", "--", "list", "data/first.gcnf"], cwd=os.path.join(TOP, "crates", PROGRAM),
                                stdin=subprocess.DEVNULL, stdout=log, stderr=subprocess.STDOUT, check=False)

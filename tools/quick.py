@@ -5,8 +5,9 @@
     tools/quick.py BASE        what differs from the commit BASE
 
 The crates that differ are laid out by `rt fmt` and proved, and so are the crates above them, lowest first, over what
-earlier checks kept. Beside that the programs of trials that stand on one of them play their scripts unproved, as many at a
-time as there are processors and memory; tests are run unproved, and the tools are tested. What was said goes to quick.log
+earlier checks kept; but for those that were proved over just what they would read now, as all above a changed body are
+(read_of.py). Beside that the programs of trials that stand on a crate that differs play their scripts unproved, as many at
+a time as there are processors and memory; tests are run unproved, and the tools are tested. What was said goes to quick.log
 at the top of the repository. At the end it says what it left out: `rt ci` alone is the gate.
 """
 import os
@@ -17,6 +18,7 @@ from concurrent.futures import ThreadPoolExecutor
 
 from build import lanes, processors
 from crates import TOP, above, areas_in, below_in, lowest_first, text_of
+from read_of import is_proved, note_proved, own_of
 
 PARTS = ("src", "specs", "proofs")
 
@@ -52,16 +54,23 @@ def has_tests(crate):
 
 
 def prove(crates, below, log):
-    """Proves these crates, lowest first, each over what earlier checks kept, and gives those that are proved and those that
-    failed. One that stands on a failed one is left."""
-    proved, failed = [], []
+    """Proves these crates, lowest first, each over what earlier checks kept. Gives those that are proved now, those that were
+    proved over just what they would read, and those that failed. One that stands on a failed one is left."""
+    proved, kept, failed = [], [], []
     for crate in crates:
-        if set(failed).isdisjoint(lowest_first(below, crate)):
-            status, printed, said = said_of(crate, ["rt", "check" if is_program(crate) else "lib"])
-            log.write(f"== {crate}\n{printed.decode(errors='replace')}{said}")
-            log.flush()
-            (failed if status else proved).append(crate)
-    return proved, failed
+        if not set(failed).isdisjoint(lowest_first(below, crate)):
+            continue
+        if is_proved(crate, below):
+            kept.append(crate)
+            continue
+        own = own_of(crate)
+        status, printed, said = said_of(crate, ["rt", "check" if is_program(crate) else "lib"])
+        log.write(f"== {crate}\n{printed.decode(errors='replace')}{said}")
+        log.flush()
+        (failed if status else proved).append(crate)
+        if not status:
+            note_proved(crate, below, own)
+    return proved, kept, failed
 
 
 def said_of(crate, words):
@@ -109,7 +118,7 @@ def main(words):
             # One check at a time: it keeps the folders of all crates below. What is tried needs no folder.
             proofs = pool.submit(prove, wanted, below, log)
             ended = [*pool.map(play, played), *pool.map(try_tests, tested)]
-            proved, failed = proofs.result()
+            proved, kept, failed = proofs.result()
         log.write("".join(said for _, said in ended))
         log.flush()
         bad += [f"{crate} is not proved" for crate in failed] + [it for it, _ in ended if it]
@@ -118,19 +127,22 @@ def main(words):
         if tools.returncode:
             bad.append("a test of the tools fails")
     minutes = (time.monotonic() - began) / 60
-    print("\n".join([f"quick: {it}" for it in bad + ["see quick.log"] * bool(bad)] + said(proved, played, tested, moved, minutes)))
+    print("\n".join([f"quick: {it}" for it in bad + ["see quick.log"] * bool(bad)] + said(proved, kept, played, tested, moved, minutes)))
     return 1 if bad else 0
 
 
-def said(proved, played, tested, moved, minutes):
+def said(proved, kept, played, tested, moved, minutes):
     """What was done, and what was left out."""
-    left = [crate for crate in moved if crate not in proved]
-    return [
+    left = [crate for crate in moved if crate not in proved + kept]
+    lines = [
         f"quick: {minutes:.1f} minutes; proved {' '.join(proved) or 'nothing'}; played {' '.join(played) or 'nothing'}; "
         f"tested {' '.join(tested) or 'nothing'}",
         f"quick: left out: wrong bodies; proofs of tests; proofs of {' '.join(left) or 'no trials'}; the program and the "
         "trials as two compilers build them; examples/check.sh. `rt ci` is the gate.",
     ]
+    if kept:
+        lines.insert(1, f"quick: proved before, over just what they would read now: {' '.join(kept)}")
+    return lines
 
 
 if __name__ == "__main__":

@@ -1,12 +1,16 @@
 #!/usr/bin/env python3
 """Tests of what the tools make of crates.txt, and of what the gate's processes are taken for."""
 import io
+import os
+import shutil
+import tempfile
 import unittest
 import unittest.mock
 
 import cost
 import crates
 import quick
+import read_of
 
 TEXT = """# NAME: libraries
 
@@ -76,15 +80,74 @@ class Quick(unittest.TestCase):
         self.assertEqual(quick.changed_crates(files, BELOW), ["b"])
         self.assertEqual(quick.changed_crates(files, BELOW, ("data", "stdout")), ["d"])
 
+    def proved_by(self, ends, noted, crates_given=("a", "b", "c", "d")):
+        """What `prove` gives if the checks end so, and these crates were proved before; and what is noted then."""
+        now = []
+        with unittest.mock.patch.object(quick, "said_of", lambda crate, words: (ends[crate], b"", "")), \
+                unittest.mock.patch.object(quick, "own_of", lambda crate: "sum of " + crate), \
+                unittest.mock.patch.object(quick, "is_proved", lambda crate, below: crate in noted), \
+                unittest.mock.patch.object(quick, "note_proved", lambda crate, below, own: now.append((crate, own))):
+            return quick.prove(crates_given, BELOW, io.StringIO()), now
+
     def test_what_stands_on_a_failed_crate_is_left(self):
-        ends = {"a": 0, "b": 1, "d": 0}
-        with unittest.mock.patch.object(quick, "said_of", lambda crate, words: (ends[crate], b"", "")):
-            self.assertEqual(quick.prove(["a", "b", "c", "d"], BELOW, io.StringIO()), (["a", "d"], ["b"]))
+        self.assertEqual(self.proved_by({"a": 0, "b": 1, "d": 0}, []),
+                         ((["a", "d"], [], ["b"]), [("a", "sum of a"), ("d", "sum of d")]))
+
+    def test_what_was_proved_over_the_same_is_not_proved_again(self):
+        self.assertEqual(self.proved_by({"a": 0, "d": 1}, ["b", "c"]), ((["a"], ["b", "c"], ["d"]), [("a", "sum of a")]))
 
     def test_what_was_left_out_is_said(self):
-        told = "\n".join(quick.said(["a"], ["t"], [], ["a", "t"], 1.5))
+        told = "\n".join(quick.said(["a"], [], ["t"], [], ["a", "t"], 1.5))
         self.assertIn("proved a; played t; tested nothing", told)
         self.assertIn("proofs of t;", told)
+        self.assertNotIn("before", told)
+        told = "\n".join(quick.said(["a"], ["b"], ["t"], [], ["a", "b", "t"], 1.5))
+        self.assertIn("proved before, over just what they would read now: b\n", told)
+        self.assertIn("proofs of t;", told)
+
+
+class Reading(unittest.TestCase):
+    """Two crates of a made-up repository, of which b stands on a."""
+
+    def setUp(self):
+        self.room = tempfile.mkdtemp()
+        self.addCleanup(shutil.rmtree, self.room)
+        for name, value in (("TOP", self.room), ("text_of", lambda name: TEXT), ("kit", lambda: "a kit")):
+            patch = unittest.mock.patch.object(read_of, name, value)
+            patch.start()
+            self.addCleanup(patch.stop)
+        for name in ("a/src/lib.rt", "b/src/lib.rt", "b/proofs/Lib.antt", "a/out/rlib/a.rlib/interface/lang/src/lib.rt",
+                     "a/out/rlib/a.rlib/lang/antt/specs/Sets.antt", "a/out/rlib/a.rlib/lang/antt/made.json",
+                     "a/out/rlib/a.rlib/toolchain/mir.json"):
+            self.write(name, "first")
+
+    def write(self, name, text):
+        path = os.path.join(self.room, "crates", name)
+        os.makedirs(os.path.dirname(path), exist_ok=True)
+        with open(path, "w", encoding="utf-8") as file:
+            file.write(text)
+
+    def test_a_body_below_is_not_read_and_what_is_shown_is(self):
+        read_of.note_proved("b", BELOW, read_of.own_of("b"))
+        for name, is_proved in (("a/src/lib.rt", True), ("a/out/rlib/a.rlib/toolchain/mir.json", True),
+                                ("a/out/rlib/a.rlib/lang/antt/made.json", True), ("b/src/lib.rt", False),
+                                ("b/proofs/Lib.antt", False), ("a/out/rlib/a.rlib/interface/lang/src/lib.rt", False),
+                                ("a/out/rlib/a.rlib/lang/antt/specs/Sets.antt", False), ("b/specs/New.antt", False)):
+            self.write(name, "second")
+            self.assertEqual(read_of.is_proved("b", BELOW), is_proved, name)
+            self.write(name, "first")
+            if name == "b/specs/New.antt":
+                os.remove(os.path.join(self.room, "crates", name))
+            self.assertTrue(read_of.is_proved("b", BELOW), name)
+        shutil.rmtree(os.path.join(self.room, "crates/a/out"))
+        self.assertFalse(read_of.is_proved("b", BELOW))
+
+    def test_sources_that_changed_meanwhile_are_not_noted(self):
+        own = read_of.own_of("b")
+        self.write("b/src/lib.rt", "second")
+        read_of.note_proved("b", BELOW, own)
+        self.assertFalse(read_of.is_proved("b", BELOW))
+        self.assertFalse(os.path.exists(read_of.note_of("b")))
 
 
 if __name__ == "__main__":

@@ -16,8 +16,9 @@ import unittest
 TOP = os.path.dirname(os.path.dirname(os.path.abspath(__file__)))
 
 # It proves the crates at or below the folder and those that they stand on, or is slow at the last of them; or it proves
-# one; or it makes the program and runs it as it is told to; or it fails.
+# one; or it makes the program and runs it as it is told to; or it fails. It names itself.
 RT = """#!/bin/sh
+[ "$1" != version ] || { echo "a kit" && exit 0; }
 echo "$1 $(basename "$PWD")" >>"$ROOM/builds"
 if [ "$1" = all ]; then
     echo "== low"
@@ -71,7 +72,7 @@ class Launcher(unittest.TestCase):
         self.addCleanup(shutil.rmtree, self.room)
         shutil.copy(os.path.join(TOP, "gmus"), self.room)
         os.mkdir(os.path.join(self.room, "tools"))
-        for name in ("build.py", "crates.py"):
+        for name in ("build.py", "crates.py", "read_of.py"):
             shutil.copy(os.path.join(TOP, "tools", name), os.path.join(self.room, "tools"))
         self.write("crates.txt", "# NAME: libraries\nlow:\nother: low  # nothing of gmus\ngmus tests_may=Wait: low std\n")
         for crate in ("low", "other", "gmus"):
