@@ -3,13 +3,17 @@
 
     tools/check_evidence.py FILE EVIDENCE
 
-FILE is the GCNF file, EVIDENCE the evidence about it. Where nothing is refused, the report of the evidence's sets is
-written, and the status is 0. Else the first refusal is told on standard error, and the status is 9. It is plain and slow;
-evidence of some megabytes is fine.
+FILE is the GCNF file, EVIDENCE the evidence about it. If nothing is refused, the report of the evidence's sets is written,
+and the status is 0. Else the first refusal is told on standard error, and the status is 9, as that of `gmus check`. It is 1
+if FILE is no GCNF file or a file can't be read, and 2 if the words have no reading. It is plain and slow; evidence of some
+megabytes is fine.
 """
 import re
 import sys
 
+import telling
+
+EVIDENCE_REFUSED = 9
 NUMBER = re.compile(rb"0|[1-9][0-9]*")
 MAX_BYTES, MAX_ID, MAX_COUNT = 2 ** 31, 2 ** 63 - 1, 2 ** 64 - 1
 NUMBERS = {"BadLine": 1, "BadNumber": 2, "Truncated": 3, "OtherProblem": 4, "TrailingText": 5, "TooLong": 6,
@@ -25,24 +29,31 @@ class Refused(Exception):
         return f"line {line}: {NUMBERS[name]} {name}"
 
 
+class NoProblem(Exception):
+    """Why a text is no GCNF file."""
+
+
 class Problem:
     """A GCNF file: how many variables, the greatest group, and the clauses, each a group and its literals."""
 
     def __init__(self, text):
         lines = [line for line in text.split("\n") if not line.lstrip(" \t").startswith("c")]
         tokens = " ".join(lines).replace("{", " { ").replace("}", " } ").split()
-        assert tokens[:2] == ["p", "gcnf"], "this is no GCNF file"
+        if tokens[:2] != ["p", "gcnf"]:
+            raise NoProblem("it does not begin with 'p gcnf'")
         self.vars, count, self.groups = map(int, tokens[2:5])
         self.clauses, at = [], 5
         for _ in range(count):
-            assert tokens[at] == "{" and tokens[at + 2] == "}", "a clause begins with its group in braces"
+            if tokens[at] != "{" or tokens[at + 2] != "}":
+                raise NoProblem("a clause begins with its group in braces")
             group, lits, at = int(tokens[at + 1]), [], at + 3
             while int(tokens[at]) != 0:
                 lits.append(int(tokens[at]))
                 at += 1
             self.clauses.append((group, lits))
             at += 1
-        assert at == len(tokens), "something stands behind the last clause"
+        if at != len(tokens):
+            raise NoProblem("something stands behind the last clause")
 
     def selector_form(self):
         return [lits + [-(self.vars + group)] if group else lits for group, lits in self.clauses]
@@ -276,21 +287,32 @@ def report(problem, complete, sets):
     return "\n".join(lines + [f"e {len(sets['u'])} {len(sets['m'])}"]) + "\n"
 
 
+def problem_of(name):
+    """The problem of a file; refused if it is none."""
+    with open(name, encoding="latin-1", newline="") as file:
+        text = file.read()
+    try:
+        return Problem(text)
+    except NoProblem as why:
+        raise telling.Refused(f"{name}: this is no GCNF file: {why}") from None
+    except (ValueError, IndexError):
+        raise telling.Refused(f"{name}: this is no GCNF file: a number is missing in its header or in a clause") from None
+
+
 def main(words):
-    if len(words) != 2:
-        sys.exit(__doc__)
-    with open(words[0], encoding="latin-1", newline="") as file:
-        problem = Problem(file.read())
+    if len(words) != 2 or any(word.startswith("-") for word in words):
+        raise telling.WrongWords("a file and evidence about it are wanted")
+    problem = problem_of(words[0])
     with open(words[1], "rb") as file:
         text = file.read(MAX_BYTES + 1)
     try:
         complete, sets = check(problem, text)
     except Refused as refused:
         print(f"evidence refused: {refused}", file=sys.stderr)
-        return 9
+        return EVIDENCE_REFUSED
     sys.stdout.write(report(problem, complete, sets))
-    return 0
+    return telling.DONE
 
 
 if __name__ == "__main__":
-    sys.exit(main(sys.argv[1:]))
+    telling.run("check_evidence.py", main, __doc__)

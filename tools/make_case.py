@@ -8,9 +8,10 @@ sets are. This program shares nothing with gmus, which makes the same problems.
 """
 import sys
 
+from telling import WrongWords, run
+
 MODULUS = 65537
 MOST_WIDE = 8
-REFUSED = 2
 
 
 def widths(seed, size):
@@ -46,16 +47,13 @@ def text_of(seed, size):
 
 
 def main(words):
-    if len(words) != 2 or not all(word.isascii() and word.isdigit() for word in words):
-        print("make_case.py: two numbers are wanted, a seed and a size", file=sys.stderr)
-        return REFUSED
+    if len(words) != 2 or not all(word.isascii() and word.isdigit() and len(word.lstrip("0")) <= 20 for word in words):
+        raise WrongWords("two numbers are wanted, a seed and a size")
     seed, size = map(int, words)
     if seed >= 2 ** 64 or not 1 <= size <= 1000:
-        print("make_case.py: a seed is below 2^64, and a size 1 to 1000", file=sys.stderr)
-        return REFUSED
+        raise WrongWords("a seed is below 2^64, and a size 1 to 1000")
     sys.stdout.write(text_of(seed, size))
-    return 0
 
 
 if __name__ == "__main__":
-    sys.exit(main(sys.argv[1:]))
+    run("make_case.py", main, __doc__)

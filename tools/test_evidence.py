@@ -3,6 +3,7 @@
 import os
 import subprocess
 import sys
+import tempfile
 import unittest
 
 TOOLS = os.path.dirname(os.path.abspath(__file__))
@@ -172,6 +173,27 @@ class Command(unittest.TestCase):
         self.assertEqual((done.returncode, done.stdout.decode(), done.stderr), (0, REPORT, b""))
         done = self.run_on(with_lines(30, 30).encode())
         self.assertEqual((done.returncode, done.stdout, done.stderr), (9, b"", b"evidence refused: line 30: 1 BadLine\n"))
+
+    def test_what_is_no_evidence_is_told(self):
+        usage = "    tools/check_evidence.py FILE EVIDENCE\n"
+        with tempfile.TemporaryDirectory() as room:
+            for text, why in (("x", "it does not begin with 'p gcnf'"), ("p gcnf 1 1", "a number is missing in its header or in a clause"),
+                              ("p gcnf 1 1 1 1 0 0", "a clause begins with its group in braces"),
+                              ("p gcnf 1 1 1 {1} 1", "a number is missing in its header or in a clause"),
+                              ("p gcnf 1 1 1 {1} 1 0 {1} 1 0", "something stands behind the last clause")):
+                path = os.path.join(room, "f")
+                with open(path, "w", encoding="utf-8") as file:
+                    file.write(text)
+                self.told([path, path], 1, f"check_evidence.py: {path}: this is no GCNF file: {why}\n")
+            self.told([room, room], 1, f"check_evidence.py: {room}: Is a directory\n")
+            self.told([room + "/x", room], 1, f"check_evidence.py: {room}/x: No such file or directory\n")
+        for words in ([], ["a"], ["a", "b", "c"], ["-x", "b"]):
+            self.told(words, 2, "check_evidence.py: a file and evidence about it are wanted\n" + usage)
+
+    def told(self, words, status, said):
+        ended = subprocess.run([sys.executable, os.path.join(TOOLS, "check_evidence.py"), *words], stdout=subprocess.PIPE,
+                               stderr=subprocess.PIPE, universal_newlines=True, check=False)
+        self.assertEqual((ended.returncode, ended.stdout, ended.stderr), (status, "", said), words)
 
 
 if __name__ == "__main__":
