@@ -1,7 +1,7 @@
 #!/usr/bin/env python3
 """Builds the program, which proves each crate that it stands on: as many at a time as there are processors and memory.
 
-    tools/build.py             what ./gmus calls where there is no program, or a source is newer
+    tools/build.py     what ./gmus calls where there is no program, or a source is newer
 
 What the toolchain says goes to build.log at the top of the repository, a crate at a time; on standard error there is a line
 for each crate that is done with, and how long it has been so far. Where one fails, nothing above it is begun, and the
@@ -16,6 +16,7 @@ import time
 
 from crates import TOP, below_in, lowest_first, text_of
 from read_of import note_proved, own_of
+from telling import WrongWords, run
 
 PROGRAM = "gmus"
 # What a check takes at most, in bytes.
@@ -114,7 +115,9 @@ def call(words, crate, building, is_enough):
     return going.returncode
 
 
-def main():
+def main(words):
+    if words:
+        raise WrongWords("it takes no words")
     below = below_in(text_of("crates.txt"))
     owns = {crate: own_of(crate) for crate in lowest_first(below, PROGRAM)}
     began, done, many = time.monotonic(), [], len(owns)
@@ -137,4 +140,4 @@ def main():
 
 
 if __name__ == "__main__":
-    sys.exit(main())
+    run("build.py", main, __doc__)

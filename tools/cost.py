@@ -25,6 +25,7 @@ import sys
 import time
 
 from crates import TOP, below_in, text_of
+from telling import run
 
 TICKS = os.sysconf("SC_CLK_TCK")
 EVERY = 0.1
@@ -238,4 +239,4 @@ def main(words):
 
 
 if __name__ == "__main__":
-    sys.exit(main(sys.argv[1:]))
+    run("cost.py", main, __doc__)

@@ -19,6 +19,7 @@ from concurrent.futures import ThreadPoolExecutor
 from build import lanes, processors
 from crates import TOP, above, areas_in, below_in, lowest_first, text_of
 from read_of import is_proved, note_proved, own_of
+from telling import WrongWords, run
 
 PARTS = ("src", "specs", "proofs")
 
@@ -99,6 +100,8 @@ def try_tests(crate):
 
 
 def main(words):
+    if len(words) > 1 or words and words[0].startswith("-"):
+        raise WrongWords("one commit may be named, and no more")
     began = time.monotonic()
     below = below_in(text_of("crates.txt"))
     trials = dict(areas_in(text_of("crates.txt")))["trials"]
@@ -146,4 +149,4 @@ def said(proved, kept, played, tested, moved, minutes):
 
 
 if __name__ == "__main__":
-    sys.exit(main(sys.argv[1:]))
+    run("quick.py", main, __doc__)

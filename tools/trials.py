@@ -24,6 +24,7 @@ import sys
 TOP = os.path.dirname(os.path.dirname(os.path.abspath(__file__)))
 sys.path.insert(0, os.path.join(TOP, "bench"))
 import brute_force  # noqa: E402
+from telling import WrongWords, run  # noqa: E402
 
 ESCAPED = {"\\r": "\r", "\\t": "\t", "\\\\": "\\"}
 
@@ -132,10 +133,13 @@ def cases_in(script):
 
 
 def main(words):
+    for crate in words:
+        if crate.startswith("-") or crate not in crates():
+            raise WrongWords(f"'{crate}' is no crate with scripts")
     for crate in words or crates():
         with open(os.path.join(TOP, "crates", crate, "stdout"), "w", encoding="utf-8", newline="") as file:
             file.write(wanted(script_of(crate)))
 
 
 if __name__ == "__main__":
-    main(sys.argv[1:])
+    run("trials.py", main, __doc__)
