@@ -183,11 +183,13 @@ def name_of(crate, piece):
 
 
 def table(below, pieces):
-    """A line for each crate, the dearest first."""
+    """A line for each crate that was at work, the dearest first."""
     rows = []
     for crate in below:
         tries = [seconds for seconds, _ in tries_of(crate, pieces)]
         library, tests, base = (pieces.get((crate, name), 0) for name in ("library", "tests", "base"))
+        if library + tests + base + sum(tries) == 0:
+            continue
         rows.append((library + tests + base + sum(tries), crate, library, tests, base, len(tries), sum(tries), max(tries, default=0)))
     rows.sort(reverse=True)
     sums = [sum(row[at] for row in rows) for at in (0, 2, 3, 4, 5, 6)]
