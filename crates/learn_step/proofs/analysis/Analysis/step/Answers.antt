@@ -1,4 +1,4 @@
-use Rattle.std.proofs.Common.{◌∙◌, sym}
+use Rattle.std.proofs.Common.{◌∙◌, sym, rules}
 use Rattle.learn_step.proofs.AnalysisLemmas.{may_bring_in}
 use Rattle.learn_step.proofs.analysis.Analysis.step.Goals as goal
 
@@ -12,3 +12,7 @@ pub bring_in-requires-clause-values : goal.bring_in-requires-clause-values
 bring_in-requires-clause-values c =
     (may_bring_in c.args.store.now.clauses c.args.trail.now.entries c.args.place c.entry-entry.result c.in-Some.id c.requires.reasoned c.requires.in_range c.entry-entry.ensures
     (sym c.hint.ensures ∙ c.in-Some.is)).values
+
+-- the literal stays, or what the reason needs comes in its place
+pub returns : goal.returns
+returns c = search rules

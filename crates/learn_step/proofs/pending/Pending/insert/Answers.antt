@@ -1,4 +1,4 @@
-use Rattle.std.proofs.Common.{◌≡◌, ◌/◌, ◌∙◌, refl, sym, arith, subst, slice_index_or, slice_set}
+use Rattle.std.proofs.Common.{◌≡◌, ◌/◌, ◌∙◌, sym, subst, slice_index_or, slice_set}
 use Rattle.std.proofs.lemmas.List.{get_or_default}
 use Rattle.sat_base.specs.Work.{HasMore}
 use Rattle.learn_step.specs.Pending.{AreCut, pending}

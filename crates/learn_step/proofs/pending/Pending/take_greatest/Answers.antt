@@ -1,8 +1,7 @@
-use Rattle.std.proofs.Common.{◌≡◌, ◌/◌, ◌<◌, ◌∙◌, length, refl, sym, arith, subst, slice_index_or, slice_set}
+use Rattle.std.proofs.Common.{◌≡◌, ◌/◌, ◌<◌, ◌∙◌, length, sym, arith, subst, slice_index_or, slice_set}
 use Rattle.std.proofs.lemmas.List.{get_or_default}
 use Rattle.sat_base.specs.Members.{In}
-use Rattle.sat_base.specs.Work.{LosesCopies}
-use Rattle.learn_step.specs.Pending.{AreSame, pending}
+use Rattle.learn_step.specs.Pending.{AreSame}
 use Rattle.learn_step.proofs.PendingLemmas.{without_place, lost_place, has_word}
 use Rattle.learn_step.proofs.pending.Pending.take_greatest.Goals as goal
 
