@@ -1,4 +1,5 @@
 pub mod ListLemmas
+pub mod AppendLemmas
 pub mod GrowsLemmas
 pub mod ClauseLemmas
 pub mod LevelLemmas

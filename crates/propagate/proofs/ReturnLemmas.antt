@@ -1,6 +1,7 @@
 -- Watches that go back to the lists.
 use Rattle.std.proofs.Common.{◌≡◌, ◌≢◌, ℕ, suc, ◌+◌, ◌-◌, ◌*◌, ◌/◌, ◌<◌, ◌≤◌, List, [], ◌∷◌, ◌++◌, length, None, refl, sym, ◌∙◌, ap, subst, inl, inr, arith, true}
 use Rattle.std.specs.Prelude.{ℤ, Bool, false}
+use Rattle.std.proofs.lemmas.List.{drop_all}
 use Rattle.std.proofs.lemmas.Bool.{cases_eq, cases_lt, false≢true}
 use Rattle.sat_base.specs.Members.{In}
 use Rattle.sat_base.specs.Literals.{IsLiteral}
@@ -309,6 +310,10 @@ step_left s t lit id fuel some r =
     omega (arith, long, enough)
 
 -- ---- the trail
+
+-- none of them is older than the first
+pub oldest_none : (n : ℕ) (es : List Entry) → n ≡ 0 → oldest n es ≡ []
+oldest_none n es none = drop_all (length es - n) es (omega (arith, none))
 
 -- the oldest values, where they are of no higher level, are among those up to the level
 pub oldest_within : (n level : ℕ) (es : List Entry) (l : ℤ) → n ≤ length es → top (oldest n es) ≤ level → In l (trues (oldest n es)) → In l (trues (keep level es))

@@ -6,7 +6,7 @@ use crate::entry::Entry;
 use sat_base::Lit;
 
 /// A literal that is true, its level, and two ids, where 0 stands for none.
-#[derive(Clone, Copy, Debug)]
+#[derive(Clone, Copy)]
 pub(crate) struct Slot {
     pub lit: Lit,
     pub level: u32,

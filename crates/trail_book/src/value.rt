@@ -5,7 +5,7 @@ ghost use Rattle.trail_book.specs.Values.{value_by};
 use sat_base::Lit;
 
 /// What the trail makes of a variable.
-#[derive(Clone, Copy, PartialEq, Eq, Debug)]
+#[derive(Clone, Copy, PartialEq, Eq)]
 pub(crate) enum Value {
     Unset,
     True,

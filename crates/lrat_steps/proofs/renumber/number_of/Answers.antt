@@ -1,4 +1,4 @@
-use Rattle.std.proofs.Common.{◌<◌, ◌+◌, ◌^◌, arith}
+use Rattle.std.proofs.Common.{◌<◌, ◌+◌, ◌^◌, arith, rules}
 use Rattle.sat_base.specs.Members.{In}
 use Rattle.lrat_steps.proofs.ConeLemmas.{reached_derived}
 use Rattle.lrat_steps.proofs.PlaceLemmas.{place_below}
@@ -21,3 +21,7 @@ overflow_add-result-2 c = let sum = small c in omega arith
 
 pub returns-clause-small : goal.returns-clause-small
 returns-clause-small c = let sum = small c in omega arith
+
+-- an input is numbered among the inputs
+pub returns-then-is_input-clause-number : goal.returns-then-is_input-clause-number
+returns-then-is_input-clause-number c = search rules
