@@ -1,4 +1,4 @@
-use Rattle.std.proofs.Common.{inr}
+use Rattle.std.proofs.Common.{inr, rules}
 use Rattle.lrat_steps.proofs.renumber.push_step.Goals as goal
 
 -- the id of a cone is that of a derived step
@@ -22,3 +22,7 @@ lits-requires-clause-from_one c = (c.requires.cone.derived c.args.id c.requires.
 
 pub lits-requires-clause-within : goal.lits-requires-clause-within
 lits-requires-clause-within c = (c.requires.cone.derived c.args.id c.requires.has).within
+
+-- all its hints have their numbers
+pub returns : goal.returns
+returns c = search rules
