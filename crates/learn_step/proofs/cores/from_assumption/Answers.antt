@@ -44,3 +44,8 @@ returns-clause-core c =
     let one : new.lits.items ≡ neg_ℤ m ∷ [] = kept ∙ start in
     core_assumed c.args.trail.now.vars db es m p e c.in-Some.id old.places new.places old.hints.items new.hints.items new.lits.items c.vars-vars.ensures.trail c.requires.reasoned c.requires.forced
     c.place-place.ensures.within c.entry-entry.ensures lit (sym c.hint.ensures ∙ c.in-Some.is) c.new-analysis.ensures.places one c.new-analysis.ensures.hints c.in_ok-bring_in.ensures.brought_in
+
+pub returns-clause-lits : goal.returns-clause-lits
+returns-clause-lits c =
+    ap (λ v. v.items) c.in_ok-bring_in.ensures.lits
+    ∙ c.in_ok-push.ensures.items ∙ ap (λ (ls : List ℤ). ls ++ c.negated.result ∷ []) c.new-analysis.ensures.lits ∙ ap (λ (l : ℤ). l ∷ []) c.negated.ensures
