@@ -11,3 +11,7 @@ returns-in-Some-false c =
     let t = c.args.trail.now in
     let value : c.value.result ≡ Some false = c.in-Some-false.is ∙ ap (λ (b : Bool). Some b) c.in-Some-false.field-0-test in
     record { no = λ no is. trail_consistent t.vars t.entries c.vars-vars.ensures.trail c.args.lit is (subst (IsValue (trues t.entries) c.args.lit) value c.value.ensures) }
+
+-- nor is one without value
+pub returns-in-None : goal.returns-in-None
+returns-in-None c = record { no = λ no. (subst (IsValue (trues c.args.trail.now.entries) c.args.lit) c.in-None.is c.value.ensures).not_true }
