@@ -176,3 +176,6 @@ back_to-requires-clause-hung c =
     let re = c.bump_conflict.ensures in
     (kept_same c.add_step.new.store s.trail c.bump_conflict.new.trail id (ap (λ (t : Trail). t.entries) re) (ap (λ (t : Trail). t.vars) re) (ap (λ (t : Trail). t.done) re)
     (new_kept s.store c.add_step.new.store s.trail id lits c.requires.search.kept c.add_step.ensures.links stored c.add_step.ensures.vars c.in_ok-reason.ensures.id)).hung
+
+pub returns-clause-unit : goal.returns-clause-unit
+returns-clause-unit c = omega (arith, c.requires.purse)

@@ -1,7 +1,9 @@
-use Rattle.std.proofs.Common.{◌∙◌, ap, sym, subst, take}
+use Rattle.std.proofs.Common.{◌∙◌, List, ap, sym, subst, take}
 use Rattle.sat_base.specs.Units.{AllTrue}
 use Rattle.trail_book.specs.Trail.{Trail, trues}
 use Rattle.propagate.proofs.KeptLemmas.{kept_same}
+use Rattle.lrat_steps.specs.Log.{LogStep}
+use Rattle.cdcl_core.specs.Answers.{IsHonestlyPaid}
 use Rattle.cdcl_core.specs.State.{IsState, ArePositive}
 use Rattle.cdcl_core.proofs.search.Search.run.Goals as goal
 
@@ -24,3 +26,8 @@ resume-requires-clause-ready c =
 
 pub returns-clause-ready : goal.returns-clause-ready
 returns-clause-ready c = record { assumed = c.args.assumed.now; search = c.in_ok-answer.ensures.ends.search }
+
+-- to go on from another trail costs nothing
+pub returns-clause-paid : goal.returns-clause-paid
+returns-clause-paid c =
+    subst (λ (log : List LogStep). IsHonestlyPaid log c.search.new.self.log c.args.purse.now.left c.search.new.purse.left) c.resume.ensures.log c.search.ensures.paid

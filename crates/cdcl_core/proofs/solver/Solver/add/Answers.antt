@@ -86,3 +86,6 @@ invariant_of-self-2 c =
             };
           };
     }
+
+pub returns-clause-ok : goal.returns-clause-ok
+returns-clause-ok c = rw (← c.self.view_is, c.enter.ensures.vars, c.in_ok-id.ensures.logged) refl
