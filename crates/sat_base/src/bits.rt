@@ -1,6 +1,6 @@
 //! Truth values as bits of words.
 ghost use Rattle.std.specs.Prelude.{◌≡◌, ◌<◌, ◌*◌, length};
-ghost use Rattle.sat_base.specs.Bits.{truth_at, with_truth};
+ghost use Rattle.sat_base.specs.Bits.{truth_at, with_bit, with_truth};
 
 /// The truth value at a place.
 pub(crate) fn read(words: &[u64], at: usize) -> bool
@@ -15,7 +15,14 @@ pub(crate) fn write(words: &mut Vec<u64>, at: usize, value: bool)
     requires { at < 64 * length words.old.items }
     ensures { words.new.items ≡ with_truth words.old.items at value }
 {
-    let word = words[at / 64];
-    let bit = 1 << (at % 64);
-    words[at / 64] = if value { word | bit } else { word & !bit };
+    words[at / 64] = with_bit(words[at / 64], at % 64, value);
+}
+
+// The word with one bit set or cleared.
+fn with_bit(word: u64, at: usize, value: bool) -> u64
+    requires { at < 64 }
+    ensures { result ≡ with_bit word at value }
+{
+    let bit = 1 << at;
+    if value { word | bit } else { word & !bit }
 }

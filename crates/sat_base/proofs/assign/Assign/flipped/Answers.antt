@@ -1,6 +1,6 @@
-use Rattle.std.proofs.Common.{◌≡◌, ℕ, ◌-◌, ◌*◌, ◌<◌, List, length, not, false, get_or, set, sym, ◌∙◌, ap, arith}
+use Rattle.std.proofs.Common.{◌≡◌, ◌-◌, ◌*◌, ◌<◌, length, not, set, ◌∙◌, ap, arith}
 use Rattle.std.specs.Arc.{arc_value}
-use Rattle.sat_base.specs.Bits.{truths, truth_at, with_truth}
+use Rattle.sat_base.specs.Bits.{truths, with_truth}
 use Rattle.sat_base.proofs.BitLemmas.{length-truths, truths-with_truth}
 use Rattle.sat_base.proofs.assign.Assign.flipped.Goals as goal
 
