@@ -14,3 +14,7 @@ loop-part-preserved c = λ at below lt.
           subst (IsWitnessAt c.args.problem.now c.args.set.now c.args.witnesses.now) place
           (c.in_ok-part_holds.ensures (let no = c.if-not-branch.false in cc) (at - from) (omega (arith, here)) (omega (arith, here)))
     ]
+
+-- the parts hold all witnesses
+pub returns : goal.returns
+returns c = λ _ at lt. c.loop-part.invariant at (omega arith) lt

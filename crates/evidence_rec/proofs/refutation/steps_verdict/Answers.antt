@@ -1,4 +1,4 @@
-use Rattle.std.proofs.Common.{◌∙◌, ap, sym, ℕ, Some}
+use Rattle.std.proofs.Common.{◌∙◌, ap, sym, ℕ, Some, rules}
 use Rattle.sat_base.specs.Derivation.{Step}
 use Rattle.lrat_check.specs.State.{refusal_of, known_after}
 use Rattle.lrat_check.specs.declared.checker.Checked.{Checked}
@@ -20,3 +20,7 @@ loop-at-preserved c =
     (sym c.in_ok-step.ensures.answer ∙ ap refusal_of c.in-Ok.is)
     (c.in_ok-step.ensures.known ∙ ap (λ (k : Checked). known_after k c.loop-at.checker.known s.id s.lits) c.in-Ok.is)
     c.in_ok-step.ensures.vars c.in_ok-step.ensures.inputs
+
+-- no step was taken
+pub loop-at-init : goal.loop-at-init
+loop-at-init c = search rules
