@@ -1,10 +1,10 @@
 use Rattle.std.proofs.Common.{◌≡◌, true, Some, List, [], ◌∷◌, ◌++◌, subst, sym, ap, ◌∙◌}
-use Rattle.gm_base.specs.Sets.{with_group}
+use Rattle.gm_base.specs.Sets.{IsSubset, IsGroupSet, all_groups, with_group}
 use Rattle.gm_base.specs.Problem.{Problem}
 use Rattle.sat_base.specs.Derivation.{Derivation}
 use Rattle.gm_base.specs.Index.{group_true}
 use Rattle.gm_base.specs.Evidence.{is_witness}
-use Rattle.evidence_rec.specs.Asking.{TellsAsked, refuted_by}
+use Rattle.evidence_rec.specs.Asking.{TellsAsked, IsDryAt, refuted_by}
 use Rattle.evidence_rec.proofs.WithLemmas.{with_group-positive}
 use Rattle.mss_grow.specs.Growth.{IsGrowth}
 use Rattle.mss_grow.proofs.GrowthLemmas.{put_in-from, leave, is_witness-with_group}
@@ -48,3 +48,19 @@ returns-clause-settled g c set passed not_given not_passed h =
           put_in-from p set passed old mid c.args.g old.witness c.in_ok-growth.field-0 w.growth-is c.in_ok-growth.ensures not_passed h
           (subst (λ (q : Problem). is_witness q more old.witness ≡ true) same (is_witness-with_group c.args.problem.now old.set old.witness c.args.g c.requires.satisfied made))
     ]
+
+-- at an empty purse the set asked is told, and not passed over
+pub returns-in-Dry-clause-settled : goal.returns-in-Dry-clause-settled
+returns-in-Dry-clause-settled g c =
+    let new = g.O.Oracle.state c.ask_with.new.self in
+    let more = with_group c.args.growth.now.set c.args.g in
+    let left = c.ask_with.new.purse.left in
+    let answer = subst (TellsAsked new more left) c.in-Dry.is c.in_ok-witness.ensures.answer in
+    let asked = c.in_ok-asked-in-Dry.ensures in
+    subst (λ s. IsDryAt new s left) (sym asked)
+    (record {
+      is_set = subst IsGroupSet asked c.as_slice-groups.ensures.ascends;
+      within = subst (λ (p : Problem). IsSubset more (all_groups p.groups)) (c.requires.problem ∙ sym c.in_ok-witness.ensures.spent.problem) c.requires.within;
+      empty = answer.0;
+      undecided = answer.1;
+    })
