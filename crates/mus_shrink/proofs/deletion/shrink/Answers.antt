@@ -1,7 +1,7 @@
-use Rattle.std.proofs.Common.{◌≡◌, ◌+◌, take, get_or, subst, sym, ◌∙◌, arith}
+use Rattle.std.proofs.Common.{◌≡◌, ◌+◌, take, get_or, subst, sym, ◌∙◌, arith, rules}
 use Rattle.std.proofs.lemmas.List.{take_all, take_more}
 use Rattle.evidence_rec.specs.Asking.{IsHonestOver}
-use Rattle.evidence_rec.proofs.AskingLemmas.{IsSpent-then}
+use Rattle.evidence_rec.proofs.AskingLemmas.{IsSpent-same, IsSpent-then}
 use Rattle.mus_shrink.specs.Candidate.{IsCandidate, TellsTried}
 use Rattle.mus_shrink.proofs.CandidateLemmas.{AcceptsConflict-from_candidate, IsShaped-from_candidate}
 use Rattle.mus_shrink.proofs.deletion.shrink.Goals as goal
@@ -43,3 +43,13 @@ returns-clause-shrunk g c =
       IsShaped-from_candidate last.problem c.args.set.now c.loop-g.candidate c.as_slice-g-items.ensures.ascends tried,
       AcceptsConflict-from_candidate last.problem c.args.set.now c.loop-g.candidate c.as_slice-g-items.ensures.ascends tried,
     )
+
+-- no group was tried, and nothing was asked
+pub loop-g-init : goal.loop-g-init
+loop-g-init g c =
+    record {
+      candidate = search rules;
+      asks = omega arith;
+      honest = λ first. first;
+      spent = IsSpent-same (g.O.Oracle.state c.args.oracle.now) c.args.purse.now.left;
+    }
