@@ -107,7 +107,8 @@ impl Auditor {
                 records,
             });
         };
-        match closing_offence(alloc, problem, &records, line, &proof)? {
+        let refusal = closing_offence(alloc, problem, &records, line, &proof)?;
+        match refusal {
             Some(offence) => Ok(Audited::refused(offence)),
             None => Ok(Audited::Yes {
                 complete: true,

@@ -2,11 +2,11 @@
 //!
 //! The block clauses of all records are given to a checker of steps, over the groups as variables. Where it takes all steps
 //! and the goal names the empty clause, no set of groups is left that nothing explores.
-ghost use Rattle.std.specs.Prelude.{◌≡◌, ◌+◌, ◌++◌, ◌∷◌, [], List, ℤ, IfOk, OnOk, length, map};
+ghost use Rattle.std.specs.Prelude.{◌≡◌, ◌+◌, ◌++◌, ◌∷◌, [], List, ℕ, ℤ, IfOk, OnOk, length, map};
 ghost use Rattle.std.specs.Option.{option_or};
 ghost use Rattle.std.specs.List.{AllByRecursion};
 ghost use Rattle.gm_base.specs.Sets.{IsSubset, all_groups};
-ghost use Rattle.gm_base.specs.Explored.{block_clause};
+ghost use Rattle.gm_base.specs.Explored.{block_clause, block_of};
 ghost use Rattle.sat_base.specs.Derivation.{numbered, all_known};
 ghost use Rattle.evidence_rec.specs.Records.{found_of, founds, set_of, IsAccepted};
 ghost use Rattle.evidence_rec.specs.Verdicts.{refusal_by};
@@ -101,10 +101,17 @@ fn add_block(alloc: Global, checker: &mut Checker, found: &Record) -> Result<(),
 {
     // This also tells that its variables are few.
     let _vars = checker.vars();
-    let side = match found.kind() {
-        Kind::Conflict => Side::Up,
-        Kind::Correction => Side::Down,
-    };
+    let side = side_of(found.kind());
     let lits = block_lits(alloc, found.set(), side)?;
     checker.add_input(lits.as_slice())
+}
+
+// The side to which a set of this kind blocks.
+fn side_of(kind: Kind) -> Side
+    ensures { (set : List ℕ) → block_of result set ≡ record { kind = kind; set = set } }
+{
+    match kind {
+        Kind::Conflict => Side::Up,
+        Kind::Correction => Side::Down,
+    }
 }
