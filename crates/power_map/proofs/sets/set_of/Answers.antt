@@ -1,4 +1,4 @@
-use Rattle.std.proofs.Common.{◌≡◌, ◌∙◌, ◌+◌, ◌∷◌, ◌++◌, [], ℕ, List, true, false, get_or, w32, sym, ap, subst, arith}
+use Rattle.std.proofs.Common.{◌≡◌, ◌∙◌, ◌+◌, ◌∷◌, ◌++◌, [], ℕ, List, true, false, get_or, w32, sym, ap, subst, arith, rules}
 use Rattle.std.specs.Prelude.{pos}
 use Rattle.std.proofs.lemmas.Int.{to_z_pos}
 use Rattle.gm_base.specs.Sets.{IsGroupSet}
@@ -29,3 +29,7 @@ loop-at-preserved c =
           ∙ sym (true_next assign at (value ∙ w.if-makes_true.true))
       | else-makes_true w ↦ w.set-is ∙ c.loop-at.invariant ∙ sym (false_next assign at (value ∙ w.if-makes_true.false))
     ]
+
+-- no group was looked at
+pub loop-at-init : goal.loop-at-init
+loop-at-init c = search rules
