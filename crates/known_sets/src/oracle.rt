@@ -7,10 +7,11 @@
 //!
 //! An answer from memory leaves the log and the purse. That the purse was empty is never remembered: with more in it the
 //! same question can be answered.
-ghost use Rattle.std.specs.Prelude.{◌≡◌, ℕ, true, IfOk, IsSome, List, Some, None, OnErr};
+ghost use Rattle.std.specs.Prelude.{◌≡◌, ℕ, Bool, true, IfOk, IsSome, List, Some, None, OnErr};
 ghost use Rattle.gm_base.specs.Sets.{IsSubset, all_groups};
-ghost use Rattle.gm_base.specs.Evidence.{refutes};
+ghost use Rattle.gm_base.specs.Evidence.{refutes, is_witness};
 ghost use Rattle.evidence_rec.specs.Asking.{OracleState, TellsAsked, IsSpent, IsHonestOver, refuted_by, asked_once};
+ghost use Rattle.evidence_rec.specs.declared.oracle.Asked.TheVariants as asked;
 ghost use Rattle.evidence_rec.specs.Records.{IsAccepted};
 ghost use Rattle.known_sets.specs.Memory.{IsRightFor};
 ghost use Rattle.known_sets.specs.Inside.{refuted_set, IsProved};
@@ -125,17 +126,9 @@ impl<O: Oracle> KnownSets<O> {
         ensures spent { IsSpent self.old self.new purse.old.left purse.new.left }
         ensures honest { IsHonestOver self.new.problem self.new.log }
     {
-        match self.oracle.ask(alloc, set, turn, purse)? {
-            Asked::Sat(assign) => {
-                self.memory.keep_satisfied(alloc, set, &assign);
-                Ok(Asked::Sat(assign))
-            }
-            Asked::Unsat(core) => {
-                self.last = keep(alloc, &self.oracle, &mut self.memory, &core);
-                Ok(Asked::Unsat(core))
-            }
-            Asked::Dry => Ok(Asked::Dry),
-        }
+        let answer = self.oracle.ask(alloc, set, turn, purse)?;
+        self.last = remembered(alloc, &self.oracle, &mut self.memory, set, &answer);
+        Ok(answer)
     }
 }
 
@@ -240,6 +233,30 @@ impl<O: Oracle> Oracle for KnownSets<O> {
 
     fn into_log(self) -> Log {
         self.oracle.into_log()
+    }
+}
+
+// Remembers the last answer of the oracle within, which was about this set, and says what it leaves for a proof.
+fn remembered<O: Oracle>(
+    alloc: Global,
+    oracle: &O,
+    memory: &mut Memory,
+    set: &GroupSet,
+    answer: &Asked,
+) -> Last
+    requires refuted { (O.state oracle.now).refuted ≡ refuted_by answer.now }
+    requires satisfied { (assign : List Bool) → answer.now ≡ asked.Sat assign → is_witness (O.state oracle.now).problem set.now assign ≡ true }
+    ensures right { IsRightFor (O.state oracle.now).problem memory.old → IsRightFor (O.state oracle.now).problem memory.new }
+    ensures proved { IsProved (O.state oracle.now).problem result }
+    ensures set { refuted_set (O.state oracle.now).refuted result ≡ refuted_by answer.now }
+{
+    match answer {
+        Asked::Sat(assign) => {
+            memory.keep_satisfied(alloc, set, assign);
+            Last::Nothing
+        }
+        Asked::Unsat(core) => keep(alloc, oracle, memory, core),
+        Asked::Dry => Last::Nothing,
     }
 }
 
