@@ -66,7 +66,7 @@ fn try_group<O: Oracle>(
     requires within { IsSubset candidate.old.set (all_groups (O.state oracle.old).problem.groups) }
     ensures tried { IfOk result (λ dry. TellsTried (O.state oracle.new) candidate.old g candidate.new purse.new.left dry) }
     ensures asks { (O.state oracle.new).asks ≤ (O.state oracle.old).asks + 1 }
-    ensures honest { IsHonestOver (O.state oracle.old).problem (O.state oracle.old).log → IsHonestOver (O.state oracle.old).problem (O.state oracle.new).log }
+    ensures honest { IsHonestOver (O.state oracle.old).problem (O.state oracle.old).log → IsHonestOver (O.state oracle.new).problem (O.state oracle.new).log }
     ensures spent { IsSpent (O.state oracle.old) (O.state oracle.new) purse.old.left purse.new.left }
 {
     if !candidate.set.contains(g) {
@@ -75,17 +75,18 @@ fn try_group<O: Oracle>(
     match oracle.ask_without(alloc, &candidate.set, g, turn, purse)? {
         Asked::Sat(witness) => {
             candidate.witnesses.push(witness)?;
+            Ok(None) // The group is critical.
         }
         Asked::Unsat(core) => {
             // The oracle derives its last answer alone, so the core's proof is taken before the next question.
             let proof = oracle.proof(alloc)?;
             candidate.proof = proof;
             candidate.set = core;
+            Ok(None)
         }
         Asked::Dry => {
             let rest = candidate.set.without(alloc, g)?;
-            return Ok(Some(rest));
+            Ok(Some(rest))
         }
     }
-    Ok(None)
 }

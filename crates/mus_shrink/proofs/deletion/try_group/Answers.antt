@@ -7,10 +7,9 @@ use Rattle.evidence_rec.specs.Asking.{TellsAsked, IsDryAt, refuted_by}
 use Rattle.mus_shrink.specs.Candidate.{IsCandidate}
 use Rattle.mus_shrink.proofs.CandidateLemmas.{IsSubset-from_without, candidate-critical, candidate-core}
 use Rattle.mus_shrink.proofs.deletion.try_group.Goals as goal
-use Rattle.mus_shrink.proofs.deletion.try_group.Goals.{in-Sat+in_ok-push-in-Sat, in-Unsat+in_ok-proof-in-Unsat}
 
-pub returns-in-Dry-clause-tried : goal.returns-in-Dry-clause-tried
-returns-in-Dry-clause-tried g c =
+pub returns-in_ok-rest-in-Dry-clause-tried : goal.returns-in_ok-rest-in-Dry-clause-tried
+returns-in_ok-rest-in-Dry-clause-tried g c =
     let new = g.O.Oracle.state c.ask_without.new.self in
     let set = c.args.candidate.now.set in
     let answer = subst (TellsAsked new (without set c.args.g) c.ask_without.new.purse.left) c.in-Dry.is c.in_ok-witness.ensures.answer in
@@ -24,25 +23,21 @@ returns-in-Dry-clause-tried g c =
       undecided = answer.1;
     })
 
-pub returns-clause-tried : goal.returns-clause-tried
-returns-clause-tried g c set tried h =
+-- the group is critical
+pub returns-in_ok-push-in-Sat-clause-tried : goal.returns-in_ok-push-in-Sat-clause-tried
+returns-in_ok-push-in-Sat-clause-tried g c set tried h =
     let new = g.O.Oracle.state c.ask_without.new.self in
     let old = c.args.candidate.now in
-    let tells = TellsAsked new (without old.set c.args.g) c.ask_without.new.purse.left in
     let inside : has old.set c.args.g ≡ true = cc in
-    elim c.match-branch-2.branch [
-      -- the group is critical
-      | in-Sat+in_ok-push-in-Sat w ↦
-          let answer = subst tells w.in-Sat.is c.in_ok-witness.ensures.answer in
-          let is : c.match-branch-2.candidate ≡ record old { witnesses = old.witnesses ++ w.in-Sat.witness ∷ [] } =
-          w.candidate-is ∙ ap (λ (ws : List (List Bool)). record old { witnesses = ws }) w.in_ok-push-in-Sat.ensures.ok in
-          subst (IsCandidate new.problem set (tried ++ c.args.g ∷ [])) (sym is)
-          (candidate-critical new.problem set tried old c.args.g w.in-Sat.witness inside answer h)
-      -- the core takes the set's place
-      | in-Unsat+in_ok-proof-in-Unsat w ↦
-          let answer = subst tells w.in-Unsat.is c.in_ok-witness.ensures.answer in
-          let refuted : new.refuted ≡ Some w.in-Unsat.core = c.in_ok-witness.ensures.refuted ∙ ap refuted_by w.in-Unsat.is in
-          subst (IsCandidate new.problem set (tried ++ c.args.g ∷ [])) (sym w.candidate-is)
-          (candidate-core new.problem set tried old c.args.g w.in-Unsat.core w.in_ok-proof-in-Unsat.proof answer.0 answer.1 answer.2
-          (w.in_ok-proof-in-Unsat.ensures w.in-Unsat.core refuted) h)
-    ]
+    let answer = subst (TellsAsked new (without old.set c.args.g) c.ask_without.new.purse.left) c.in-Sat.is c.in_ok-witness.ensures.answer in
+    subst (λ (ws : List (List Bool)). IsCandidate new.problem set (tried ++ c.args.g ∷ []) (record old { witnesses = ws })) (sym c.in_ok-push-in-Sat.ensures.ok)
+    (candidate-critical new.problem set tried old c.args.g c.in-Sat.witness inside answer h)
+
+-- the core takes the set's place
+pub returns-in_ok-proof-in-Unsat-clause-tried : goal.returns-in_ok-proof-in-Unsat-clause-tried
+returns-in_ok-proof-in-Unsat-clause-tried g c set tried h =
+    let new = g.O.Oracle.state c.ask_without.new.self in
+    let core = c.in-Unsat.core in
+    let answer = subst (TellsAsked new (without c.args.candidate.now.set c.args.g) c.ask_without.new.purse.left) c.in-Unsat.is c.in_ok-witness.ensures.answer in
+    let refuted : new.refuted ≡ Some core = c.in_ok-witness.ensures.refuted ∙ ap refuted_by c.in-Unsat.is in
+    candidate-core new.problem set tried c.args.candidate.now c.args.g core c.in_ok-proof-in-Unsat.proof answer.0 answer.1 answer.2 (c.in_ok-proof-in-Unsat.ensures core refuted) h
