@@ -180,19 +180,6 @@ put_in p set passed old g w not_passed h witnessed =
           (proofs-serve p old.set more (left_out old.set passed) old.proofs (IsSubset-with_group old.set g) h.refuted);
     }
 
--- the same of a growth that is written down
-pub put_in-from : (p : Problem) (set passed : List ℕ) (old mid : Growth) (g : ℕ) (w : List Bool) (more : List ℕ) → mid ≡ record { set = old.set; witness = w; proofs = old.proofs }
-    → more ≡ with_group mid.set g → has passed g ≡ false → IsGrowth p set passed old → is_witness p (with_group old.set g) w ≡ true
-    → IsGrowth p set (passed ++ g ∷ []) (record { set = more; witness = mid.witness; proofs = mid.proofs })
-put_in-from p set passed old mid g w more is same not_passed h witnessed =
-    let plain : Growth = record { set = with_group old.set g; witness = w; proofs = old.proofs } in
-    let now : Growth = record { set = more; witness = mid.witness; proofs = mid.proofs } in
-    let set_is : with_group old.set g ≡ more = sym (same ∙ ap (λ (m : Growth). with_group m.set g) is) in
-    let witness_is : w ≡ mid.witness = sym (ap (λ (m : Growth). m.witness) is) in
-    let proofs_are : old.proofs ≡ mid.proofs = sym (ap (λ (m : Growth). m.proofs) is) in
-    let equal : plain ≡ now = cc in
-    subst (IsGrowth p set (passed ++ g ∷ [])) equal (put_in p set passed old g w not_passed h witnessed)
-
 -- it does not
 pub leave : (p : Problem) (set passed core : List ℕ) (old : Growth) (g : ℕ) (proof : Derivation) → has set g ≡ false → has passed g ≡ false → IsGrowth p set passed old
     → IsSubset core (with_group old.set g) → refutes p core proof ≡ true

@@ -9,7 +9,7 @@
 //!
 //! A seed is often one of thousands of groups, and leaves out a few. So a question names the set at hand and the group, and
 //! what is done for each group does not walk the set, but where it grows.
-ghost use Rattle.std.specs.Prelude.{◌≡◌, ◌+◌, ◌≤◌, true, IfOk, length};
+ghost use Rattle.std.specs.Prelude.{◌≡◌, ◌+◌, ◌<◌, ◌≤◌, true, IfOk, OnOk, length};
 ghost use Rattle.gm_base.specs.Sets.{IsSubset, all_groups, complement, with_group};
 ghost use Rattle.gm_base.specs.Evidence.{is_witness};
 ghost use Rattle.evidence_rec.specs.Asking.{IsSpent, IsHonestOver};
@@ -75,27 +75,38 @@ fn settle<O: Oracle>(
     requires satisfied { is_witness problem.now growth.old.set growth.old.witness ≡ true }
     ensures settled { IfOk result (λ dry. TellsSettled (O.state oracle.new) growth.old g growth.new purse.new.left dry) }
     ensures asks { (O.state oracle.new).asks ≤ (O.state oracle.old).asks + 1 }
-    ensures honest { IsHonestOver problem.now (O.state oracle.old).log → IsHonestOver problem.now (O.state oracle.new).log }
+    ensures honest { IsHonestOver (O.state oracle.old).problem (O.state oracle.old).log → IsHonestOver (O.state oracle.new).problem (O.state oracle.new).log }
     ensures spent { IsSpent (O.state oracle.old) (O.state oracle.new) purse.old.left purse.new.left }
 {
-    if !problem.group_holds(g, &growth.witness) {
-        match oracle.ask_with(alloc, &growth.set, g, turn, purse)? {
-            Asked::Sat(witness) => {
-                growth.witness = witness;
-            }
-            Asked::Unsat(_core) => {
-                // The oracle derives its last answer alone, so the proof is taken before the next question.
-                let proof = oracle.proof(alloc)?;
-                growth.proofs.push(proof)?;
-                return Ok(None);
-            }
-            Asked::Dry => {
-                let asked = growth.set.with(alloc, g)?;
-                let _groups = asked.as_slice(); // They ascend.
-                return Ok(Some(asked));
-            }
+    if problem.group_holds(g, &growth.witness) {
+        put_in(alloc, growth, g)?;
+        return Ok(None);
+    }
+    match oracle.ask_with(alloc, &growth.set, g, turn, purse)? {
+        Asked::Sat(witness) => {
+            growth.witness = witness;
+            put_in(alloc, growth, g)?;
+            Ok(None) // It goes together with the set.
+        }
+        Asked::Unsat(_core) => {
+            // The oracle derives its last answer alone, so the proof is taken before the next question.
+            let proof = oracle.proof(alloc)?;
+            growth.proofs.push(proof)?;
+            Ok(None)
+        }
+        Asked::Dry => {
+            let asked = growth.set.with(alloc, g)?;
+            let _groups = asked.as_slice(); // They ascend.
+            Ok(Some(asked))
         }
     }
+}
+
+/// Puts a group into the set at hand.
+fn put_in(alloc: Global, growth: &mut Growth, g: u32) -> Result<(), AllocError>
+    requires { 0 < g }
+    ensures { OnOk result (growth.new ≡ record growth.old { set = with_group growth.old.set g }) }
+{
     growth.set = growth.set.with(alloc, g)?;
-    Ok(None)
+    Ok(())
 }

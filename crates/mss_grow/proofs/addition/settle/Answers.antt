@@ -5,21 +5,49 @@ use Rattle.sat_base.specs.Derivation.{Derivation}
 use Rattle.gm_base.specs.Index.{group_true}
 use Rattle.gm_base.specs.Evidence.{is_witness}
 use Rattle.evidence_rec.specs.Asking.{TellsAsked, IsDryAt, refuted_by}
+use Rattle.evidence_rec.proofs.AskingLemmas.{IsSpent-same}
 use Rattle.evidence_rec.proofs.WithLemmas.{with_group-positive}
 use Rattle.mss_grow.specs.Growth.{IsGrowth}
-use Rattle.mss_grow.proofs.GrowthLemmas.{put_in-from, leave, is_witness-with_group}
+use Rattle.mss_grow.proofs.GrowthLemmas.{put_in, leave, is_witness-with_group}
 use Rattle.mss_grow.proofs.addition.settle.Goals as goal
-use Rattle.mss_grow.proofs.addition.settle.Goals.{then-not-group_holds+in_ok-witness+in-Sat, else-not-group_holds}
+
+pub put_in-requires : goal.put_in-requires
+put_in-requires g c = with_group-positive c.args.problem.now.groups c.args.growth.now.set c.args.g c.requires.within
+
+pub put_in-requires-in-Sat : goal.put_in-requires-in-Sat
+put_in-requires-in-Sat g c = with_group-positive c.args.problem.now.groups c.args.growth.now.set c.args.g c.requires.within
 
 pub with-requires : goal.with-requires
 with-requires g c = with_group-positive c.args.problem.now.groups c.args.growth.now.set c.args.g c.requires.within
 
-pub with-requires-2 : goal.with-requires-2
-with-requires-2 g c = with_group-positive c.args.problem.now.groups c.args.growth.now.set c.args.g c.requires.within
+-- the assignment at hand satisfies the group too
+pub returns-then-group_holds-clause-settled : goal.returns-then-group_holds-clause-settled
+returns-then-group_holds-clause-settled g c set passed not_given not_passed h =
+    let old = c.args.growth.now in
+    let p = (g.O.Oracle.state c.args.oracle.now).problem in
+    let made : group_true c.args.problem.now.clauses old.witness c.args.g ≡ true = cc in
+    let held = is_witness-with_group c.args.problem.now old.set old.witness c.args.g c.requires.satisfied made in
+    subst (IsGrowth p set (passed ++ c.args.g ∷ [])) (sym c.in_ok-put_in.ensures)
+    (put_in p set passed old c.args.g old.witness not_passed h (subst (λ (q : Problem). is_witness q (with_group old.set c.args.g) old.witness ≡ true) c.requires.problem held))
+
+-- without a question nothing is spent
+pub returns-then-group_holds-clause-spent : goal.returns-then-group_holds-clause-spent
+returns-then-group_holds-clause-spent g c = IsSpent-same (g.O.Oracle.state c.args.oracle.now) c.args.purse.now.left
+
+pub returns-in_err-put_in-clause-spent : goal.returns-in_err-put_in-clause-spent
+returns-in_err-put_in-clause-spent g c = IsSpent-same (g.O.Oracle.state c.args.oracle.now) c.args.purse.now.left
+
+-- the oracle says that the group goes together with the set at hand
+pub returns-in_ok-put_in-in-Sat-clause-settled : goal.returns-in_ok-put_in-in-Sat-clause-settled
+returns-in_ok-put_in-in-Sat-clause-settled g c set passed not_given not_passed h =
+    let new = g.O.Oracle.state c.ask_with.new.self in
+    let old = c.args.growth.now in
+    let answer = subst (TellsAsked new (with_group old.set c.args.g) c.ask_with.new.purse.left) c.in-Sat.is c.in_ok-witness.ensures.answer in
+    subst (IsGrowth new.problem set (passed ++ c.args.g ∷ [])) (sym c.in_ok-put_in-in-Sat.ensures) (put_in new.problem set passed old c.args.g c.in-Sat.witness not_passed h answer)
 
 -- the group does not go together with the set at hand
-pub returns-in-Unsat-clause-settled : goal.returns-in-Unsat-clause-settled
-returns-in-Unsat-clause-settled g c set passed not_given not_passed h =
+pub returns-in_ok-push-in-Unsat-clause-settled : goal.returns-in_ok-push-in-Unsat-clause-settled
+returns-in_ok-push-in-Unsat-clause-settled g c set passed not_given not_passed h =
     let new = g.O.Oracle.state c.ask_with.new.self in
     let old = c.args.growth.now in
     let core = c.in-Unsat._core in
@@ -28,30 +56,9 @@ returns-in-Unsat-clause-settled g c set passed not_given not_passed h =
     subst (λ (ds : List Derivation). IsGrowth new.problem set (passed ++ c.args.g ∷ []) (record { set = old.set; witness = old.witness; proofs = ds })) (sym c.in_ok-push-in-Unsat.ensures.ok)
     (leave new.problem set passed core old c.args.g c.in_ok-proof-in-Unsat.proof not_given not_passed h answer.1 (c.in_ok-proof-in-Unsat.ensures core refuted))
 
--- it does: the oracle says so, or the assignment at hand
-pub returns-clause-settled : goal.returns-clause-settled
-returns-clause-settled g c set passed not_given not_passed h =
-    let old = c.args.growth.now in
-    let mid = c.if-not-group_holds.growth in
-    let p = (g.O.Oracle.state c.if-not-group_holds.oracle).problem in
-    let more = with_group old.set c.args.g in
-    elim c.if-not-group_holds.branch [
-      | then-not-group_holds+in_ok-witness+in-Sat w ↦
-          let new = g.O.Oracle.state w.ask_with.new.self in
-          let same : new.problem ≡ p = ap (λ o. (g.O.Oracle.state o).problem) (sym w.oracle-is) in
-          let answer = subst (TellsAsked new more w.ask_with.new.purse.left) w.in-Sat.is w.in_ok-witness.ensures.answer in
-          put_in-from p set passed old mid c.args.g w.in-Sat.witness c.in_ok-growth.field-0 w.growth-is c.in_ok-growth.ensures not_passed h
-          (subst (λ (q : Problem). is_witness q more w.in-Sat.witness ≡ true) same answer)
-      | else-not-group_holds w ↦
-          let same : c.args.problem.now ≡ p = c.requires.problem ∙ ap (λ o. (g.O.Oracle.state o).problem) (sym w.oracle-is) in
-          let made : group_true c.args.problem.now.clauses old.witness c.args.g ≡ true = cc in
-          put_in-from p set passed old mid c.args.g old.witness c.in_ok-growth.field-0 w.growth-is c.in_ok-growth.ensures not_passed h
-          (subst (λ (q : Problem). is_witness q more old.witness ≡ true) same (is_witness-with_group c.args.problem.now old.set old.witness c.args.g c.requires.satisfied made))
-    ]
-
 -- at an empty purse the set asked is told, and not passed over
-pub returns-in-Dry-clause-settled : goal.returns-in-Dry-clause-settled
-returns-in-Dry-clause-settled g c =
+pub returns-in_ok-asked-in-Dry-clause-settled : goal.returns-in_ok-asked-in-Dry-clause-settled
+returns-in_ok-asked-in-Dry-clause-settled g c =
     let new = g.O.Oracle.state c.ask_with.new.self in
     let more = with_group c.args.growth.now.set c.args.g in
     let left = c.ask_with.new.purse.left in
