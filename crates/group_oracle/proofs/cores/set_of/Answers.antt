@@ -1,5 +1,5 @@
 use Rattle.std.proofs.Common.{get_or, refl, arith}
-use Rattle.group_oracle.proofs.GroupLemmas.{ascends_push, so_far_push, so_far_skip}
+use Rattle.group_oracle.proofs.GroupLemmas.{ascends_push, so_far_start, so_far_push, so_far_skip}
 use Rattle.group_oracle.proofs.cores.set_of.Goals as goal
 use Rattle.group_oracle.proofs.cores.set_of.Goals.{then-group-last+in_ok-push, else-group-last}
 
@@ -23,3 +23,7 @@ loop-group-preserved c =
       | then-group-last+in_ok-push w ↦ rw (w.set-is, w.last-is) (so_far_push groups old w.push.new.self at last g 0 inv c.requires.ascends lt refl w.if-group-last.true w.in_ok-push.ensures.ok)
       | else-group-last w ↦ rw (w.set-is, w.last-is) (so_far_skip groups old at last g 0 inv c.requires.not_background lt refl w.if-group-last.false)
     ]
+
+-- no group was met, and none is below the first
+pub loop-group-init : goal.loop-group-init
+loop-group-init c = so_far_start c.args.groups.now c.new-set.result c.new-set.ensures
