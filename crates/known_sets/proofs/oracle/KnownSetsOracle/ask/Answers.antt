@@ -30,3 +30,32 @@ returns-in-Some-clause-spent g c =
 
 pub returns-in-Some-clause-honest : goal.returns-in-Some-clause-honest
 returns-in-Some-clause-honest g c = subst (λ (s : OracleState). IsHonestOver s.problem s.log) (sym c.answer_by.ensures.rest) c.self.invariant.honest
+
+-- an answer of a satisfied set, or of a repair, leaves problem and log too, and nothing is refuted
+pub returns-in-Some-satisfying-clause-refuted : goal.returns-in-Some-satisfying-clause-refuted
+returns-in-Some-satisfying-clause-refuted g c = ap (λ (s : OracleState). s.refuted) (c.self.view_is ∙ c.begin.ensures)
+
+pub returns-in-Some-satisfying-clause-asks : goal.returns-in-Some-satisfying-clause-asks
+returns-in-Some-satisfying-clause-asks g c = ap (λ (s : OracleState). s.asks) (c.self.view_is ∙ c.begin.ensures)
+
+pub returns-in-Some-satisfying-clause-spent : goal.returns-in-Some-satisfying-clause-spent
+returns-in-Some-satisfying-clause-spent g c =
+    let began = c.self.view_is ∙ c.begin.ensures in
+    IsSpent-known _ _ c.args.purse.now.left (ap (λ (s : OracleState). s.problem) began) (ap (λ (s : OracleState). s.log) began)
+
+pub returns-in-Some-satisfying-clause-honest : goal.returns-in-Some-satisfying-clause-honest
+returns-in-Some-satisfying-clause-honest g c = c.self.invariant.honest
+
+pub returns-in-Some-repaired-clause-refuted : goal.returns-in-Some-repaired-clause-refuted
+returns-in-Some-repaired-clause-refuted g c = ap (λ (s : OracleState). s.refuted) (c.self.view_is ∙ c.begin.ensures)
+
+pub returns-in-Some-repaired-clause-asks : goal.returns-in-Some-repaired-clause-asks
+returns-in-Some-repaired-clause-asks g c = ap (λ (s : OracleState). s.asks) (c.self.view_is ∙ c.begin.ensures)
+
+pub returns-in-Some-repaired-clause-spent : goal.returns-in-Some-repaired-clause-spent
+returns-in-Some-repaired-clause-spent g c =
+    let began = c.self.view_is ∙ c.begin.ensures in
+    IsSpent-known _ _ c.args.purse.now.left (ap (λ (s : OracleState). s.problem) began) (ap (λ (s : OracleState). s.log) began)
+
+pub returns-in-Some-repaired-clause-honest : goal.returns-in-Some-repaired-clause-honest
+returns-in-Some-repaired-clause-honest g c = c.self.invariant.honest

@@ -28,3 +28,6 @@ returns-in-Some-clause-spent g c =
 
 pub returns-in-Some-clause-honest : goal.returns-in-Some-clause-honest
 returns-in-Some-clause-honest g c = λ before. c.self.invariant.honest
+
+pub returns-in-Some-clause-refuted : goal.returns-in-Some-clause-refuted
+returns-in-Some-clause-refuted g c = ap (λ (s : OracleState). s.refuted) (c.self.view_is ∙ c.begin.ensures)
