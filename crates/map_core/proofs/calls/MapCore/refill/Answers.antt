@@ -1,12 +1,12 @@
 use Rattle.std.proofs.Common.{length, [], ◌∷◌, ◌++◌, sym, ap, ◌∙◌, subst, refl, arith, None}
-use Rattle.map_core.specs.Core.{turn_at, settle, give_back, Refills}
-use Rattle.map_core.specs.Kept.{IsReady}
+use Rattle.map_core.specs.Core.{CoreStep, turn_at, settle, give_back, Refills}
+use Rattle.map_core.specs.Kept.{IsReady, state_of}
 use Rattle.map_core.specs.Replies.{refill_reply}
 use Rattle.map_core.specs.declared.turn.Turn.{Turn}
 use Rattle.map_core.specs.declared.entry.Reply.{Reply}
 use Rattle.map_core.specs.declared.entry.Entry.{Entry}
 use Rattle.map_core.specs.declared.entry.Call.TheVariants.{Refill}
-use Rattle.map_core.proofs.Kept.{call_kept, proof_kept, idle, no_take}
+use Rattle.map_core.proofs.Kept.{call_kept, step_made, proof_kept, idle, no_take}
 use Rattle.map_core.proofs.calls.MapCore.refill.Goals as goal
 
 -- no record and no engine is touched
@@ -39,3 +39,31 @@ invariant_of-self g c =
     (λ on. let room = given.ensures.room on in omega (arith, room, size, longer, c.len.ensures, i.workers.ok.0, given.new.history.ok.0))
     k.index
     (proof_kept e u i.records.items k (refl, refills, refl) same) (idle e k.driven refl (no_take e.call refl))
+
+-- one entry more, with what was answered
+pub returns-clause-step : goal.returns-clause-step
+returns-clause-step g c =
+    let i = c.self.inside in
+    let r = subst (λ s. IsReady s c.args.w c.args.used) (sym c.self.view_is) c.settled.ensures.ready in
+    let given = c.regrant-given in
+    let made : Reply → Entry =
+    λ reply. record
+    { worker = c.args.w; call = Refill c.args.asked; used = c.args.used; engine = None; reply = reply } in
+    let e : Entry = made (refill_reply given.result.reply) in
+    let f = c.finish-self-inside in
+    let u = given.result.turn in
+    let is =
+    c.give_back-turn.ensures ∙ ap give_back
+    (c.settled.ensures.turn ∙ ap (λ s. settle c.args.used (turn_at s c.args.w)) (sym c.self.view_is)) in
+    let refills = subst (λ t. Refills t (refill_reply given.result.reply) u) is given.ensures.refills in
+    let history =
+    f.ensures.history ∙ ap (λ h. h ++ made c.kept_refill.result ∷ []) given.ensures.history ∙ ap
+    (λ x. i.history.items ++ made x ∷ []) c.kept_refill.ensures in
+    let t =
+    state_of g.M.MapEngine.TOPS i.problem i.first i.budget i.limit f.result i.records.items f.new.workers.items
+    f.new.history.items in
+    let step =
+    step_made g.M.MapEngine.TOPS i.problem i.first i.budget i.limit i.common f.result i.records.items i.records.items
+    i.workers.items f.new.workers.items i.history.items f.new.history.items e u c.self.invariant.begins r
+    (refl, refills, refl) f.ensures.common f.ensures.workers history in
+    record { engine = None; step = subst (λ s. CoreStep s e t) c.self.view_is step }

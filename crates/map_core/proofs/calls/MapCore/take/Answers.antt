@@ -1,11 +1,12 @@
 use Rattle.std.proofs.Common.{◌≡◌, ◌+◌, length, [], ◌∷◌, ◌++◌, sym, ap, ◌∙◌, subst, refl, arith}
 use Rattle.evidence_rec.specs.Records.{founds}
-use Rattle.map_core.specs.Core.{turn_at, settle, give_back}
-use Rattle.map_core.specs.Kept.{IsReady, KeepsProof}
+use Rattle.map_core.specs.Core.{CoreStep, turn_at, settle, give_back}
+use Rattle.map_core.specs.Kept.{IsReady, KeepsProof, state_of}
 use Rattle.map_core.specs.declared.turn.Turn.{Turn}
+use Rattle.map_core.specs.declared.entry.Reply.{Reply}
 use Rattle.map_core.specs.declared.entry.Entry.{Entry}
 use Rattle.map_core.specs.declared.entry.Call.TheVariants.{Take}
-use Rattle.map_core.proofs.Kept.{call_kept, proof_taken, takes_here}
+use Rattle.map_core.proofs.Kept.{call_kept, step_made, proof_taken, takes_here}
 use Rattle.map_core.proofs.calls.MapCore.take.Goals as goal
 
 -- what the engine was asked is what the definition says, over the blocks of the records
@@ -54,3 +55,37 @@ invariant_of-self g c =
       learned = given.ensures.learned;
       dry = λ _. given.ensures.dry;
     })
+
+-- one entry more, with what the engine was asked and what was answered
+pub returns-clause-step : goal.returns-clause-step
+returns-clause-step g c =
+    let i = c.self.inside in
+    let d = c.self.invariant.driven in
+    let r = subst (λ s. IsReady s c.args.w c.args.used) (sym c.self.view_is) c.settled.ensures.ready in
+    let given = c.ask-given in
+    let made : Reply → Entry =
+    λ reply. record
+    { worker = c.args.w; call = Take; used = c.args.used; engine = given.result.engine; reply = reply } in
+    let e : Entry = made given.result.kept in
+    let f = c.finish-self-inside in
+    let u = given.result.turn in
+    let asked = given.ensures.answered in
+    let is =
+    c.give_back-turn.ensures ∙ ap give_back
+    (c.settled.ensures.turn ∙ ap (λ s. settle c.args.used (turn_at s c.args.w)) (sym c.self.view_is)) in
+    let records : c.len.result ≡ length i.records.items = omega (arith, c.len.ensures, i.records.ok.0) in
+    let takes =
+    takes_here g.M.MapEngine.TOPS i.limit (length i.history.items + 1) given.result.engine given.result.kept u d.same_groups
+    d.same_blocks records is asked.takes in
+    let history = f.ensures.history ∙ ap (λ h. h ++ e ∷ []) given.ensures.history in
+    let t =
+    state_of g.M.MapEngine.TOPS i.problem i.first i.budget i.limit f.result i.records.items f.new.workers.items
+    f.new.history.items in
+    let step =
+    step_made g.M.MapEngine.TOPS i.problem i.first i.budget i.limit i.common f.result i.records.items i.records.items
+    i.workers.items f.new.workers.items i.history.items f.new.history.items e u c.self.invariant.begins r (takes, refl)
+    f.ensures.common f.ensures.workers history in
+    record {
+      engine = given.result.engine;
+      step = subst (λ reply. CoreStep c.args.self.now (made reply) t) (sym asked.reply) (subst (λ s. CoreStep s e t) c.self.view_is step);
+    }
