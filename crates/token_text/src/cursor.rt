@@ -7,7 +7,7 @@ ghost use Rattle.token_text.specs.Tokens.{is_space, newline};
 ghost use Rattle.token_text.specs.Cursor.{left_at, BeginsToken, IsWithin, Passes};
 
 /// What stands before a cursor in its line.
-#[derive(Clone, Copy, PartialEq, Eq)]
+#[derive(Clone, Copy)]
 pub(crate) enum Before {
     /// Blanks and tabs alone.
     Blanks,
