@@ -2,7 +2,7 @@
 use sat_base::{Lits, Row};
 
 /// A clause in its group, where group 0 is the background.
-#[derive(Debug, Drop)]
+#[derive(Drop)]
 pub struct Clause {
     pub group: u32,
     pub lits: Lits,

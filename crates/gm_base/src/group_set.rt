@@ -12,7 +12,7 @@ use std::cmp::Ordering;
 use std::marker::Model;
 
 /// Strictly ascending group numbers from 1 on.
-#[derive(Debug, Drop)]
+#[derive(Drop)]
 pub struct GroupSet {
     groups: Vec<u32>,
 }

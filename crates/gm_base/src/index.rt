@@ -11,7 +11,7 @@ use crate::clause::Clause;
 use std::alloc::{AllocError, Global};
 
 /// Where a clause stands: its group, and its place among all clauses, from 0.
-#[derive(Clone, Copy, Debug)]
+#[derive(Clone, Copy)]
 pub struct Placed {
     pub group: u32,
     pub at: u32,

@@ -8,7 +8,7 @@ pub enum Kind {
 }
 
 /// Which sets a block takes out of the map.
-#[derive(Clone, Copy, Debug, PartialEq, Eq)]
+#[derive(Clone, Copy, PartialEq, Eq)]
 pub enum Side {
     /// Those that hold all groups of the set: it is a conflict.
     Up,

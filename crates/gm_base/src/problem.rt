@@ -15,7 +15,7 @@ use std::marker::Model;
 use std::sync::Arc;
 
 /// Clauses in groups from 0 to `groups`, over variables from 1 to `vars`.
-#[derive(Debug, Drop)]
+#[derive(Drop)]
 pub struct Problem {
     vars: u32,
     groups: u32,

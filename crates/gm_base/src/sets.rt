@@ -7,7 +7,7 @@ use std::alloc::{AllocError, Global};
 use std::marker::Model;
 
 /// Sets of groups, in the order in which they were added. They stay where they are: the list holds references.
-#[derive(Debug, Drop)]
+#[derive(Drop)]
 pub struct Sets<'a> {
     items: Vec<&'a GroupSet>,
 }

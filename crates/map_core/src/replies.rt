@@ -2,7 +2,7 @@
 use gm_base::GroupSet;
 
 /// What a take is answered.
-#[derive(Debug, Drop)]
+#[derive(Drop)]
 pub enum Taken {
     /// A set that no record explores, the number of the entry, and what is granted for it.
     Job {
@@ -23,7 +23,7 @@ pub enum Taken {
 }
 
 /// What a refill is answered.
-#[derive(Clone, Copy, Debug, PartialEq, Eq)]
+#[derive(Clone, Copy)]
 pub enum Refilled {
     /// What is in the purse now.
     Grant(u64),
@@ -36,7 +36,7 @@ pub enum Refilled {
 }
 
 /// What a post is answered.
-#[derive(Clone, Copy, Debug, PartialEq, Eq)]
+#[derive(Clone, Copy)]
 pub enum Posted {
     /// The record is kept.
     New,
