@@ -1,7 +1,7 @@
-use Rattle.std.proofs.Common.{rules, codes}
+use Rattle.std.proofs.Common.{codes}
 use Rattle.clap.specs.Words.{new_app}
 use Rattle.gm_words.proofs.command.check_command.Goals as goal
 
 -- each step adds its rule
 pub returns : goal.returns
-returns c = c.with_place.ensures _ (c.with_place-command.ensures (new_app (codes "check")) (search rules))
+returns c = c.with_place.ensures _ (c.with_place-command.ensures (new_app (codes "check")) (record { is = c.new.ensures.app; local = c.new.ensures.local }))

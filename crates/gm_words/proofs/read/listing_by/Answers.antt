@@ -1,0 +1,10 @@
+use Rattle.std.proofs.Common.{rules}
+use Rattle.gm_words.proofs.read.listing_by.Goals as goal
+
+-- each part is what the definition reads
+pub returns-clause-asked : goal.returns-clause-asked
+returns-clause-asked c = search rules
+
+-- each number is between the bounds of its option
+pub returns-clause-numbers : goal.returns-clause-numbers
+returns-clause-numbers c = search rules
