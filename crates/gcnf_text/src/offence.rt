@@ -8,7 +8,7 @@ use std::alloc::{AllocError, AllocFailed};
 use token_text::Answer;
 
 /// A limit of this reader.
-#[derive(Clone, Copy, Debug, PartialEq, Eq)]
+#[derive(Clone, Copy)]
 pub enum Limit {
     /// Variables.
     Vars,
@@ -27,7 +27,7 @@ pub enum Limit {
 /// 1 is no header, 2 a bad header, 3 a token that may not come there, 4 a variable above the greatest, 5 a group above
 /// the greatest, 6 a clause without its group, 7 a text that ends too early, 8 a clause too many, and 9 what is above a
 /// limit. A text with too many bytes has line 0 and byte 0.
-#[derive(Clone, Copy, Debug, PartialEq, Eq)]
+#[derive(Clone, Copy)]
 pub struct Offence {
     pub number: u32,
     pub limit: Option<Limit>,
@@ -104,7 +104,7 @@ pub(crate) fn too_large(limit: Limit, answer: Answer<'_>) -> Offence
 }
 
 /// Why a reading stops before the end of an accepted text.
-#[derive(Debug, Drop)]
+#[derive(Drop)]
 pub(crate) enum Stop {
     Refused(Offence),
     Memory,

@@ -1,7 +1,7 @@
 //! How far a text was read.
 
 /// The numbers of the header, and how many clauses were ended and literals read so far.
-#[derive(Clone, Copy, Debug)]
+#[derive(Clone, Copy)]
 pub(crate) struct Progress {
     pub(crate) vars: u32,
     pub(crate) clauses: u32,

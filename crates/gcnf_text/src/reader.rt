@@ -13,7 +13,7 @@ use token_text::Tokens;
 pub const MAX_BYTES: u64 = 134_217_728;
 
 /// What a text was read as.
-#[derive(Debug, Drop)]
+#[derive(Drop)]
 pub enum Read {
     Problem(Problem),
     Refused(Offence),
