@@ -1,5 +1,5 @@
 //! The one error of all ports.
 
 /// A read or a write that did not work. What counts it says that it happened, and nothing says why.
-#[derive(Clone, Copy, Debug, PartialEq, Eq)]
+#[derive(Clone, Copy)]
 pub struct Failed;

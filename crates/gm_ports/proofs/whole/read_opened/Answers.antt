@@ -1,7 +1,11 @@
-use Rattle.std.proofs.Common.{◌≡◌, ◌≤◌, ◌+◌, ℕ, List, ◌++◌, length, take, arith, sym, subst}
+use Rattle.std.proofs.Common.{◌≡◌, ◌≤◌, ◌+◌, ℕ, List, ◌++◌, length, take, arith, rules, sym, subst}
 use Rattle.std.proofs.lemmas.Grind.{common_steps}
 use Rattle.gm_ports.proofs.ReadingLemmas.{ReadSoFar, ReadSoFar-more, ReadSoFar-past, ReadSoFar-within}
 use Rattle.gm_ports.proofs.whole.read_opened.Goals as goal
+
+-- a read that gave nothing stands at the end
+pub returns-then-count-eq0-clause-told : goal.returns-then-count-eq0-clause-told
+returns-then-count-eq0-clause-told g c = search rules
 
 -- the read that went past the limit was asked for one byte more than was left of it
 pub returns-then-count-room-clause-told : goal.returns-then-count-room-clause-told
