@@ -11,3 +11,4 @@ pub mod ReadingLemmas
 pub mod AcceptedLemmas
 pub mod RunLemmas
 pub mod GetsLemmas
+pub mod JudgedLemmas
