@@ -1,6 +1,6 @@
 // All minimal conflicts and minimal corrections of a GCNF file, by MARCO (Liffiton and others 2016) over a SAT solver.
 //
-//     marco FILE [--limit SETS] [--time SECONDS] [--stats]
+//     marco FILE [--save] [--harvest MODELS] [--limit SETS] [--time SECONDS] [--stats]
 //
 // The map is a formula with one variable for each group, whose models are the sets of groups not yet explored. A model
 // of it is a seed. The subset solver has all clauses, each behind the selector of its group, and is asked whether the
@@ -13,6 +13,13 @@
 // Seeds are maximal, so a satisfied one needs no growing. The map decides every variable to true first, so each group
 // that is out of a model was forced out by the map and groups that are in: no larger set is a model. A larger set that
 // is explored and no model lies above a conflict, since below a known satisfied set the seed itself would be explored.
+//
+// With --save the map decides a variable as it was held last, and so finds models near the last one. To such a seed each
+// other group is added, one after the other, with which no known conflict lies in it. So it is maximal as well.
+//
+// With --harvest so many models of each shrink, the first ones, are grown. Such a model satisfies the set but for one
+// group. What it satisfies is made maximal, by a question for each group with which no known conflict lies in it. What
+// is left is a correction, and a new one: one of before with that group alone of the set would have spared the question.
 //
 // The report is that of gmus. It is partial where the limit or the time ended the run.
 #include <algorithm>
@@ -32,7 +39,7 @@
 using Minisat::lbool;   // which the macros l_True, l_False and l_Undef name
 #endif
 
-using Groups = std::vector<int>;   // ascending where it is a set that was found
+using Groups = std::vector<int>;   // ascending where a report has it
 using Lits = std::vector<int>;     // as in DIMACS
 
 enum class Answer { Sat, Unsat, Stopped };
@@ -55,6 +62,7 @@ public:
         if (kind != Kind::Plain) solver.freeze(variables), solver.phase(variables);
         return variables;
     }
+    void keep_phases() { for (int variable = 1; variable <= variables; variable++) solver.unphase(variable); }
     void add(const Lits& clause) {
         for (int lit : clause) solver.add(lit);
         solver.add(0);
@@ -87,6 +95,10 @@ public:
         // one is false in a model only where the model falsifies a clause of its group, or it was learnt that it must.
         solver.newVar(kind == Kind::Map ? l_False : l_Undef, kind != Kind::Selector);
         return solver.nVars();
+    }
+    // From now on each variable is decided as it was held last.
+    void keep_phases() {
+        for (int variable = 0; variable < solver.nVars(); variable++) solver.setPolarity(variable, l_Undef);
     }
     void add(const Lits& clause) {
         lits.clear();
@@ -236,6 +248,41 @@ private:
     std::vector<char> is_needed;
 };
 
+// Whether a known conflict lies in a set with one more group. In each conflict with that group another one is looked for
+// that is not in the set. It is then put first, since there the next look begins.
+class Known {
+public:
+    Known(int groups, std::vector<Groups>& conflicts)
+        : conflicts(conflicts), conflicts_with(groups + 1), in_set(groups + 1) {}
+    void add_last() {
+        for (int group : conflicts.back()) conflicts_with[group].push_back(int(conflicts.size()) - 1);
+    }
+    void begin(const Groups& set) {
+        std::fill(in_set.begin(), in_set.end(), false);
+        for (int group : set) put(group);
+    }
+    void put(int group) { in_set[group] = true; }
+    bool forbids(int group) {
+        std::vector<int>& those = conflicts_with[group];
+        for (size_t at = those.size(); at-- > 0;) {
+            Groups& conflict = conflicts[those[at]];
+            auto outside = std::find_if(conflict.begin(), conflict.end(),
+                                        [&](int other) { return other != group && !in_set[other]; });
+            if (outside == conflict.end()) {
+                std::swap(those[at], those.back());
+                return true;
+            }
+            std::iter_swap(conflict.begin(), outside);
+        }
+        return false;
+    }
+
+private:
+    std::vector<Groups>& conflicts;
+    std::vector<std::vector<int>> conflicts_with;
+    std::vector<char> in_set;
+};
+
 // Model rotation (Marques-Silva and Lynce 2011). A group is needed where some model falsifies it alone of the set.
 // Where a change of one variable moves the fault to another group alone, that one is needed too, and so on.
 class Rotation {
@@ -321,11 +368,13 @@ private:
     std::vector<std::vector<int>> clauses_of, clauses_with;
 };
 
+struct Ways { bool save = false; size_t harvest = 0, limit = 1000000000; };
+
 class Marco {
 public:
-    explicit Marco(const Problem& problem)
-        : groups(problem.groups), variables(problem.variables), subset(false), map(true), needed(problem.groups),
-          rotation(problem), in_core(problem.groups + 1) {
+    Marco(const Problem& problem, const Ways& ways)
+        : ways(ways), groups(problem.groups), variables(problem.variables), subset(false), map(true),
+          needed(problem.groups), known(problem.groups, conflicts), rotation(problem), in_core(problem.groups + 1) {
         for (int i = 0; i < variables; i++) subset.new_variable(Kind::Plain);
         for (int group = 1; group <= groups; group++) {
             subset.new_variable(Kind::Selector);
@@ -338,26 +387,30 @@ public:
         }
     }
 
-    Status run(size_t limit) {
+    Status run() {
+        if (ways.save) map.solve({}), map.keep_phases();   // the first model of the map has all groups
         for (;;) {
-            if (conflicts.size() + corrections.size() >= limit) return AtLimit;
+            if (found() >= ways.limit) return AtLimit;
             if (time_is_up) return OutOfTime;
             Answer seeds = map.solve({});
             if (seeds != Answer::Sat) return seeds == Answer::Unsat ? Complete : OutOfTime;
             Groups seed, rest;
             for (int group = 1; group <= groups; group++) (map.is_false(group) ? rest : seed).push_back(group);
+            if (ways.save) make_maximal(seed, rest);
             Answer answer = ask(seed);
             if (answer == Answer::Unsat && !shrink(core())) return OutOfTime;
-            if (answer == Answer::Sat) add_correction(std::move(rest));
+            if (answer == Answer::Sat) needed.add(rest), add_correction(std::move(rest));
             if (answer == Answer::Stopped) return OutOfTime;
         }
     }
 
     std::vector<Groups> conflicts, corrections;
     unsigned long calls = 0;
+    size_t found() const { return conflicts.size() + corrections.size(); }
 
 private:
     int selector(int group) const { return variables + group; }
+    bool uses_known() const { return ways.save || ways.harvest; }
 
     Answer ask(const Groups& set) {
         assumed.clear();
@@ -372,11 +425,28 @@ private:
         return found;
     }
 
+    // Adds each group with which no known conflict lies in the seed.
+    void make_maximal(Groups& seed, Groups& rest) {
+        known.begin(seed);
+        Groups outside;
+        for (int group : rest) {
+            if (known.forbids(group)) {
+                outside.push_back(group);
+            } else {
+                known.put(group);
+                seed.push_back(group);
+            }
+        }
+        rest = std::move(outside);
+        std::sort(seed.begin(), seed.end());
+    }
+
     // Makes a minimal conflict of an unsatisfiable set. Groups that are needed stand first, which draws cores to them.
     bool shrink(Groups set) {
         needed.begin(set);
         rotation.begin(set);
         size_t kept = 0;           // set[..kept] are needed
+        size_t models = 0;
         while (kept < set.size()) {
             int group = set.back();
             set.pop_back();
@@ -387,7 +457,12 @@ private:
                 keep_core(set, kept);
                 continue;
             }
-            if (!needed[group]) learn_from_model(group);
+            if (!needed[group]) {
+                rotate(group);
+                bool grows = models++ < ways.harvest && found() + 1 < ways.limit;   // the last one is this conflict
+                if (!grows) remember(group);
+                else if (!harvest(group)) return false;
+            }
             set.push_back(group);
             std::swap(set[kept++], set.back());
         }
@@ -396,6 +471,7 @@ private:
         for (int group : set) block.push_back(-group);
         map.add(block);
         conflicts.push_back(std::move(set));
+        if (uses_known()) known.add_last();
         return true;
     }
 
@@ -404,14 +480,51 @@ private:
         rotation.drop(group);
     }
 
-    // The last model falsifies this group alone of the set that is shrunk. Remembers all that it left out, if not much.
-    void learn_from_model(int group) {
+    // The last model falsifies this group alone of the set that is shrunk: so in the next three.
+    void rotate(int group) {
         for (int variable = 1; variable <= variables; variable++) rotation.set(variable, !subset.is_false(variable));
+        rotation.run(group, needed);
+    }
+
+    // Remembers all that the model left out, if not much.
+    void remember(int group) {
         Groups left_out;
         for (int each = 1; each <= groups && left_out.size() <= most_remembered; each++)
             if (subset.is_false(selector(each))) left_out.push_back(each);
         if (left_out.size() <= most_remembered) needed.add_with(left_out, group);
-        rotation.run(group, needed);
+    }
+
+    // Grows what the model satisfies to a maximal set, and records what is left.
+    bool harvest(int group) {
+        Groups open, inside, outside{group};
+        for (int each = 1; each <= groups; each++)
+            if (each != group) (subset.is_false(selector(each)) ? open : inside).push_back(each);
+        known.begin(inside);
+        while (!open.empty()) {
+            int each = open.back();
+            open.pop_back();
+            if (known.forbids(each)) {
+                outside.push_back(each);
+                continue;
+            }
+            inside.push_back(each);
+            Answer answer = ask(inside);
+            if (answer == Answer::Stopped) return false;
+            if (answer == Answer::Unsat) {
+                inside.pop_back();
+                outside.push_back(each);
+                continue;
+            }
+            known.put(each);
+            auto is_out = [&](int other) { return subset.is_false(selector(other)); };
+            auto satisfied = std::partition(open.begin(), open.end(), is_out);
+            for (auto at = satisfied; at != open.end(); at++) known.put(*at), inside.push_back(*at);
+            open.erase(satisfied, open.end());
+        }
+        std::sort(outside.begin(), outside.end());
+        needed.add_with(outside, group);
+        add_correction(std::move(outside));
+        return true;
     }
 
     // Drops what the last refutation did not use. What is needed is in every core.
@@ -429,20 +542,22 @@ private:
 
     void add_correction(Groups set) {
         map.add(set);
-        needed.add(set);
         corrections.push_back(std::move(set));
     }
 
     static constexpr size_t most_remembered = 64;
+    Ways ways;
     int groups, variables;
     Solver subset, map;
     Needed needed;
+    Known known;
     Rotation rotation;
     std::vector<char> in_core;
     Lits assumed;
 };
 
 static void put_sets(std::string& text, char letter, std::vector<Groups>& sets) {
+    for (Groups& set : sets) std::sort(set.begin(), set.end());
     std::sort(sets.begin(), sets.end());
     for (const Groups& set : sets) {
         text += letter;
@@ -461,23 +576,25 @@ static void start_clock(double seconds) {
 
 int main(int count, char** words) {
     const char* name = nullptr;
-    size_t limit = 1000000000;
+    Ways ways;
     double seconds = 0;
     bool stats = false;
     for (int i = 1; i < count; i++) {
         std::string word = words[i];
-        if (word == "--limit" && i + 1 < count) limit = std::strtoul(words[++i], nullptr, 10);
+        if (word == "--save") ways.save = true;
+        else if (word == "--harvest" && i + 1 < count) ways.harvest = std::strtoul(words[++i], nullptr, 10);
+        else if (word == "--limit" && i + 1 < count) ways.limit = std::strtoul(words[++i], nullptr, 10);
         else if (word == "--time" && i + 1 < count) seconds = std::strtod(words[++i], nullptr);
         else if (word == "--stats") stats = true;
         else if (word[0] != '-' && !name) name = words[i];
         else fail(BadWords, "bad command line");
     }
-    if (!name || limit < 1 || seconds < 0) fail(BadWords, "bad command line");
+    if (!name || ways.limit < 1 || seconds < 0) fail(BadWords, "bad command line");
 
     Problem problem = read_problem(name);
-    Marco marco(problem);
+    Marco marco(problem, ways);
     if (seconds > 0) start_clock(seconds);
-    Status status = marco.run(limit);
+    Status status = marco.run();
     size_t conflicts = marco.conflicts.size(), corrections = marco.corrections.size();
     std::string text = "p gmus " + std::to_string(problem.groups) + "\n";
     text += status == Complete ? "s COMPLETE\n" : "s PARTIAL\n";
@@ -488,7 +605,7 @@ int main(int count, char** words) {
         fail(NotWritten, "write fault on report");
     if (stats)
         std::fprintf(stderr, "marco: %lu questions for %zu sets%s\n", marco.calls, conflicts + corrections, Solver::counts().c_str());
-    if (status == AtLimit) fail(status, "limit of " + std::to_string(limit) + " records reached");
+    if (status == AtLimit) fail(status, "limit of " + std::to_string(ways.limit) + " records reached");
     if (status == OutOfTime) fail(status, "time is up");
     return status;
 }
