@@ -7,17 +7,23 @@ The problem has about GROUPS groups. Equal arguments give equal bytes: all choic
 numbers stay the same from one version of Python to the next.
 
 chain           implications from a fact to its denial; some links are there twice
+links           the same with more links that are there twice, thirteen or fourteen
 random          random 3-CNF with three clauses a group, just above the ratio at which it becomes unsatisfiable
+threshold       random 3-CNF at that ratio, of ten variables a group
+clumps          random 3-CNF with ten clauses a group, and five times as many as variables
 dense           random clauses of three literals over few variables; each is a group
 feature         a feature model, whose tree is the background; cross-tree constraints and a user's selections are groups
 adder           a ripple-carry adder; each gate is a group; inputs and the outputs of a faulty adder are the background
 multiplier      an array multiplier, with its groups and its background as in adder
+tripled         three ripple-carry adders and a voter, which is background; the groups and the rest of it are as in adder
+miter           two multipliers that add in different orders; each gate is a group; that outputs differ is background
 colour          a graph and three colours; each edge is a group
 colour-vertex   a graph and three colours; that a vertex has a colour is a group
 types           statements of a program, which say of its names that they are numbers, texts or lists; each is a group
 net             packages that need others or don't go with others; each such need, clash or wish is a group
 plan            parcels that go from place to place; how a parcel comes to a place at a time is a group
 pigeon          pigeons and fewer holes; that a pigeon has a hole, and that a hole has room for one, are groups
+pigeon-holes    pigeons that fit into some holes each; that a hole has room for one is a group
 parity          random equations of three variables over the numbers 0 and 1; each is a group
 """
 import argparse
@@ -93,14 +99,14 @@ class Problem:
             out.write(" ".join([f"{{{group}}}", *map(str, lits), "0"]) + "\n")
 
 
-def chain(size, choices):
-    """A fact, links, and the denial of the last one. Up to ten links are there twice, once by way of another variable.
+def chain(size, choices, most=10):
+    """A fact, links, and the denial of the last one. Up to `most` links are there twice, once by way of another variable.
 
     With d such links there are 2 ** d conflicts, each with a way along the whole chain, and a correction for the fact,
     the denial, and each place of the chain.
     """
     problem = Problem()
-    doubled = min(10, max(1, (size - 2) // 4))
+    doubled = min(most, max(1, (size - 2) // 4))
     links = max(size - 2 - doubled, doubled)
     twice = set(choices.some_of(range(links), doubled))
     here = problem.variable()
@@ -116,6 +122,11 @@ def chain(size, choices):
     return problem
 
 
+def links(size, choices):
+    """A chain with 13 links that are there twice, from 100 groups on with 14: with 8,192 or 16,384 conflicts."""
+    return chain(size, choices, 13 if size < 100 else 14)
+
+
 def random_cnf(size, choices):
     """Clauses of three different variables, 8 % more than the number at which half of such problems are satisfiable.
 
@@ -129,8 +140,37 @@ def random_cnf(size, choices):
         count += 1
     variables = [problem.variable() for _ in range(count)]
     for _ in range(size):
-        problem.group(*[[var if choices.happens(0.5) else -var for var in choices.distinct(variables, 3)]
-                        for _ in range(3)])
+        problem.group(*[random_clause(variables, choices) for _ in range(3)])
+    return problem
+
+
+def random_clause(variables, choices):
+    return [var if choices.happens(0.5) else -var for var in choices.distinct(variables, 3)]
+
+
+def threshold(size, choices):
+    """Clauses of three variables, 4.26 times as many as variables, dealt to the groups.
+
+    Half of such problems are satisfiable. Of the others most groups are in each conflict. Above 22 groups no solver
+    refutes one soon.
+    """
+    problem = Problem()
+    variables = [problem.variable() for _ in range(10 * size)]
+    clauses = [random_clause(variables, choices) for _ in range(round(4.26 * len(variables)))]
+    for at in range(size):
+        problem.group(*clauses[at::size])
+    return problem
+
+
+def clumps(size, choices):
+    """Twice as many variables as groups, and ten clauses a group: a sixth above the ratio of threshold.
+
+    So there are few groups, and conflicts of many sizes in them.
+    """
+    problem = Problem()
+    variables = [problem.variable() for _ in range(2 * size)]
+    for _ in range(size):
+        problem.group(*[random_clause(variables, choices) for _ in range(10)])
     return problem
 
 
@@ -142,7 +182,7 @@ def dense(size, choices):
     problem = Problem()
     variables = [problem.variable() for _ in range(max(4, round(size / 5)))]
     for _ in range(size):
-        problem.group([var if choices.happens(0.5) else -var for var in choices.distinct(variables, 3)])
+        problem.group(random_clause(variables, choices))
     return problem
 
 
@@ -219,6 +259,7 @@ class Circuit:
     def __init__(self, problem):
         self.problem = problem
         self.inputs, self.outputs, self.gates = [], [], []
+        self.trusted = set()   # the outputs of gates that are background
 
     def gate(self, kind, a, b, out=None):
         out = self.problem.variable() if out is None else out
@@ -231,6 +272,14 @@ class Circuit:
         self.gates += [("xor", a, b, half), ("xor", half, carry, total), ("and", a, b, made),
                        ("and", half, carry, passed), ("or", made, passed, next_carry)]
         return total, next_carry
+
+    def vote(self, a, b, c):
+        """What most of three bits are, by four gates of the background."""
+        both, some = self.gate("and", a, b), self.gate("or", a, b)
+        most = self.gate("and", some, c)
+        result = self.gate("or", both, most)
+        self.trusted.update([both, some, most, result])
+        return result
 
     def values(self, inputs, faults):
         """Of all variables, where the gates at these places are of another kind."""
@@ -246,15 +295,20 @@ class Circuit:
         diagnosis: the gates that may be to blame.
         """
         kinds = ["and", "or", "xor", "stuck at false", "stuck at true"]
+        places = [at for at, gate in enumerate(self.gates) if gate[-1] not in self.trusted]
         while True:
             inputs = {var: choices.happens(0.5) for var in self.inputs}
-            faults = {at: choices.one_of(kinds) for at in choices.distinct(range(len(self.gates)), faulty)}
+            faults = {at: choices.one_of(kinds) for at in choices.distinct(places, faulty)}
             right, wrong = self.values(inputs, {}), self.values(inputs, faults)
             if any(right[out] != wrong[out] for out in self.outputs):
                 break
         self.problem.always(*[[var if wrong[var] else -var] for var in self.inputs + self.outputs])
+        self.put_gates()
+
+    def put_gates(self):
         for gate in self.gates:
-            self.problem.group(*gate_clauses(*gate))
+            put = self.problem.always if gate[-1] in self.trusted else self.problem.group
+            put(*gate_clauses(*gate))
 
 
 def adder(size, choices):
@@ -273,22 +327,32 @@ def adder(size, choices):
     return problem
 
 
-def multiplier(size, choices):
-    """A gate for each two bits, and rows of adders that bring these together; two gates are faulty, of few one.
-
-    With n bits a number there are 6 n ** 2 - 8 n groups. Most gates can be to blame together with some others, so there
-    are many more corrections than in an adder of that size.
-    """
+def tripled(size, choices):
+    """Fifteen gates a bit, of which two are faulty, and from 100 groups on more. One fault does not make the voter wrong."""
     problem = Problem()
     circuit = Circuit(problem)
-    bits = max(2, round((4 + (16 + 6 * size) ** 0.5) / 6))
-    left = [problem.variable() for _ in range(bits)]
-    right = [problem.variable() for _ in range(bits)]
-    circuit.inputs += left + right
+    first = problem.variable()
+    pairs = [[problem.variable(), problem.variable()] for _ in range(max(1, round(size / 15)))]
+    circuit.inputs += [first, *(var for pair in pairs for var in pair)]
+    copies = []
+    for _ in range(3):
+        outputs, carry = [], first
+        for a, b in pairs:
+            total, carry = circuit.sum_of(a, b, carry)
+            outputs.append(total)
+        copies.append([*outputs, carry])
+    circuit.outputs += [circuit.vote(*bits) for bits in zip(*copies)]
+    circuit.diagnose(2 + min(2, size // 100), choices)
+    return problem
+
+
+def add_rows(circuit, left, right):
+    """The product of two numbers: the rows of an array of gates are added one after the other."""
+    outputs = []
     row = [circuit.gate("and", a, right[0]) for a in left]
     top = None
     for b in right[1:]:
-        circuit.outputs.append(row[0])
+        outputs.append(row[0])
         above = row[1:] + ([] if top is None else [top])
         added = [circuit.gate("and", a, b) for a in left]
         row, carry = [], None
@@ -302,8 +366,61 @@ def multiplier(size, choices):
                 total, carry = addends[0], None
             row.append(total)
         top = carry
-    circuit.outputs += row + ([] if top is None else [top])
+    return outputs + row + ([] if top is None else [top])
+
+
+def add_columns(circuit, left, right):
+    """The product of two numbers: the bits of each place are added, and their carries go to the next place."""
+    columns = [[] for _ in range(len(left) + len(right))]
+    for at, b in enumerate(right):
+        for place, a in enumerate(left, at):
+            columns[place].append(circuit.gate("and", a, b))
+    for place, column in enumerate(columns):
+        while len(column) > 1:
+            addends, column[:3] = column[:3], []
+            if len(addends) == 3:
+                total, carry = circuit.sum_of(*addends)
+            else:
+                total, carry = circuit.gate("xor", *addends), circuit.gate("and", *addends)
+            column.append(total)
+            columns[place + 1].append(carry)
+    return [column[0] for column in columns]
+
+
+def multiplier(size, choices):
+    """A gate for each two bits, and rows of adders that bring these together; two gates are faulty, of few one.
+
+    With n bits a number there are 6 n ** 2 - 8 n groups. Most gates can be to blame together with some others, so there
+    are many more corrections than in an adder of that size.
+    """
+    problem = Problem()
+    circuit = Circuit(problem)
+    bits = max(2, round((4 + (16 + 6 * size) ** 0.5) / 6))
+    left = [problem.variable() for _ in range(bits)]
+    right = [problem.variable() for _ in range(bits)]
+    circuit.inputs += left + right
+    circuit.outputs += add_rows(circuit, left, right)
     circuit.diagnose(1 if bits < 4 else 2, choices)
+    return problem
+
+
+def miter(size, choices):
+    """Multipliers by rows and by columns, of which some output is to differ.
+
+    With n bits a number there are 12 n ** 2 - 16 n groups. There is one conflict, and a correction for each of its groups.
+    """
+    problem = Problem()
+    circuit = Circuit(problem)
+    bits = max(2, round((4 + (16 + 3 * size) ** 0.5) / 6))
+    left = [problem.variable() for _ in range(bits)]
+    right = [problem.variable() for _ in range(bits)]
+    outputs = zip(add_rows(circuit, left, right), add_columns(circuit, left, right))
+    circuit.put_gates()
+    differs = []
+    for a, b in choices.shuffled(outputs):
+        differs.append(problem.variable())
+        problem.always([-differs[-1], a, b], [-differs[-1], -a, -b])
+    problem.always(differs)
     return problem
 
 
@@ -509,6 +626,23 @@ def pigeon(size, choices):
     return problem
 
 
+def pigeon_holes(size, choices):
+    """A fifth more pigeons than holes, each of which fits into four. Above 25 groups no solver by clauses refutes that soon.
+
+    A conflict is a set of holes which are all that some pigeons fit into, and which are fewer than these.
+    """
+    problem = Problem()
+    fitting = [[] for _ in range(size)]
+    for _ in range(size + size // 5):
+        holes = [problem.variable() for _ in range(4)]
+        problem.always(holes)
+        for hole, var in zip(choices.distinct(range(size), len(holes)), holes):
+            fitting[hole].append(var)
+    for pigeons in fitting:
+        problem.group(*[[-a, -b] for a, b in combinations(choices.shuffled(pigeons), 2)])
+    return problem
+
+
 def parity(size, choices):
     """So many equations that at least four of them follow from the others, but for their right sides.
 
@@ -524,9 +658,10 @@ def parity(size, choices):
     return problem
 
 
-FAMILIES = {"chain": chain, "random": random_cnf, "dense": dense, "feature": feature, "adder": adder,
-            "multiplier": multiplier, "colour": colour, "colour-vertex": colour_vertex, "types": types, "net": net,
-            "plan": plan, "pigeon": pigeon, "parity": parity}
+FAMILIES = {"chain": chain, "links": links, "random": random_cnf, "threshold": threshold, "clumps": clumps, "dense": dense,
+            "feature": feature, "adder": adder, "multiplier": multiplier, "tripled": tripled, "miter": miter,
+            "colour": colour, "colour-vertex": colour_vertex, "types": types, "net": net, "plan": plan, "pigeon": pigeon,
+            "pigeon-holes": pigeon_holes, "parity": parity}
 
 
 def main():
