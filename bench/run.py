@@ -6,17 +6,22 @@
 The programs run one at a time, on the same file, and are killed when the time is up. A problem with too many sets to
 list has a limit: each program then stops at so many sets, which need not be the same ones.
 
+Of the baselines the best one is the quickest that came to the same end as gmus. It stands in the table with its seconds,
+its memory and its sets, and the seconds of each baseline stand behind it.
+
 Reports are compared: two complete ones have to be equal, and others have to fit (agree.py). Where they don't, or where
 a program fails, the run says so, keeps the files, and ends with 1.
 
-Below the table stand the geometric mean and the worst of the ratios to the quickest baseline, over the problems that gmus
-and a baseline both end.
+Below the table stand, over the problems that gmus and a baseline both end, the geometric mean of the seconds by those of
+the best, the worst such ratio where the best takes 0.2 s or more, and the worst ratio of memory where gmus takes 100 MB or
+more.
 """
 import argparse
 import datetime
 import math
 import os
 import platform
+import re
 import select
 import shutil
 import signal
@@ -27,20 +32,29 @@ import time
 from collections import namedtuple
 
 HERE = os.path.dirname(os.path.abspath(__file__))
-BASELINES = ["marco-minisat", "marco-cadical"]
-GRACE = 5   # seconds for its report that a baseline has, which stops by its own clock
+BASELINES = {"minisat": ["marco-minisat"], "minisat-save": ["marco-minisat", "--save"],
+             "minisat-harvest": ["marco-minisat", "--harvest", "3"],
+             "cadical": ["marco-cadical"], "cadical-save": ["marco-cadical", "--save"]}
+ENDS = ["complete", "limit"]
+GRACE = 5      # seconds for its report that a baseline has, which stops by its own clock
+LONG = 0.2     # seconds of the best baseline from which on a ratio counts by itself
+LARGE = 100    # MB of gmus from which on its memory counts
 
 Problem = namedtuple("Problem", "kind family size seed limit")
-Result = namedtuple("Result", "status sets seconds megabytes")   # seconds of the clock, or of the processor
-Ending = namedtuple("Ending", "code wall cpu megabytes")         # the code is None where it was killed
+Result = namedtuple("Result", "status sets seconds megabytes is_own")   # seconds of the clock, or of the processor
+Ending = namedtuple("Ending", "code wall cpu megabytes")                # the code is None where it was killed
+Pair = namedtuple("Pair", "name kind ours best")                        # the results of gmus and of the best baseline
 
 PROBLEMS = [Problem(*line.split()) for line in """
 small  chain          20    1  -
 small  chain          100   1  -
 small  chain          300   1  -
+small  links          60    1  -
 small  random         12    1  -
 small  random         20    1  -
 small  random         30    1  -
+small  threshold      16    1  -
+small  clumps         20    1  -
 small  dense          20    2  -
 small  dense          30    2  -
 small  feature        40    1  -
@@ -51,6 +65,8 @@ small  adder          200   2  -
 small  adder          400   1  -
 small  multiplier     30    1  -
 small  multiplier     64    4  -
+small  tripled        120   1  -
+small  miter          220   1  -
 small  colour         20    1  -
 small  colour         40    1  -
 small  colour         60    1  -
@@ -65,15 +81,19 @@ small  plan           80    1  -
 small  plan           400   2  -
 small  pigeon         10    1  -
 small  pigeon         13    1  -
+small  pigeon-holes   20    1  -
 small  parity         12    1  -
 small  parity         20    1  -
 middle chain          1000  1  -
 middle chain          4000  1  1000
 middle chain          16000 1  20
+middle links          300   1  -
 middle random         34    1  -
 middle random         40    1  -
 middle random         60    1  1000
 middle random         100   1  100
+middle threshold      20    5  -
+middle clumps         28    1  -
 middle dense          36    1  -
 middle feature        2000  2  -
 middle feature        4000  1  -
@@ -83,6 +103,8 @@ middle adder          2000  2  -
 middle adder          16000 1  -
 middle multiplier     64    1  -
 middle multiplier     64    3  -
+middle tripled        180   1  -
+middle miter          480   1  -
 middle colour         70    1  -
 middle colour         300   1  1000
 middle colour         4000  1  200
@@ -94,6 +116,7 @@ middle net            1000  1  -
 middle net            16000 2  200
 middle plan           16000 1  -
 middle pigeon         16    1  -
+middle pigeon-holes   24    1  -
 middle parity         30    1  -
 middle parity         40    2  -
 big    dense          46    9  -
@@ -109,16 +132,18 @@ big    parity         50    1  -
 
 
 def build_baselines():
-    """The baselines that are there after `make`; says of each other one why not."""
+    """The command of each baseline that is there after `make`; says of each other one why not."""
+    folder = os.path.join(HERE, "marco")
     found = {}
-    for name in BASELINES:
-        folder = os.path.join(HERE, "marco")
-        made = subprocess.run(["make", "-s", "-C", folder, name], text=True,
+    for program in dict.fromkeys(program for program, *_ in BASELINES.values()):
+        made = subprocess.run(["make", "-s", "-C", folder, program], text=True,
                               stdout=subprocess.PIPE, stderr=subprocess.STDOUT)
+        names = [name for name, command in BASELINES.items() if command[0] == program]
         if made.returncode == 0:
-            found[name] = os.path.join(folder, name)
+            found.update({name: [os.path.join(folder, program), *BASELINES[name][1:]] for name in names})
         else:
-            print(f"{name} is left out, since it can't be built (see marco/Makefile):\n{made.stdout}", file=sys.stderr)
+            print(f"{' and '.join(names)}: left out, since {program} can't be built (see marco/Makefile):\n{made.stdout}",
+                  file=sys.stderr)
     return found
 
 
@@ -164,29 +189,33 @@ def seconds_text(seconds):
     return f"{seconds:.3f}" if seconds < 1 else f"{seconds:.2f}" if seconds < 10 else f"{seconds:.1f}"
 
 
-def both_end(results):
-    """The seconds of gmus by those of the best baseline that came to the same end, or None."""
-    ours = results.get("gmus")
-    if ours is None or ours.status not in ("complete", "limit"):
-        return None
-    same = [result.seconds for name, result in results.items() if name != "gmus" and result.status == ours.status]
-    return ours.seconds / min(same) if same else None
+def best_of(results):
+    """The quickest baseline that came to the same end as gmus, or to one at all where gmus doesn't run; or None."""
+    ends = [results["gmus"].status] if "gmus" in results else ENDS
+    same = [name for name, result in results.items() if name != "gmus" and result.status in ends and result.status in ENDS]
+    return min(same, key=lambda name: results[name].seconds, default=None)
 
 
 def ratio(results):
-    """What both_end gives, as text; a bound where only one side came to an end."""
+    """The seconds of gmus by those of the best baseline, as text; a bound where only one side came to an end."""
     baselines = [result for name, result in results.items() if name != "gmus"]
     if "gmus" not in results or not baselines:
         return "-"
-    ours = results["gmus"]
-    if ours.status in ("complete", "limit"):
-        exact = both_end(results)
-        if exact is not None:
-            return f"{exact:.2g}"
+    ours, best = results["gmus"], best_of(results)
+    if best:
+        return f"{ours.seconds / results[best].seconds:.2g}"
+    if ours.status in ENDS:
         slow = [result.seconds for result in baselines if result.status == "time"]
         return f"< {ours.seconds / min(slow):.2g}" if len(slow) == len(baselines) else "-"
-    ended = [result.seconds for result in baselines if result.status in ("complete", "limit")]
+    ended = [result.seconds for result in baselines if result.status in ENDS]
     return f"> {ours.seconds / min(ended):.2g}" if ours.status == "time" and ended else "-"
+
+
+def own_peak(errors):
+    """The MB that a baseline tells of itself, or None."""
+    with open(errors, errors="replace") as lines:
+        told = re.search(r"^marco: .*, (\d+) kB", lines.read(), re.MULTILINE)
+    return int(told[1]) / 1024 if told else None
 
 
 class Bench:
@@ -194,10 +223,11 @@ class Bench:
         self.given = given
         self.folder = folder
         self.faults = 0
-        self.ratios = []   # of each problem that both sides end, with its name
+        self.pairs = []    # of each problem that both sides end
+        self.behind = []   # the names of those that a baseline alone ends
         self.programs = build_baselines()
         if given.gmus:
-            self.programs = {"gmus": os.path.abspath(given.gmus), **self.programs}
+            self.programs = {"gmus": [os.path.abspath(given.gmus), "list"], **self.programs}
         # A child's peak begins with this script's own, so no figure can be below it.
         self.floor = run(["true"], os.devnull, os.devnull, 10).megabytes
         self.wall = self.cpu = 0.0   # of all runs
@@ -208,9 +238,8 @@ class Bench:
 
     def command(self, name, problem, file):
         limit = [] if problem.limit == "-" else ["--limit", problem.limit]
-        if name == "gmus":
-            return [self.programs[name], "list", file, *limit]
-        return [self.programs[name], file, "--time", str(self.given.time), *limit]
+        clock = [] if name == "gmus" else ["--time", str(self.given.time), "--stats"]
+        return [*self.programs[name], file, *clock, *limit]
 
     def measure(self, name, problem, file):
         """The quickest of the runs; a run that does not come to an end is the last one."""
@@ -222,8 +251,9 @@ class Bench:
             self.wall += ending.wall
             self.cpu += ending.cpu
             seconds = ending.cpu if self.given.cpu else ending.wall
-            result = Result(*read_ending(ending.code, report, errors), seconds, ending.megabytes)
-            if result.status not in ("complete", "limit"):
+            own = own_peak(errors)
+            result = Result(*read_ending(ending.code, report, errors), seconds, own or ending.megabytes, bool(own))
+            if result.status not in ENDS:
                 best = result
                 break
             best = result if best is None or seconds < best.seconds else best
@@ -251,35 +281,96 @@ class Bench:
         with open(file) as lines:
             _, _, _, clauses, groups = lines.readline().split()
         results = {name: self.measure(name, problem, file) for name in self.programs}
-        last = ratio(results) if self.agree(file, results) else "REPORTS DIFFER"
-        exact = both_end(results)
-        if exact is not None:
-            self.ratios.append((exact, f"{problem.family} {problem.size} {problem.seed}"))
+        agreed = self.agree(file, results)
+        best = best_of(results)
+        if agreed:
+            self.count(problem, results, best)
         cells = [problem.kind, problem.family, problem.size, problem.seed, groups, clauses, problem.limit]
-        for result in results.values():
-            small = result.megabytes < 1.1 * self.floor
-            cells += [result.sets or "?", seconds_text(result.seconds),
-                      f"< {1.1 * self.floor:.0f}" if small else f"{result.megabytes:.0f}", result.status]
-        return cells + [last]
+        if "gmus" in results:
+            ours = results["gmus"]
+            cells += [ours.sets or "?", seconds_text(ours.seconds), self.megabytes_text(ours), ours.status]
+        if best:
+            cells += [best, seconds_text(results[best].seconds), self.megabytes_text(results[best]), results[best].sets]
+        else:
+            cells += ["-"] * 4
+        for name in self.baselines():
+            ended = results[name].status in ENDS
+            cells.append(seconds_text(results[name].seconds) if ended else results[name].status.split()[0])
+        return cells + [ratio(results) if agreed else "REPORTS DIFFER", self.memory_ratio(results, best)]
 
     def table(self, problems):
         heads = ["", "family", "size", "seed", "groups", "clauses", "limit"]
-        for name in self.programs:
-            heads += [f"{name}: sets", "s", "MB", "status"]
-        heads.append("gmus / best")
+        if "gmus" in self.programs:
+            heads += ["gmus: sets", "s", "MB", "status"]
+        heads += ["best", "s", "MB", "sets", *self.baselines(), "gmus / best: s", "MB"]
         put_row(heads)
         put_row(["---"] * len(heads))
         for problem in problems:
             put_row(self.row(problem))
 
+    def baselines(self):
+        return [name for name in self.programs if name != "gmus"]
+
+    def has_floor(self, result):
+        """Whether the peak may be this script's own, since a child's figure begins with that."""
+        return result.megabytes < 1.1 * self.floor and not result.is_own
+
+    def megabytes_text(self, result):
+        return f"< {1.1 * self.floor:.0f}" if self.has_floor(result) else f"{result.megabytes:.0f}"
+
+    def memory_ratio(self, results, best):
+        """The MB of gmus by those of the best baseline, as text."""
+        if not best or "gmus" not in results or self.has_floor(results["gmus"]):
+            return "-"
+        return f"{results['gmus'].megabytes / results[best].megabytes:.2g}"
+
+    def count(self, problem, results, best):
+        """Keeps what the summary tells of."""
+        name = f"{problem.family} {problem.size} {problem.seed}"
+        if "gmus" in results and best:
+            self.pairs.append(Pair(name, problem.kind, results["gmus"], results[best]))
+        elif ratio(results).startswith(">"):
+            self.behind.append(name)
+
     def summary(self):
-        """The mean and the worst ratio, in one line."""
-        if not self.ratios:
+        """The mean and the worst ratios, in some sentences."""
+        if not self.pairs:
             return "No problem is ended by both gmus and a baseline."
-        mean = math.exp(sum(math.log(exact) for exact, _ in self.ratios) / len(self.ratios))
-        worst, where = max(self.ratios)
-        return (f"Of the problems, gmus and a baseline both end {len(self.ratios)}. There the geometric mean of gmus / best "
-                f"is {mean:.2g}, the worst {worst:.2g} ({where}).")
+        kinds = dict.fromkeys(pair.kind for pair in self.pairs)
+        means = [f"{mean(pair for pair in self.pairs if pair.kind == kind):.2g} over the {kind} ones" for kind in kinds]
+        sentences = [
+            f"Of the problems, gmus and a baseline both end {len(self.pairs)}. There the geometric mean of gmus / best of "
+            f"{len(self.baselines())} is {mean(self.pairs):.2g}: {', '.join(means)}.",
+            worst(f"Where the best takes {LONG:g} s or more", seconds_by_best,
+                  [pair for pair in self.pairs if pair.best.seconds >= LONG]),
+            worst(f"Where gmus takes {LARGE} MB or more", megabytes_by_best,
+                  [pair for pair in self.pairs if pair.ours.megabytes >= LARGE])]
+        if self.behind:
+            sentences.append(f"A baseline alone ends {', '.join(self.behind)}.")
+        return " ".join(sentences)
+
+
+def seconds_by_best(pair):
+    return pair.ours.seconds / pair.best.seconds
+
+
+def megabytes_by_best(pair):
+    return pair.ours.megabytes / pair.best.megabytes
+
+
+def mean(pairs):
+    """The geometric mean of the ratios of seconds."""
+    logarithms = [math.log(seconds_by_best(pair)) for pair in pairs]
+    return math.exp(sum(logarithms) / len(logarithms))
+
+
+def worst(where, by_best, pairs):
+    """A sentence on the worst ratio of these."""
+    if not pairs:
+        return f"{where}: none."
+    pair = max(pairs, key=by_best)
+    what = "memory" if by_best is megabytes_by_best else "seconds"
+    return f"{where}, in {len(pairs)}, the worst ratio of {what} is {by_best(pair):.2g} ({pair.name})."
 
 
 def put_row(cells):

@@ -566,6 +566,17 @@ static void put_sets(std::string& text, char letter, std::vector<Groups>& sets) 
     }
 }
 
+// The peak of resident memory since this program began, in kB. What the parent counts has the parent's own in it.
+static unsigned long peak_of_memory() {
+    unsigned long peak = 0;
+    char line[256];
+    if (std::FILE* file = std::fopen("/proc/self/status", "r")) {
+        while (std::fgets(line, sizeof line, file) && std::sscanf(line, "VmHWM: %lu", &peak) != 1) {}
+        std::fclose(file);
+    }
+    return peak;
+}
+
 static void start_clock(double seconds) {
     std::signal(SIGALRM, [](int) { time_is_up = 1; Solver::stop_all(); });
     itimerval timer{};
@@ -604,7 +615,8 @@ int main(int count, char** words) {
     if (std::fwrite(text.data(), 1, text.size(), stdout) != text.size() || std::fflush(stdout))
         fail(NotWritten, "write fault on report");
     if (stats)
-        std::fprintf(stderr, "marco: %lu questions for %zu sets%s\n", marco.calls, conflicts + corrections, Solver::counts().c_str());
+        std::fprintf(stderr, "marco: %lu questions for %zu sets, %lu kB%s\n", marco.calls, marco.found(), peak_of_memory(),
+                     Solver::counts().c_str());
     if (status == AtLimit) fail(status, "limit of " + std::to_string(ways.limit) + " records reached");
     if (status == OutOfTime) fail(status, "time is up");
     return status;
