@@ -14,12 +14,13 @@
 // that is out of a model was forced out by the map and groups that are in: no larger set is a model. A larger set that
 // is explored and no model lies above a conflict, since below a known satisfied set the seed itself would be explored.
 //
-// With --save the map decides a variable as it was held last, and so finds models near the last one. To such a seed each
-// other group is added, one after the other, with which no known conflict lies in it. So it is maximal as well.
+// With --save the map decides a variable as it was held last, and so finds models near the last one. To such a seed
+// each other group is added, one after the other, with which no known conflict lies in it. So it is maximal as well.
+// MiniSat then holds these groups too; CaDiCaL can't be told.
 //
 // With --harvest so many models of each shrink, the first ones, are grown. Such a model satisfies the set but for one
 // group. What it satisfies is made maximal, by a question for each group with which no known conflict lies in it. What
-// is left is a correction, and a new one: one of before with that group alone of the set would have spared the question.
+// is left is a correction, and a new one: a known one with that group alone of the set would have spared the question.
 //
 // The report is that of gmus. It is partial where the limit or the time ended the run.
 #include <algorithm>
@@ -63,6 +64,7 @@ public:
         return variables;
     }
     void keep_phases() { for (int variable = 1; variable <= variables; variable++) solver.unphase(variable); }
+    void hold(int) {}
     void add(const Lits& clause) {
         for (int lit : clause) solver.add(lit);
         solver.add(0);
@@ -96,10 +98,14 @@ public:
         solver.newVar(kind == Kind::Map ? l_False : l_Undef, kind != Kind::Selector);
         return solver.nVars();
     }
-    // From now on each variable is decided as it was held last.
+    // From now on each variable is decided as it was held last, at first to true.
     void keep_phases() {
-        for (int variable = 0; variable < solver.nVars(); variable++) solver.setPolarity(variable, l_Undef);
+        for (int variable = 1; variable <= solver.nVars(); variable++) {
+            solver.setPolarity(variable - 1, l_Undef);
+            hold(variable);
+        }
     }
+    void hold(int variable) { solver.polarity[variable - 1] = false; }    // the sign of a positive literal
     void add(const Lits& clause) {
         lits.clear();
         for (int lit : clause) lits.push(literal(lit));
@@ -129,8 +135,9 @@ public:
 
 private:
     static Minisat::Lit literal(int lit) { return Minisat::mkLit(std::abs(lit) - 1, lit < 0); }
+    struct Open : Minisat::Solver { using Minisat::Solver::polarity; };
     static std::vector<Minisat::Solver*> all;
-    Minisat::Solver solver;
+    Open solver;
     Minisat::vec<Minisat::Lit> lits;
 };
 std::vector<Minisat::Solver*> Solver::all;
@@ -248,8 +255,8 @@ private:
     std::vector<char> is_needed;
 };
 
-// Whether a known conflict lies in a set with one more group. In each conflict with that group another one is looked for
-// that is not in the set. It is then put first, since there the next look begins.
+// Whether a known conflict lies in a set with one more group. In each conflict with that group another one is looked
+// for that is not in the set. It is then put first, since there the next look begins.
 class Known {
 public:
     Known(int groups, std::vector<Groups>& conflicts)
@@ -388,7 +395,7 @@ public:
     }
 
     Status run() {
-        if (ways.save) map.solve({}), map.keep_phases();   // the first model of the map has all groups
+        if (ways.save) map.keep_phases();
         for (;;) {
             if (found() >= ways.limit) return AtLimit;
             if (time_is_up) return OutOfTime;
@@ -434,6 +441,7 @@ private:
                 outside.push_back(group);
             } else {
                 known.put(group);
+                map.hold(group);
                 seed.push_back(group);
             }
         }
@@ -615,8 +623,8 @@ int main(int count, char** words) {
     if (std::fwrite(text.data(), 1, text.size(), stdout) != text.size() || std::fflush(stdout))
         fail(NotWritten, "write fault on report");
     if (stats)
-        std::fprintf(stderr, "marco: %lu questions for %zu sets, %lu kB%s\n", marco.calls, marco.found(), peak_of_memory(),
-                     Solver::counts().c_str());
+        std::fprintf(stderr, "marco: %lu questions for %zu sets, %lu kB%s\n", marco.calls, marco.found(),
+                     peak_of_memory(), Solver::counts().c_str());
     if (status == AtLimit) fail(status, "limit of " + std::to_string(ways.limit) + " records reached");
     if (status == OutOfTime) fail(status, "time is up");
     return status;
