@@ -26,58 +26,98 @@ pub fn play<R: Files + Print + AllocGlobal, P: Player>(
     player: &mut P,
 ) -> io::Result<()> {
     let script = fs::read_to_string(rt, name)?;
-    let mut waiting = None;
-    for line in script.split('\n') {
-        waiting = play_line(rt, player, waiting, line)?;
-    }
-    play_waiting(rt, player, waiting)
+    play_lines(rt, script.as_str(), player)
 }
 
-/// Plays a line behind the call that waits for its text, if one does, and gives the one that waits then.
+fn play_lines<R: Print + AllocGlobal, P: Player>(
+    rt: &R,
+    script: &str,
+    player: &mut P,
+) -> io::Result<()> {
+    let mut waiting = None;
+    for line in script.split('\n') {
+        play_line(rt, player, &mut waiting, line)?;
+    }
+    play_waiting(rt, player, &mut waiting)
+}
+
+/// Plays a line behind the call that waits for its text, if one does.
 fn play_line<'a, R: Print + AllocGlobal, P: Player>(
     rt: &R,
     player: &mut P,
-    waiting: Option<Step<'a>>,
+    waiting: &mut Option<Step<'a>>,
     line: &'a str,
-) -> io::Result<Option<Step<'a>>> {
+) -> io::Result<()> {
     match line_of(line) {
-        Line::Case(_) => {
-            play_waiting(rt, player, waiting)?;
-            println!(rt; "{line}")?;
-            player.begin(rt.alloc())?;
-            Ok(None)
-        }
-        Line::Call(words) => {
-            play_waiting(rt, player, waiting)?;
-            Ok(Some(Step::new(rt.alloc(), words)?))
-        }
-        Line::Text(text, has_end) => {
-            let Some(mut step) = waiting else {
-                println!(rt; "? {line}")?;
-                return Ok(None);
-            };
-            step.push_text(text, has_end)?;
-            Ok(Some(step))
-        }
-        Line::Passed => Ok(waiting),
+        Line::Case(_) => begin_case(rt, player, waiting, line),
+        Line::Call(words) => begin_call(rt, player, waiting, words),
+        Line::Text(text, has_end) => match waiting {
+            Some(step) => Ok(step.push_text(text, has_end)?),
+            None => print_unknown(rt, line),
+        },
+        Line::Passed => Ok(()),
     }
+}
+
+fn begin_case<R: Print + AllocGlobal, P: Player>(
+    rt: &R,
+    player: &mut P,
+    waiting: &mut Option<Step<'_>>,
+    line: &str,
+) -> io::Result<()> {
+    play_waiting(rt, player, waiting)?;
+    print_line(rt, line)?;
+    Ok(player.begin(rt.alloc())?)
+}
+
+/// Has a call wait for its text, behind the one that waits.
+fn begin_call<'a, R: Print + AllocGlobal, P: Player>(
+    rt: &R,
+    player: &mut P,
+    waiting: &mut Option<Step<'a>>,
+    words: &'a str,
+) -> io::Result<()> {
+    play_waiting(rt, player, waiting)?;
+    *waiting = Some(Step::new(rt.alloc(), words)?);
+    Ok(())
 }
 
 /// Makes the call that waits, if one does, and prints what it answers.
 fn play_waiting<R: Print + AllocGlobal, P: Player>(
     rt: &R,
     player: &mut P,
-    waiting: Option<Step<'_>>,
+    waiting: &mut Option<Step<'_>>,
 ) -> io::Result<()> {
-    let Some(step) = waiting else {
-        return Ok(());
-    };
-    let mut out = String::new(rt.alloc());
-    let is_known = player.call(rt.alloc(), &step, &mut out)?;
-    rt.print(out.as_str())?;
-    if !is_known {
-        let line = step.line();
-        println!(rt; "? {line}")?;
+    if let Some(step) = waiting {
+        play_step(rt, player, step)?;
     }
+    *waiting = None;
     Ok(())
+}
+
+/// Makes a call, and prints what it answers.
+fn play_step<R: Print + AllocGlobal, P: Player>(
+    rt: &R,
+    player: &mut P,
+    step: &Step<'_>,
+) -> io::Result<()> {
+    let mut out = String::new(rt.alloc());
+    let is_known = player.call(rt.alloc(), step, &mut out)?;
+    rt.print(out.as_str())?;
+    if is_known {
+        Ok(())
+    } else {
+        print_unknown(rt, step.line())
+    }
+}
+
+/// Prints a line that is not known.
+fn print_unknown<R: Print>(rt: &R, line: &str) -> io::Result<()> {
+    rt.print("? ")?;
+    print_line(rt, line)
+}
+
+fn print_line<R: Print>(rt: &R, line: &str) -> io::Result<()> {
+    rt.print(line)?;
+    rt.print("\n")
 }

@@ -7,3 +7,11 @@ pub fn show(line: &str, out: &mut String) -> Result<bool, AllocError> {
     out.push_str("\n")?;
     Ok(true)
 }
+
+/// Says that a call is known, once its answer was told.
+pub fn known(told: Result<(), AllocError>) -> Result<bool, AllocError> {
+    match told {
+        Ok(()) => Ok(true),
+        Err(AllocError) => Err(AllocError),
+    }
+}
