@@ -28,5 +28,5 @@ mod step;
 
 pub use line::{Line, line_of};
 pub use script::{Player, play};
-pub use shown::{known, show};
+pub use shown::{hold, known, show};
 pub use step::{Step, has_digit};

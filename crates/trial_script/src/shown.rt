@@ -15,3 +15,12 @@ pub fn known(told: Result<(), AllocError>) -> Result<bool, AllocError> {
         Err(AllocError) => Err(AllocError),
     }
 }
+
+/// Holds what a call made, in place of what was held, and says that the call is known.
+pub fn hold<T: Drop>(
+    place: &mut Option<T>,
+    made: Result<T, AllocError>,
+) -> Result<bool, AllocError> {
+    *place = Some(made?);
+    Ok(true)
+}
