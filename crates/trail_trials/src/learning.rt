@@ -8,6 +8,9 @@
 //! core 8                     the negated decisions that make clause 8 false, and the hints
 //! core_of -8                 those that make the assumption -8 false
 //! ```
+ghost use Rattle.std.specs.Prelude.{◌≡◌, ◌<◌, ◌^◌, true};
+ghost use Rattle.learn_step.specs.Reasons.{AreReasoned};
+
 use crate::reasons::{are_reasoned, is_conflict, is_origin};
 use crate::store::add_clause;
 use crate::trail::change;
@@ -16,13 +19,24 @@ use learn_step::{Learnt, Origin, core_of, learn};
 use std::alloc::{AllocError, Global};
 use trail_book::Trail;
 use trial_lits::{add_ids, add_lits, lit_at, tell_number, vars_at};
-use trial_script::{Player, Step};
+use trial_script::{Player, Step, known};
 
 /// Clauses and values, as somebody wrote them.
 #[derive(Drop)]
 pub struct Scene {
     store: Store,
     trail: Trail,
+}
+
+impl Scene {
+    /// No clauses and no values.
+    fn new(alloc: Global, vars: u32) -> Result<Scene, AllocError>
+        requires { vars < 2 ^ 31 }
+    {
+        let store = Store::new(alloc, vars)?;
+        let trail = Trail::new(alloc, vars)?;
+        Ok(Scene { store, trail })
+    }
 }
 
 /// The scene, once it was made.
@@ -33,13 +47,17 @@ pub struct LearningPlayer {
 
 impl LearningPlayer {
     fn make(&mut self, alloc: Global, step: &Step<'_>) -> Result<bool, AllocError> {
-        let Some(vars) = vars_at(step, 1) else {
-            return Ok(false);
-        };
-        let store = Store::new(alloc, vars)?;
-        let trail = Trail::new(alloc, vars)?;
-        self.scene = Some(Scene { store, trail });
-        Ok(true)
+        match vars_at(step, 1) {
+            Some(vars) => known(self.renew(alloc, vars)),
+            None => Ok(false),
+        }
+    }
+
+    fn renew(&mut self, alloc: Global, vars: u32) -> Result<(), AllocError>
+        requires { vars < 2 ^ 31 }
+    {
+        self.scene = Some(Scene::new(alloc, vars)?);
+        Ok(())
     }
 }
 
@@ -77,7 +95,7 @@ fn on_scene(
         "add_idle" => add_clause(alloc, store, step, out, false),
         "learn" => tell_learnt(alloc, store, trail, step, out),
         "core" | "core_of" => tell_core(alloc, store, trail, step, out),
-        _ => Ok(change(trail, step).is_some()),
+        _ => Ok(change(trail, step)),
     }
 }
 
@@ -91,15 +109,10 @@ fn tell_learnt(
     let Some(id) = step.amount(1) else {
         return Ok(false);
     };
-    if store.vars() != trail.vars() || trail.top() == 0 {
+    if trail.top() == 0 || !fit(store, trail) || !is_conflict(store, trail, id) {
         return Ok(false);
     }
-    if !are_reasoned(store, trail) || !is_conflict(store, trail, id) {
-        return Ok(false);
-    }
-    let learnt = learn(alloc, store, trail, id)?;
-    tell_clause(&learnt, out)?;
-    Ok(true)
+    tell_clause(learn(alloc, store, trail, id), out)
 }
 
 fn tell_core(
@@ -112,29 +125,37 @@ fn tell_core(
     let Some(origin) = origin_at(trail, step) else {
         return Ok(false);
     };
-    if store.vars() != trail.vars() {
+    if !fit(store, trail) || !is_origin(store, trail, &origin) {
         return Ok(false);
     }
-    if !are_reasoned(store, trail) || !is_origin(store, trail, &origin) {
-        return Ok(false);
-    }
-    let core = core_of(alloc, store, trail, origin)?;
-    tell_clause(&core, out)?;
-    Ok(true)
+    tell_clause(core_of(alloc, store, trail, origin), out)
+}
+
+// Whether both are over the same variables, and each value has a clause that forced it.
+fn fit(store: &Store, trail: &Trail) -> bool
+    ensures vars { result ≡ true → store.now.vars ≡ trail.now.vars }
+    ensures reasoned { result ≡ true → AreReasoned store.now.clauses trail.now.entries }
+{
+    store.vars() == trail.vars() && are_reasoned(store, trail)
 }
 
 fn origin_at(trail: &Trail, step: &Step<'_>) -> Option<Origin> {
     if step.word(0) == "core" {
-        Some(Origin::Conflict(step.amount(1)?))
+        step.amount(1).map(Origin::Conflict)
     } else {
-        Some(Origin::Assumption(lit_at(step, 1, trail.vars())?))
+        lit_at(step, 1, trail.vars()).map(Origin::Assumption)
     }
 }
 
-fn tell_clause(learnt: &Learnt, out: &mut String) -> Result<(), AllocError> {
+fn tell_clause(learnt: Result<Learnt, AllocError>, out: &mut String) -> Result<bool, AllocError> {
+    let learnt = learnt?;
+    add_row(&learnt, out)?;
+    known(tell_number(out, " back to", u64::from(learnt.back_level)))
+}
+
+fn add_row(learnt: &Learnt, out: &mut String) -> Result<(), AllocError> {
     out.push_str("clause")?;
     add_lits(out, &learnt.lits)?;
     out.push_str(" hints")?;
-    add_ids(out, learnt.hints.as_slice())?;
-    tell_number(out, " back to", u64::from(learnt.back_level))
+    add_ids(out, learnt.hints.as_slice())
 }

@@ -41,7 +41,7 @@ use std::rt::Files;
 use std::{env, io};
 use store::StorePlayer;
 use trail::TrailPlayer;
-use trial_script::play;
+use trial_script::{Player, play};
 use words::WordsPlayer;
 
 fn main(rt: HostRuntime) -> io::Result<()> {
@@ -54,10 +54,19 @@ fn main(rt: HostRuntime) -> io::Result<()> {
 // Plays a script by the player of its name. It may be named with its folder.
 fn play_named<R: Files + Print + AllocGlobal>(rt: &R, name: &str) -> io::Result<()> {
     match name.strip_prefix("data/").unwrap_or(name) {
-        "words" => play(rt, name, &mut WordsPlayer::new()),
-        "trail" => play(rt, name, &mut TrailPlayer { trail: None }),
-        "store" => play(rt, name, &mut StorePlayer { store: None }),
-        "propagation" => play(rt, name, &mut PropagationPlayer { bench: None }),
-        _ => play(rt, name, &mut LearningPlayer { scene: None }),
+        "words" => play_by(rt, name, WordsPlayer::new()),
+        "trail" => play_by(rt, name, TrailPlayer { trail: None }),
+        "store" => play_by(rt, name, StorePlayer { store: None }),
+        "propagation" => play_by(rt, name, PropagationPlayer { bench: None }),
+        _ => play_by(rt, name, LearningPlayer { scene: None }),
     }
+}
+
+// Owns the player, so that few proofs have to drop one.
+fn play_by<R: Files + Print + AllocGlobal, P: Player + Drop>(
+    rt: &R,
+    name: &str,
+    mut player: P,
+) -> io::Result<()> {
+    play(rt, name, &mut player)
 }

@@ -11,11 +11,13 @@
 //!
 //! What is kept of the trail is told as in its own trials (`show`, `len`, `top`, `value 3`, ..), and what of a literal as in
 //! those of stores (`head 1`, `tail 1`, `parked 1`).
+ghost use Rattle.std.specs.Prelude.{◌<◌, ◌^◌};
+
 use crate::bench::Bench;
 use crate::{store, trail};
 use std::alloc::{AllocError, Global};
 use trial_lits::{lit_at, lits_at, tell_id, vars_at};
-use trial_script::{Player, Step};
+use trial_script::{Player, Step, known};
 
 /// Clauses and values, once they were made.
 #[derive(Drop)]
@@ -25,11 +27,17 @@ pub struct PropagationPlayer {
 
 impl PropagationPlayer {
     fn make(&mut self, alloc: Global, step: &Step<'_>) -> Result<bool, AllocError> {
-        let Some(vars) = vars_at(step, 1) else {
-            return Ok(false);
-        };
-        self.bench = Some(Bench::new(alloc, vars, step.word(2) == "parks")?);
-        Ok(true)
+        match vars_at(step, 1) {
+            Some(vars) => known(self.renew(alloc, vars, step.word(2) == "parks")),
+            None => Ok(false),
+        }
+    }
+
+    fn renew(&mut self, alloc: Global, vars: u32, parks: bool) -> Result<(), AllocError>
+        requires { vars < 2 ^ 31 }
+    {
+        self.bench = Some(Bench::new(alloc, vars, parks)?);
+        Ok(())
     }
 }
 
@@ -65,40 +73,43 @@ fn on_bench(
         "add" => add(alloc, bench, step),
         "propagate" => tell_propagated(bench, out),
         "decide" => decide(bench, step, out),
-        "back" => Ok(back(bench, step).is_some()),
-        _ => {
-            if trail::read(&bench.trail, step, out)? {
-                return Ok(true);
-            }
-            store::read(&bench.store, step, out)
-        }
+        "back" => Ok(back(bench, step)),
+        _ => read(bench, step, out),
+    }
+}
+
+/// Tells what is kept of the trail, or else of the store.
+fn read(bench: &Bench, step: &Step<'_>, out: &mut String) -> Result<bool, AllocError> {
+    match trail::read(&bench.trail, step, out) {
+        Ok(false) => store::read(&bench.store, step, out),
+        told => told,
     }
 }
 
 fn add(alloc: Global, bench: &mut Bench, step: &Step<'_>) -> Result<bool, AllocError> {
     match lits_at(alloc, step, 1, bench.vars())? {
-        Some(lits) => bench.add(&lits)?,
-        None => return Ok(false),
+        Some(lits) => known(bench.add(&lits)),
+        None => Ok(false),
     }
-    Ok(true)
 }
 
 fn tell_propagated(bench: &mut Bench, out: &mut String) -> Result<bool, AllocError> {
-    tell_id(out, "falsified", bench.propagate())?;
-    Ok(true)
+    known(tell_id(out, "falsified", bench.propagate()))
 }
 
 fn decide(bench: &mut Bench, step: &Step<'_>, out: &mut String) -> Result<bool, AllocError> {
-    let Some(lit) = lit_at(step, 1, bench.vars()) else {
-        return Ok(false);
-    };
-    if !bench.decide(lit) {
-        return Ok(false);
+    match lit_at(step, 1, bench.vars()) {
+        Some(lit) if bench.decide(lit) => tell_propagated(bench, out),
+        _ => Ok(false),
     }
-    tell_propagated(bench, out)
 }
 
-fn back(bench: &mut Bench, step: &Step<'_>) -> Option<()> {
-    bench.back(step.count(1)?);
-    Some(())
+fn back(bench: &mut Bench, step: &Step<'_>) -> bool {
+    match step.count(1) {
+        Some(level) => {
+            bench.back(level);
+            true
+        }
+        None => false,
+    }
 }

@@ -28,9 +28,9 @@ use clause_store::Store;
 use sat_base::Lit;
 use std::alloc::{AllocError, Global};
 use trial_lits::{
-    add, add_lit, add_lits, behind, lit_at, lits_at, tell, tell_id, tell_lit, tell_number, vars_at,
+    add, add_lit, behind, lit_at, lits_at, tell, tell_id, tell_lit, tell_lits, tell_number, vars_at,
 };
-use trial_script::{Player, Step};
+use trial_script::{Player, Step, known, show};
 
 /// A store, once one was made.
 #[derive(Drop)]
@@ -40,11 +40,17 @@ pub struct StorePlayer {
 
 impl StorePlayer {
     fn make(&mut self, alloc: Global, step: &Step<'_>) -> Result<bool, AllocError> {
-        let Some(vars) = vars_at(step, 1) else {
-            return Ok(false);
-        };
+        match vars_at(step, 1) {
+            Some(vars) => known(self.renew(alloc, vars)),
+            None => Ok(false),
+        }
+    }
+
+    fn renew(&mut self, alloc: Global, vars: u32) -> Result<(), AllocError>
+        requires { vars < 2 ^ 31 }
+    {
         self.store = Some(Store::new(alloc, vars)?);
-        Ok(true)
+        Ok(())
     }
 }
 
@@ -82,12 +88,8 @@ fn on_store(
         "reserve" => reserve(store, step, out),
         "reserved" => reserved(alloc, store, step, out),
         "open" => open(alloc, store, step, out),
-        _ => {
-            if change(store, step).is_some() {
-                return Ok(true);
-            }
-            read(store, step, out)
-        }
+        _ if change(store, step) => Ok(true),
+        _ => read(store, step, out),
     }
 }
 
@@ -101,23 +103,27 @@ pub fn add_clause(
 ) -> Result<bool, AllocError>
     ensures { store.new.vars ≡ store.old.vars }
 {
-    let Some(lits) = lits_at(alloc, step, 1, store.vars())? else {
-        return Ok(false);
-    };
-    let id = store.add(&lits, live)?;
-    tell_number(out, "id", id)?;
-    Ok(true)
+    match lits_at(alloc, step, 1, store.vars())? {
+        Some(lits) => tell_added(store.add(&lits, live), out),
+        None => Ok(false),
+    }
+}
+
+fn tell_added(id: Result<u64, AllocError>, out: &mut String) -> Result<bool, AllocError> {
+    known(tell_number(out, "id", id?))
 }
 
 fn reserve(store: &mut Store, step: &Step<'_>, out: &mut String) -> Result<bool, AllocError> {
     let (Some(count), Some(literals)) = (step.amount(1), step.amount(2)) else {
         return Ok(false);
     };
-    match store.reserve(count, literals) {
-        Ok(()) => tell(out, "room")?,
-        Err(_) => tell(out, "no room")?,
-    }
-    Ok(true)
+    show(
+        match store.reserve(count, literals) {
+            Ok(()) => "room",
+            Err(_) => "no room",
+        },
+        out,
+    )
 }
 
 // Makes room for one clause, or for two, and adds them.
@@ -134,26 +140,26 @@ fn reserved(
     let Some(second) = lits_at(alloc, step, behind(step, ":"), vars)? else {
         return Ok(false);
     };
-    out.push_str("ids")?;
     if second.is_empty() {
-        add(out, "", add_one(store, &first)?)?;
+        add_one(store, &first, out)
     } else {
-        let (one, other) = add_two(store, &first, &second)?;
-        add(out, "", one)?;
-        add(out, "", other)?;
+        add_two(store, &first, &second, out)
     }
-    out.push_str("\n")?;
-    Ok(true)
 }
 
-fn add_one(store: &mut Store, lits: &[Lit]) -> Result<u64, AllocError>
+fn add_one(store: &mut Store, lits: &[Lit], out: &mut String) -> Result<bool, AllocError>
     requires { AreLiterals store.old.vars lits.now }
 {
     store.reserve(1, lits.len() as u64)?;
-    Ok(store.add_reserved(lits, true))
+    known(tell_number(out, "ids", store.add_reserved(lits, true)))
 }
 
-fn add_two(store: &mut Store, first: &[Lit], second: &[Lit]) -> Result<(u64, u64), AllocError>
+fn add_two(
+    store: &mut Store,
+    first: &[Lit],
+    second: &[Lit],
+    out: &mut String,
+) -> Result<bool, AllocError>
     requires first { AreLiterals store.old.vars first.now }
     requires second { AreLiterals store.old.vars second.now }
 {
@@ -163,18 +169,16 @@ fn add_two(store: &mut Store, first: &[Lit], second: &[Lit]) -> Result<(u64, u64
     store.reserve(2, literals as u64)?;
     let one = store.add_reserved(first, true);
     let other = store.add_reserved(second, true);
-    Ok((one, other))
+    known(writeln!(out, "ids {one} {other}"))
 }
 
 /// The id of a clause, at this place of a call.
 pub fn clause_at(store: &Store, step: &Step<'_>, at: usize) -> Option<u64>
     ensures { IfSome result (IsId store.now.clauses) }
 {
-    let id = step.amount(at)?;
-    if id > 0 && id <= store.len() {
-        Some(id)
-    } else {
-        None
+    match step.amount(at) {
+        Some(id) if id > 0 && id <= store.len() => Some(id),
+        _ => None,
     }
 }
 
@@ -189,79 +193,111 @@ fn link_at(store: &Store, step: &Step<'_>, at: usize) -> Option<u64>
 fn place_at(step: &Step<'_>, at: usize) -> Option<u32>
     ensures { IfSome result (λ place. place < 2) }
 {
-    let place = step.count(at)?;
-    if place < 2 { Some(place) } else { None }
+    match step.count(at) {
+        Some(place) if place < 2 => Some(place),
+        _ => None,
+    }
 }
 
 // Changes the store, where the call says how and its condition holds.
-fn change(store: &mut Store, step: &Step<'_>) -> Option<()> {
+fn change(store: &mut Store, step: &Step<'_>) -> bool {
     match step.word(0) {
-        "forget" => {
-            let id = clause_at(store, step, 1)?;
-            store.forget(id);
+        "set_head" | "set_tail" | "set_parked" => set_end(store, step),
+        "set_false" => {
+            store.set_false_id(step.amount(1));
+            true
         }
-        "watch" => return watch(store, step),
-        "set_next" => {
-            let id = clause_at(store, step, 1)?;
-            let link = link_at(store, step, 3);
-            store.set_next(id, place_at(step, 2)?, link);
-        }
-        "set_position" => {
-            let id = clause_at(store, step, 1)?;
-            store.set_position(id, step.count(2)? as usize);
-        }
-        "set_false" => store.set_false_id(step.amount(1)),
-        _ => return set_end(store, step),
+        _ => match clause_at(store, step, 1) {
+            Some(id) => change_clause(store, id, step),
+            None => false,
+        },
     }
-    Some(())
 }
 
-fn watch(store: &mut Store, step: &Step<'_>) -> Option<()> {
-    let vars = store.vars();
-    let id = clause_at(store, step, 1)?;
+fn change_clause(store: &mut Store, id: u64, step: &Step<'_>) -> bool
+    requires { IsId store.old.clauses id }
+{
+    match step.word(0) {
+        "forget" => {
+            store.forget(id);
+            true
+        }
+        "watch" => watch(store, id, step),
+        "set_next" => set_next(store, id, step),
+        "set_position" => set_position(store, id, step),
+        _ => false,
+    }
+}
+
+fn set_next(store: &mut Store, id: u64, step: &Step<'_>) -> bool
+    requires { IsId store.old.clauses id }
+{
+    let Some(place) = place_at(step, 2) else {
+        return false;
+    };
+    let link = link_at(store, step, 3);
+    store.set_next(id, place, link);
+    true
+}
+
+fn set_position(store: &mut Store, id: u64, step: &Step<'_>) -> bool
+    requires { IsId store.old.clauses id }
+{
+    let Some(position) = step.count(2) else {
+        return false;
+    };
+    store.set_position(id, position as usize);
+    true
+}
+
+fn watch(store: &mut Store, id: u64, step: &Step<'_>) -> bool
+    requires { IsId store.old.clauses id }
+{
     if step.word(2) == "" {
         store.set_watched(id, None);
-        return Some(());
+        return true;
     }
-    let pair = (lit_at(step, 2, vars)?, lit_at(step, 3, vars)?);
-    store.set_watched(id, Some(pair));
-    Some(())
+    let vars = store.vars();
+    let (Some(first), Some(second)) = (lit_at(step, 2, vars), lit_at(step, 3, vars)) else {
+        return false;
+    };
+    store.set_watched(id, Some((first, second)));
+    true
 }
 
 // Sets an end of the list of a literal.
-fn set_end(store: &mut Store, step: &Step<'_>) -> Option<()> {
-    let lit = lit_at(step, 1, store.vars())?;
+fn set_end(store: &mut Store, step: &Step<'_>) -> bool {
+    let Some(lit) = lit_at(step, 1, store.vars()) else {
+        return false;
+    };
     let link = link_at(store, step, 2);
     match step.word(0) {
         "set_head" => store.set_head(lit, link),
         "set_tail" => store.set_tail(lit, link),
-        "set_parked" => store.set_parked(lit, link),
-        _ => return None,
+        _ => store.set_parked(lit, link),
     }
-    Some(())
+    true
 }
 
 /// Tells what is kept of a literal, or of a clause.
 pub fn read(store: &Store, step: &Step<'_>, out: &mut String) -> Result<bool, AllocError> {
     match step.word(0) {
-        "count" => tell_number(out, "clauses", store.len())?,
-        "false_id" => tell_id(out, "false", store.false_id())?,
-        "head" | "tail" | "parked" => return read_end(store, step, out),
-        _ => return read_clause(store, step, out),
+        "count" => known(tell_number(out, "clauses", store.len())),
+        "false_id" => known(tell_id(out, "false", store.false_id())),
+        "head" | "tail" | "parked" => read_end(store, step, out),
+        _ => read_clause(store, step, out),
     }
-    Ok(true)
 }
 
 fn read_end(store: &Store, step: &Step<'_>, out: &mut String) -> Result<bool, AllocError> {
     let Some(lit) = lit_at(step, 1, store.vars()) else {
         return Ok(false);
     };
-    match step.word(0) {
-        "head" => tell_id(out, "head", store.head(lit))?,
-        "tail" => tell_id(out, "tail", store.tail(lit))?,
-        _ => tell_id(out, "parked", store.parked(lit))?,
-    }
-    Ok(true)
+    known(match step.word(0) {
+        "head" => tell_id(out, "head", store.head(lit)),
+        "tail" => tell_id(out, "tail", store.tail(lit)),
+        _ => tell_id(out, "parked", store.parked(lit)),
+    })
 }
 
 fn read_clause(store: &Store, step: &Step<'_>, out: &mut String) -> Result<bool, AllocError> {
@@ -269,24 +305,23 @@ fn read_clause(store: &Store, step: &Step<'_>, out: &mut String) -> Result<bool,
         return Ok(false);
     };
     match step.word(0) {
-        "clause" => tell_clause(store, id, out)?,
-        "position" => tell_number(out, "position", store.position(id) as u64)?,
-        "watched" => tell_watched(store.watched(id), out)?,
-        _ => return read_watch(store, step, id, out),
+        "clause" => known(tell_clause(store, id, out)),
+        "position" => known(tell_number(out, "position", store.position(id) as u64)),
+        "watched" => known(tell_watched(store.watched(id), out)),
+        "next" => tell_next(store, step, id, out),
+        _ => read_watch(store, step, id, out),
     }
-    Ok(true)
 }
 
 fn tell_clause(store: &Store, id: u64, out: &mut String) -> Result<(), AllocError>
     requires { IsId store.now.clauses id }
 {
-    out.push_str(if store.is_live(id) {
+    let word = if store.is_live(id) {
         "live :"
     } else {
         "idle :"
-    })?;
-    add_lits(out, store.lits(id))?;
-    out.push_str("\n")
+    };
+    tell_lits(out, word, store.lits(id))
 }
 
 fn tell_watched(pair: Option<(Lit, Lit)>, out: &mut String) -> Result<(), AllocError> {
@@ -299,16 +334,18 @@ fn tell_watched(pair: Option<(Lit, Lit)>, out: &mut String) -> Result<(), AllocE
     }
 }
 
+fn tell_next(store: &Store, step: &Step<'_>, id: u64, out: &mut String) -> Result<bool, AllocError>
+    requires { IsId store.now.clauses id }
+{
+    match place_at(step, 2) {
+        Some(place) => known(tell_id(out, "next", store.next(id, place))),
+        None => Ok(false),
+    }
+}
+
 fn read_watch(store: &Store, step: &Step<'_>, id: u64, out: &mut String) -> Result<bool, AllocError>
     requires { IsId store.now.clauses id }
 {
-    if step.word(0) == "next" {
-        let Some(place) = place_at(step, 2) else {
-            return Ok(false);
-        };
-        tell_id(out, "next", store.next(id, place))?;
-        return Ok(true);
-    }
     let Some(lit) = lit_at(step, 2, store.vars()) else {
         return Ok(false);
     };
@@ -327,8 +364,7 @@ fn tell_place(store: &Store, id: u64, lit: Lit, out: &mut String) -> Result<bool
     }
     let (place, other) = store.place_of(id, lit);
     add(out, "place", u64::from(place))?;
-    tell_lit(out, " beside", Some(other))?;
-    Ok(true)
+    known(tell_lit(out, " beside", Some(other)))
 }
 
 fn tell_third(
@@ -343,8 +379,7 @@ fn tell_third(
     let Some(second) = lit_at(step, 3, store.vars()) else {
         return Ok(false);
     };
-    tell_lit(out, "third", store.third(id, first, second))?;
-    Ok(true)
+    known(tell_lit(out, "third", store.third(id, first, second)))
 }
 
 fn open(
@@ -359,9 +394,8 @@ fn open(
     let Some(trues) = words_at(alloc, step, behind(step, ":"))? else {
         return Ok(false);
     };
-    match store.words(id) {
-        Some(words) => tell_lit(out, "open", words.open(trues, other))?,
-        None => tell(out, "no words")?,
-    }
-    Ok(true)
+    known(match store.words(id) {
+        Some(words) => tell_lit(out, "open", words.open(trues, other)),
+        None => tell(out, "no words"),
+    })
 }

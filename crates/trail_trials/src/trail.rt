@@ -28,9 +28,9 @@ use sat_base::Lit;
 use std::alloc::{AllocError, Global};
 use trail_book::Trail;
 use trial_lits::{
-    add, add_id, add_lit, behind, lit_at, tell, tell_lit, tell_number, var_at, vars_at,
+    add_id, add_lit, behind, lit_at, tell, tell_id, tell_lit, tell_number, var_at, vars_at,
 };
-use trial_script::{Player, Step};
+use trial_script::{Player, Step, known, show};
 
 /// A trail, once one was made.
 #[derive(Drop)]
@@ -40,11 +40,17 @@ pub struct TrailPlayer {
 
 impl TrailPlayer {
     fn make(&mut self, alloc: Global, step: &Step<'_>) -> Result<bool, AllocError> {
-        let Some(vars) = vars_at(step, 1) else {
-            return Ok(false);
-        };
+        match vars_at(step, 1) {
+            Some(vars) => known(self.renew(alloc, vars)),
+            None => Ok(false),
+        }
+    }
+
+    fn renew(&mut self, alloc: Global, vars: u32) -> Result<(), AllocError>
+        requires { vars < 2 ^ 31 }
+    {
         self.trail = Some(Trail::new(alloc, vars)?);
-        Ok(true)
+        Ok(())
     }
 }
 
@@ -85,33 +91,43 @@ fn on_trail(
         "pick_true" => tell_pick(out, trail.pick_true()),
         "var" => tell_var(trail, step, out),
         "place" => tell_place(trail, step, out),
-        _ => {
-            if change(trail, step).is_some() {
-                return Ok(true);
-            }
-            read(trail, step, out)
-        }
+        _ if change(trail, step) => Ok(true),
+        _ => read(trail, step, out),
     }
 }
 
 /// Changes the trail, where the call says how and its condition holds.
-pub fn change(trail: &mut Trail, step: &Step<'_>) -> Option<()>
+pub fn change(trail: &mut Trail, step: &Step<'_>) -> bool
     ensures { trail.new.vars ≡ trail.old.vars }
 {
     match step.word(0) {
         "decide" => decide(trail, step),
         "assign" => assign(trail, step),
         "unit" => set_unit(trail, step),
-        "back_to" => {
-            trail.back_to(step.count(1)?);
-            Some(())
-        }
-        "start_at" => {
-            trail.start_at(step.amount(1)?);
-            Some(())
-        }
-        _ => None,
+        "back_to" => back_to(trail, step),
+        "start_at" => start_at(trail, step),
+        _ => false,
     }
+}
+
+fn back_to(trail: &mut Trail, step: &Step<'_>) -> bool
+    ensures { trail.new.vars ≡ trail.old.vars }
+{
+    let Some(level) = step.count(1) else {
+        return false;
+    };
+    trail.back_to(level);
+    true
+}
+
+fn start_at(trail: &mut Trail, step: &Step<'_>) -> bool
+    ensures { trail.new.vars ≡ trail.old.vars }
+{
+    let Some(turn) = step.amount(1) else {
+        return false;
+    };
+    trail.start_at(turn);
+    true
 }
 
 // The literal at the first place of a call, where it has no value.
@@ -119,44 +135,53 @@ fn unset(trail: &Trail, step: &Step<'_>) -> Option<Lit>
     ensures unset { IfSome result (λ lit. IsUnset (trues trail.now.entries) lit) }
     ensures literal { IfSome result (λ lit. IsLiteral trail.now.vars lit) }
 {
-    let lit = lit_at(step, 1, trail.vars())?;
-    match trail.value(lit) {
-        None => Some(lit),
-        Some(_) => None,
+    match lit_at(step, 1, trail.vars()) {
+        Some(lit) if trail.value(lit).is_none() => Some(lit),
+        _ => None,
     }
 }
 
-fn decide(trail: &mut Trail, step: &Step<'_>) -> Option<()>
+fn decide(trail: &mut Trail, step: &Step<'_>) -> bool
     ensures { trail.new.vars ≡ trail.old.vars }
 {
-    let lit = unset(trail, step)?;
+    let Some(lit) = unset(trail, step) else {
+        return false;
+    };
     trail.decide(lit);
-    Some(())
+    true
 }
 
-fn assign(trail: &mut Trail, step: &Step<'_>) -> Option<()>
-    ensures { trail.new.vars ≡ trail.old.vars }
+// The id at the second place of a call.
+fn id_at_2(step: &Step<'_>) -> Option<u64>
+    ensures { IfSome result (λ id. 0 < id) }
 {
-    let lit = unset(trail, step)?;
-    let reason = step.amount(2)?;
-    if reason == 0 {
-        return None;
+    match step.amount(2) {
+        Some(id) if id > 0 => Some(id),
+        _ => None,
     }
-    trail.assign(lit, reason);
-    Some(())
 }
 
-fn set_unit(trail: &mut Trail, step: &Step<'_>) -> Option<()>
+fn assign(trail: &mut Trail, step: &Step<'_>) -> bool
     ensures { trail.new.vars ≡ trail.old.vars }
 {
-    let var = var_at(step, 1, trail.vars())?;
-    let id = step.amount(2)?;
-    let _value = trail.value(Lit::new(var as i32))?;
-    if id == 0 {
-        return None;
+    let (Some(lit), Some(reason)) = (unset(trail, step), id_at_2(step)) else {
+        return false;
+    };
+    trail.assign(lit, reason);
+    true
+}
+
+fn set_unit(trail: &mut Trail, step: &Step<'_>) -> bool
+    ensures { trail.new.vars ≡ trail.old.vars }
+{
+    let (Some(var), Some(id)) = (var_at(step, 1, trail.vars()), id_at_2(step)) else {
+        return false;
+    };
+    if trail.value(Lit::new(var as i32)).is_none() {
+        return false;
     }
     trail.set_unit(var, id);
-    Some(())
+    true
 }
 
 // Bumps the variables in their order, and after each lets later bumps count more.
@@ -173,11 +198,13 @@ fn bump_all(trail: &mut Trail, vars: &[i128]) {
 }
 
 fn bump(alloc: Global, trail: &mut Trail, step: &Step<'_>) -> Result<bool, AllocError> {
-    let Some(vars) = step.numbers(alloc, 1)? else {
-        return Ok(false);
-    };
-    bump_all(trail, &vars);
-    Ok(true)
+    match step.numbers(alloc, 1)? {
+        Some(vars) => {
+            bump_all(trail, &vars);
+            Ok(true)
+        }
+        None => Ok(false),
+    }
 }
 
 fn activity(trail: &Trail, var: u32) -> u64 {
@@ -197,26 +224,26 @@ fn rounds(
     let Some(count) = step.count(1) else {
         return Ok(false);
     };
-    let Some(vars) = step.numbers(alloc, 2)? else {
-        return Ok(false);
-    };
+    match step.numbers(alloc, 2)? {
+        Some(vars) => known(tell(out, go_rounds(trail, count, &vars))),
+        None => Ok(false),
+    }
+}
+
+fn go_rounds(trail: &mut Trail, count: u32, vars: &[i128]) -> &'static str {
     let mut fell = false;
     for round in 0..count {
         let before = activity(trail, round % 4 + 1);
-        bump_all(trail, &vars);
+        bump_all(trail, vars);
         if activity(trail, round % 4 + 1) < before {
             fell = true;
         }
     }
-    tell(
-        out,
-        if fell {
-            "activities were halved"
-        } else {
-            "activities rose"
-        },
-    )?;
-    Ok(true)
+    if fell {
+        "activities were halved"
+    } else {
+        "activities rose"
+    }
 }
 
 fn decide_all(trail: &mut Trail, out: &mut String) -> Result<bool, AllocError> {
@@ -228,39 +255,36 @@ fn decide_all(trail: &mut Trail, out: &mut String) -> Result<bool, AllocError> {
         trail.decide(lit);
         add_lit(out, "", Some(lit))?;
     }
-    out.push_str("\n")?;
-    Ok(true)
+    show("", out)
 }
 
 fn tell_pick(out: &mut String, lit: Option<Lit>) -> Result<bool, AllocError> {
-    tell_lit(out, "pick", lit)?;
-    Ok(true)
+    known(tell_lit(out, "pick", lit))
 }
 
 /// Tells what is kept of the whole trail, or of a literal.
 pub fn read(trail: &Trail, step: &Step<'_>, out: &mut String) -> Result<bool, AllocError> {
-    match step.word(0) {
-        "len" => tell_number(out, "len", u64::from(trail.len()))?,
-        "top" => tell_number(out, "top", u64::from(trail.top()))?,
-        "done" => tell_number(out, "done", u64::from(trail.done()))?,
-        "show" => show(trail, out)?,
-        "reasons" => reasons(trail, out)?,
-        "newest" => tell_lit(out, "newest", newest(trail))?,
+    known(match step.word(0) {
+        "len" => tell_number(out, "len", u64::from(trail.len())),
+        "top" => tell_number(out, "top", u64::from(trail.top())),
+        "done" => tell_number(out, "done", u64::from(trail.done())),
+        "show" => tell_trail(trail, out),
+        "reasons" => tell_reasons(trail, out),
+        "newest" => tell_lit(out, "newest", newest(trail)),
         _ => return read_lit(trail, step, out),
-    }
-    Ok(true)
+    })
 }
 
-fn show(trail: &Trail, out: &mut String) -> Result<(), AllocError> {
-    add(out, "level", u64::from(trail.top()))?;
-    out.push_str(" :")?;
+fn tell_trail(trail: &Trail, out: &mut String) -> Result<(), AllocError> {
+    let level = trail.top();
+    write!(out, "level {level} :")?;
     for place in 0..trail.len() {
         add_lit(out, "", Some(trail.at(place)))?;
     }
     out.push_str("\n")
 }
 
-fn reasons(trail: &Trail, out: &mut String) -> Result<(), AllocError> {
+fn tell_reasons(trail: &Trail, out: &mut String) -> Result<(), AllocError> {
     out.push_str("reasons")?;
     for place in 0..trail.len() {
         add_id(out, "", trail.entry(place).reason)?;
@@ -281,32 +305,43 @@ fn read_lit(trail: &Trail, step: &Step<'_>, out: &mut String) -> Result<bool, Al
     if step.word(0) != "value" {
         return Ok(false);
     }
-    let Some(lit) = lit_at(step, 1, trail.vars()) else {
-        return Ok(false);
-    };
-    match trail.value(lit) {
-        Some(true) => tell(out, "true")?,
-        Some(false) => tell(out, "false")?,
-        None => tell(out, "no value")?,
+    match lit_at(step, 1, trail.vars()) {
+        Some(lit) => known(tell(out, value_word(trail.value(lit)))),
+        None => Ok(false),
     }
-    Ok(true)
+}
+
+fn value_word(value: Option<bool>) -> &'static str {
+    match value {
+        Some(true) => "true",
+        Some(false) => "false",
+        None => "no value",
+    }
 }
 
 fn tell_var(trail: &Trail, step: &Step<'_>, out: &mut String) -> Result<bool, AllocError> {
     let Some(var) = var_at(step, 1, trail.vars()) else {
         return Ok(false);
     };
-    let Some(value) = trail.value(Lit::new(var as i32)) else {
-        tell(out, "no value")?;
-        return Ok(true);
-    };
-    out.push_str(if value { "true" } else { "false" })?;
-    add(out, " place", u64::from(trail.place(var)))?;
-    add(out, " level", u64::from(trail.level(var)))?;
-    add_id(out, " reason", trail.reason(var))?;
-    add_id(out, " unit", trail.unit(var))?;
-    out.push_str("\n")?;
-    Ok(true)
+    let value = trail.value(Lit::new(var as i32));
+    let word = value_word(value);
+    if value.is_none() {
+        return show(word, out);
+    }
+    let place = trail.place(var);
+    let level = trail.level(var);
+    write!(out, "{word} place {place} level {level}")?;
+    tell_causes(trail.reason(var), trail.unit(var), out)
+}
+
+// Ends a line with the clause that made a literal true, and its unit step.
+fn tell_causes(
+    reason: Option<u64>,
+    unit: Option<u64>,
+    out: &mut String,
+) -> Result<bool, AllocError> {
+    add_id(out, " reason", reason)?;
+    known(tell_id(out, " unit", unit))
 }
 
 fn tell_place(trail: &Trail, step: &Step<'_>, out: &mut String) -> Result<bool, AllocError> {
@@ -317,13 +352,11 @@ fn tell_place(trail: &Trail, step: &Step<'_>, out: &mut String) -> Result<bool, 
         return Ok(false);
     }
     let entry = trail.entry(place);
-    add_lit(out, "literal", Some(trail.at(place)))?;
-    add_lit(out, " entry", Some(entry.lit))?;
-    add(out, " level", u64::from(trail.level_at(place)))?;
-    add_id(out, " reason", entry.reason)?;
-    add_id(out, " unit", entry.unit)?;
-    out.push_str("\n")?;
-    Ok(true)
+    let lit = trail.at(place).number();
+    let entered = entry.lit.number();
+    let level = trail.level_at(place);
+    write!(out, "literal {lit} entry {entered} level {level}")?;
+    tell_causes(entry.reason, entry.unit, out)
 }
 
 fn open(
@@ -338,9 +371,8 @@ fn open(
     let Some(clause) = words_at(alloc, step, behind(step, ":"))? else {
         return Ok(false);
     };
-    match trail.true_words() {
-        Some(trues) => tell_lit(out, "open", clause.open(trues, other))?,
-        None => tell(out, "no words")?,
-    }
-    Ok(true)
+    known(match trail.true_words() {
+        Some(trues) => tell_lit(out, "open", clause.open(trues, other)),
+        None => tell(out, "no words"),
+    })
 }

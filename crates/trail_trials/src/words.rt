@@ -14,7 +14,7 @@ use lit_words::LitWords;
 use sat_base::Lit;
 use std::alloc::{AllocError, Global};
 use trial_lits::{lit_at, lits_at, tell_lit};
-use trial_script::{Player, Step};
+use trial_script::{Player, Step, known};
 
 /// A clause, and the literals that are true.
 #[derive(Drop)]
@@ -43,6 +43,13 @@ impl WordsPlayer {
         }
         true
     }
+
+    fn open(&self, step: &Step<'_>, out: &mut String) -> Result<bool, AllocError> {
+        match lit_at(step, 1, 64) {
+            Some(lit) => known(tell_lit(out, "open", self.clause.open(self.trues, lit))),
+            None => Ok(false),
+        }
+    }
 }
 
 /// The literals of a call as a set.
@@ -54,6 +61,20 @@ pub fn words_at(
     match lits_at(alloc, step, from, 64)? {
         Some(lits) => Ok(Some(LitWords::of(&lits))),
         None => Ok(None),
+    }
+}
+
+// Puts a set in the place of one, where it could be read.
+fn hold(
+    held: &mut LitWords,
+    words: Result<Option<LitWords>, AllocError>,
+) -> Result<bool, AllocError> {
+    match words? {
+        Some(words) => {
+            *held = words;
+            Ok(true)
+        }
+        None => Ok(false),
     }
 }
 
@@ -69,25 +90,14 @@ impl Player for WordsPlayer {
         step: &Step<'_>,
         out: &mut String,
     ) -> Result<bool, AllocError> {
-        let verb = step.word(0);
-        if verb == "clause" || verb == "trues" {
-            let Some(words) = words_at(alloc, step, 1)? else {
-                return Ok(false);
-            };
-            if verb == "clause" {
-                self.clause = words;
-            } else {
-                self.trues = words;
-            }
-            return Ok(true);
+        match step.word(0) {
+            "clause" => hold(&mut self.clause, words_at(alloc, step, 1)),
+            "trues" => hold(&mut self.trues, words_at(alloc, step, 1)),
+            "open" => self.open(step, out),
+            verb => match lit_at(step, 1, 64) {
+                Some(lit) => Ok(self.change(verb, lit)),
+                None => Ok(false),
+            },
         }
-        let Some(lit) = lit_at(step, 1, 64) else {
-            return Ok(false);
-        };
-        if verb == "open" {
-            tell_lit(out, "open", self.clause.open(self.trues, lit))?;
-            return Ok(true);
-        }
-        Ok(self.change(verb, lit))
     }
 }
