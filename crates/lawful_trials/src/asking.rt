@@ -18,7 +18,7 @@ ghost use Rattle.gm_base.specs.Sets.{IsSubset, all_groups};
 ghost use Rattle.gm_base.specs.Evidence.{is_witness};
 ghost use Rattle.evidence_rec.specs.Asking.{OracleState, refuted_by};
 
-use crate::moves::{Mover, Played, make_moves};
+use crate::moves::{Mover, Played, make_moves, played};
 use crate::telling::{add_numbers, say_count, say_log, say_proof};
 use crate::words::{lines_of, number_at, numbers_in, parts_in, set_in};
 use evidence_rec::{Asked, Oracle, Record};
@@ -26,6 +26,7 @@ use gm_base::{Assign, Derivation, GroupSet, Kind, Problem, Purse};
 use group_oracle::GroupOracle;
 use known_sets::KnownSets;
 use lawful_fakes::{Lacking, TableOracle};
+use lrat_steps::Log;
 use mss_grow::{Grown, grow};
 use mus_shrink::{Shrunk, shrink};
 use std::alloc::{AllocError, Global};
@@ -90,8 +91,13 @@ pub fn talk<O: Counted>(
         proof: _,
     } = asker;
     let log = oracle.into_log();
+    end(made, &log, step, out)
+}
+
+/// Tells of the log that is left, once the moves were made.
+pub fn end(made: Result<(), AllocError>, log: &Log, step: &Step<'_>, out: &mut String) -> Played {
     made?;
-    Ok(say_log(&log, lines_of(step), out)?)
+    played(say_log(log, lines_of(step), out))
 }
 
 impl<O: Counted> Mover for Asker<'_, O> {
@@ -101,12 +107,9 @@ impl<O: Counted> Mover for Asker<'_, O> {
             "ask-without" => self.ask_without(alloc, step, out),
             "shrink" | "grow" => self.explore(alloc, step, out),
             "proof" => self.tell_proof(alloc, out),
-            "purse" => {
-                self.purse.left = u64::from(number_at(alloc, step, 0, 0)?);
-                Ok(())
-            }
-            "asked" => Ok(say_count(out, "asked", self.oracle.asked())?),
-            "left" => Ok(say_count(out, "left", self.purse.left)?),
+            "purse" => self.fill(alloc, step),
+            "asked" => played(say_count(out, "asked", self.oracle.asked())),
+            "left" => played(say_count(out, "left", self.purse.left)),
             _ => Err(Lacking::Evidence),
         }
     }
@@ -117,6 +120,11 @@ impl<O: Counted> Asker<'_, O> {
         let set = set_in(alloc, step, 0, self.problem.groups())?;
         let answer = self.oracle.ask(alloc, &set, 0, &mut self.purse);
         self.tell(alloc, &set, &answer, step, out)
+    }
+
+    fn fill(&mut self, alloc: Global, step: &Step<'_>) -> Played {
+        self.purse.left = u64::from(number_at(alloc, step, 0, 0)?);
+        Ok(())
     }
 
     fn ask_without(&mut self, alloc: Global, step: &Step<'_>, out: &mut String) -> Played {
@@ -140,16 +148,41 @@ impl<O: Counted> Asker<'_, O> {
     ) -> Played
         requires { IfOk answer.now (λ asked. (O.state self.old.oracle).refuted ≡ refuted_by asked) }
     {
-        match answer {
-            Ok(Asked::Sat(assign)) => out.push_str(self.sat_word(set, assign))?,
-            Ok(Asked::Unsat(core)) => {
-                out.push_str(self.unsat_word(alloc, set, core)?)?;
-                tell_core(alloc, step, core, out)?;
-            }
-            Ok(Asked::Dry) => out.push_str("dry")?,
-            Err(AllocError) => out.push_str("no memory")?,
-        }
+        self.tell_answer(alloc, set, answer, step, out)?;
         self.tell_asked(out)
+    }
+
+    fn tell_answer(
+        &mut self,
+        alloc: Global,
+        set: &GroupSet,
+        answer: &Result<Asked, AllocError>,
+        step: &Step<'_>,
+        out: &mut String,
+    ) -> Played
+        requires { IfOk answer.now (λ asked. (O.state self.old.oracle).refuted ≡ refuted_by asked) }
+    {
+        match answer {
+            Ok(Asked::Sat(assign)) => played(out.push_str(self.sat_word(set, assign))),
+            Ok(Asked::Unsat(core)) => self.tell_unsat(alloc, set, core, step, out),
+            Ok(Asked::Dry) => played(out.push_str("dry")),
+            Err(AllocError) => played(out.push_str("no memory")),
+        }
+    }
+
+    fn tell_unsat(
+        &mut self,
+        alloc: Global,
+        set: &GroupSet,
+        core: &GroupSet,
+        step: &Step<'_>,
+        out: &mut String,
+    ) -> Played
+        requires { (O.state self.old.oracle).refuted ≡ Some core.now }
+    {
+        let word = self.unsat_word(alloc, set, core)?;
+        out.push_str(word)?;
+        tell_core(alloc, step, core, out)
     }
 
     /// Whether the assignment satisfies the set.
@@ -179,12 +212,12 @@ impl<O: Counted> Asker<'_, O> {
 
     /// Ends a line with the count of questions.
     fn tell_asked(&self, out: &mut String) -> Played {
-        Ok(say_count(out, ", asked", self.oracle.asked())?)
+        played(say_count(out, ", asked", self.oracle.asked()))
     }
 
     fn tell_proof(&self, alloc: Global, out: &mut String) -> Played {
         match &self.proof {
-            Some(proof) => Ok(say_proof(alloc, out, proof, self.problem.len())?),
+            Some(proof) => played(say_proof(alloc, out, proof, self.problem.len())),
             None => Err(Lacking::Evidence),
         }
     }
@@ -192,86 +225,86 @@ impl<O: Counted> Asker<'_, O> {
     /// Asks about a set, and shrinks or grows it.
     fn explore(&mut self, alloc: Global, step: &Step<'_>, out: &mut String) -> Played {
         let set = set_in(alloc, step, 0, self.problem.groups())?;
-        let found = self.found(alloc, &set);
-        self.tell_explored(&found, out)
-    }
-
-    fn tell_explored(
-        &self,
-        found: &Result<Option<Record>, AllocError>,
-        out: &mut String,
-    ) -> Played {
-        tell_found(found, out)?;
+        self.find(alloc, &set, out)?;
         self.tell_asked(out)
     }
 
-    /// What a set is shrunk or grown to, if the purse doesn't become empty.
-    fn found(&mut self, alloc: Global, set: &GroupSet) -> Result<Option<Record>, AllocError>
+    /// Tells what a set is shrunk or grown to, or why it isn't.
+    fn find(&mut self, alloc: Global, set: &GroupSet, out: &mut String) -> Result<(), AllocError>
         requires { IsSubset set.now (all_groups self.old.problem.now.groups) }
     {
-        match self.oracle.ask(alloc, set, 0, &mut self.purse)? {
-            Asked::Unsat(core) => self.shrunk(alloc, &core),
-            Asked::Sat(assign) => self.grown(alloc, set, &assign),
-            Asked::Dry => Ok(None),
+        match self.oracle.ask(alloc, set, 0, &mut self.purse) {
+            Ok(Asked::Unsat(core)) => self.shrink(alloc, &core, out),
+            Ok(Asked::Sat(assign)) => self.grow(alloc, set, &assign, out),
+            Ok(Asked::Dry) => out.push_str("dry"),
+            Err(AllocError) => out.push_str("no memory"),
         }
     }
 
-    /// The conflict that the last core is shrunk to.
-    fn shrunk(&mut self, alloc: Global, core: &GroupSet) -> Result<Option<Record>, AllocError>
+    /// Tells the conflict that the last core is shrunk to.
+    fn shrink(&mut self, alloc: Global, core: &GroupSet, out: &mut String) -> Result<(), AllocError>
         requires refuted { (O.state self.old.oracle).refuted ≡ Some core.now }
         requires within { IsSubset core.now (all_groups self.old.problem.now.groups) }
     {
         let oracle = &mut self.oracle;
-        match shrink(alloc, oracle, self.problem, core, 0, &mut self.purse)? {
-            Shrunk::Done(record) => Ok(Some(record)),
-            Shrunk::Dry(_) => Ok(None),
+        match shrink(alloc, oracle, self.problem, core, 0, &mut self.purse) {
+            Ok(Shrunk::Done(record)) => tell_record(&record, out),
+            Ok(Shrunk::Dry(_)) => out.push_str("dry"),
+            Err(AllocError) => out.push_str("no memory"),
         }
     }
 
-    /// The correction of what the set is grown to from an assignment.
-    fn grown(
+    /// Tells the correction of what the set is grown to from an assignment.
+    fn grow(
         &mut self,
         alloc: Global,
         set: &GroupSet,
         assign: &Assign,
-    ) -> Result<Option<Record>, AllocError>
+        out: &mut String,
+    ) -> Result<(), AllocError>
         requires within { IsSubset set.now (all_groups self.old.problem.now.groups) }
         requires satisfied { is_witness self.old.problem.now set.now assign.now ≡ true }
     {
         let oracle = &mut self.oracle;
-        match grow(alloc, oracle, self.problem, set, assign, 0, &mut self.purse)? {
-            Grown::Done(record) => Ok(Some(record)),
-            Grown::Dry(_) => Ok(None),
+        match grow(alloc, oracle, self.problem, set, assign, 0, &mut self.purse) {
+            Ok(Grown::Done(record)) => tell_record(&record, out),
+            Ok(Grown::Dry(_)) => out.push_str("dry"),
+            Err(AllocError) => out.push_str("no memory"),
         }
     }
 }
 
-/// Adds the set of a record, or why there is none.
-fn tell_found(found: &Result<Option<Record>, AllocError>, out: &mut String) -> Played {
-    match found {
-        Ok(Some(record)) => {
-            out.push_str(match record.kind() {
-                Kind::Conflict => "conflict",
-                Kind::Correction => "correction",
-            })?;
-            Ok(add_numbers(out, record.set().as_slice())?)
-        }
-        Ok(None) => Ok(out.push_str("dry")?),
-        Err(AllocError) => Ok(out.push_str("no memory")?),
-    }
+/// Adds the kind and the set of a record.
+fn tell_record(record: &Record, out: &mut String) -> Result<(), AllocError> {
+    let kind = match record.kind() {
+        Kind::Conflict => "conflict",
+        Kind::Correction => "correction",
+    };
+    out.push_str(kind)?;
+    add_numbers(out, record.set().as_slice())
 }
 
 /// Adds a core to a line: its groups, or whether it holds one of the sets that the question names.
 fn tell_core(alloc: Global, step: &Step<'_>, core: &GroupSet, out: &mut String) -> Played {
     if parts_in(step) < 2 || step.word(0) != "ask" {
-        return Ok(add_numbers(out, core.as_slice())?);
+        return played(add_numbers(out, core.as_slice()));
     }
+    let word = if holds_one(alloc, step, core)? {
+        ", one held"
+    } else {
+        ", none held"
+    };
+    played(out.push_str(word))
+}
+
+/// Whether a core holds one of the sets behind the first part.
+fn holds_one(alloc: Global, step: &Step<'_>, core: &GroupSet) -> Result<bool, Lacking> {
     for part in 1..parts_in(step) {
         if holds_part(alloc, step, part, core)? {
-            return Ok(out.push_str(", one held")?);
+            return Ok(true);
         }
     }
-    Ok(out.push_str(", none held")?)
+    Ok(false)
 }
 
 /// Whether a core holds the set in a part.

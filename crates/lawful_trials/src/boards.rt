@@ -7,7 +7,7 @@ ghost use Rattle.board.specs.Boards.{HaveAllEnded};
 ghost use Rattle.lawful_trials.specs.Seats.{IsSeated};
 
 use crate::cores::{say_closing, say_posted, say_taken};
-use crate::moves::{Mover, Played, make_moves};
+use crate::moves::{Mover, Played, make_moves, played};
 use crate::scripted::{record_in, scripted_map};
 use crate::telling::say;
 use crate::words::{lines_of, number_at};
@@ -53,7 +53,7 @@ pub fn play_board<R: Wait>(
     let budget = u64::from(number_at(alloc, step, 0, 0)?);
     let limit = u64::from(number_at(alloc, step, 0, 1)?);
     let (board, seats) = board_of(alloc, problem, budget, limit, lines_of(step))?;
-    Ok(sit(rt, alloc, board, seats, problem, step, out)?)
+    played(sit(rt, alloc, board, seats, problem, step, out))
 }
 
 /// A board over the map that the lines describe.
@@ -154,12 +154,12 @@ fn call<R: Wait>(
         return Err(Lacking::Evidence);
     }
     match step.word(0) {
-        "take" => Ok(take(rt, board, place, out)?),
+        "take" => played(take(rt, board, place, out)),
         "post" => post(rt, alloc, board, problem, place, step, out),
         "retire" => {
             board.retire(rt, &mut place.seat, 0);
             place.may_call = false;
-            Ok(say(out, "retired")?)
+            played(say(out, "retired"))
         }
         _ => Err(Lacking::Evidence),
     }
@@ -211,7 +211,7 @@ fn post<R: Wait>(
         Posted::Limit => false,
         Posted::Memory => false,
     };
-    Ok(say_posted(out, posted)?)
+    played(say_posted(out, posted))
 }
 
 /// The seat, whose worker retires if it may still call.

@@ -15,9 +15,9 @@
 ghost use Rattle.std.specs.Prelude.{◌≡◌, ◌<◌, ◌≤◌, IfOk};
 ghost use Rattle.map_core.specs.Own.{CanCall, calls_of};
 
-use crate::moves::{Mover, Played, make_moves};
+use crate::moves::{Mover, Played, make_moves, played};
 use crate::scripted::{record_in, scripted_map};
-use crate::telling::{add_numbers, say, say_count};
+use crate::telling::{say, say_count, say_numbers};
 use crate::words::{lines_of, number_at};
 use evidence_rec::Records;
 use gm_base::{GroupSet, Problem};
@@ -47,7 +47,7 @@ pub fn play_core(alloc: Global, problem: &Problem, step: &Step<'_>, out: &mut St
     let Desk { core, problem: _ } = desk;
     let closed = close(core, out);
     made?;
-    Ok(closed?)
+    played(closed)
 }
 
 /// A core over the map that the lines describe.
@@ -78,15 +78,15 @@ impl Mover for Desk<'_> {
             return Err(Lacking::Evidence);
         }
         match step.word(0) {
-            "take" => Ok(say_taken(out, &core.take(worker, 0))?),
+            "take" => played(say_taken(out, &core.take(worker, 0))),
             "post" => post(alloc, core, self.problem, worker, step, out),
             "refill" => {
                 let refilled = core.refill(worker, 0, GroupSet::new(alloc));
-                Ok(say_refilled(out, refilled)?)
+                played(say_refilled(out, refilled))
             }
             "retire" => {
                 core.retire(worker, 0);
-                Ok(say(out, "retired")?)
+                played(say(out, "retired"))
             }
             _ => Err(Lacking::Evidence),
         }
@@ -108,7 +108,7 @@ fn post(
 {
     let finding = record_in(alloc, problem, step)?;
     let posted = core.post(worker, 0, finding);
-    Ok(say_posted(out, posted)?)
+    played(say_posted(out, posted))
 }
 
 /// Adds a line on what a take was answered.
@@ -116,8 +116,7 @@ pub fn say_taken(out: &mut String, taken: &Taken) -> Result<(), AllocError> {
     match taken {
         Taken::Job { turn, seed, grant } => {
             write!(out, "job {turn}, granted {grant}:")?;
-            add_numbers(out, seed.as_slice())?;
-            say(out, "")
+            say_numbers(out, "", seed.as_slice())
         }
         Taken::Exhausted => say(out, "exhausted"),
         Taken::Limit => say(out, "limit"),
@@ -129,12 +128,15 @@ pub fn say_taken(out: &mut String, taken: &Taken) -> Result<(), AllocError> {
 
 /// Adds a line on what a post was answered.
 pub fn say_posted(out: &mut String, posted: Posted) -> Result<(), AllocError> {
-    match posted {
-        Posted::New => say(out, "new"),
-        Posted::Already => say(out, "already"),
-        Posted::Limit => say(out, "limit"),
-        Posted::Memory => say(out, "memory"),
-    }
+    say(
+        out,
+        match posted {
+            Posted::New => "new",
+            Posted::Already => "already",
+            Posted::Limit => "limit",
+            Posted::Memory => "memory",
+        },
+    )
 }
 
 fn say_refilled(out: &mut String, refilled: Refilled) -> Result<(), AllocError> {
@@ -147,11 +149,15 @@ fn say_refilled(out: &mut String, refilled: Refilled) -> Result<(), AllocError> 
 }
 
 fn close(core: MapCore<ScriptedMap>, out: &mut String) -> Result<(), AllocError> {
-    if !core.have_ended() {
-        return say(out, "not ended");
+    if core.have_ended() {
+        say_left(out, core.closing())
+    } else {
+        say(out, "not ended")
     }
-    let (closing, log) = core.closing();
-    say_closing(out, &closing, &log)
+}
+
+fn say_left(out: &mut String, left: (Closing, Log)) -> Result<(), AllocError> {
+    say_closing(out, &left.0, &left.1)
 }
 
 /// Adds a line on what is left.

@@ -6,7 +6,9 @@
 //! | `try 3 : 010` | begins with these values and tries to make a group true: the groups that are false then; whether the assignment is shown without these, and with all |
 //! | `turn 1 : 000 : 1` | flips a variable of these values, which leave out the groups behind the last `:` and no others: the groups that are left out then, or `none` |
 //! | `repair 1 2 3 : 000 : 1` | flips variables of these values until the groups in front are true: the same |
-use crate::moves::{Mover, Played, make_moves};
+ghost use Rattle.std.specs.Prelude.{◌<◌, ◌≤◌};
+
+use crate::moves::{Mover, Played, make_moves, played};
 use crate::telling::{add_numbers, say, say_numbers};
 use crate::words::{number_at, numbers_in, set_in, values_in};
 use gm_base::{GroupSet, Problem};
@@ -34,7 +36,7 @@ pub fn play_flips(alloc: Global, problem: &Problem, step: &Step<'_>, out: &mut S
         rotation,
         problem,
     };
-    Ok(make_moves(alloc, &mut flipper, step, out)?)
+    played(make_moves(alloc, &mut flipper, step, out))
 }
 
 impl Mover for Flipper<'_> {
@@ -55,19 +57,39 @@ impl Flipper<'_> {
         self.flips.begin(&values);
         self.flips.try_group(group);
         let left_out = self.flips.left_out(alloc)?;
+        played(self.tell_tried(alloc, &left_out, out))
+    }
+
+    fn tell_tried(
+        &mut self,
+        alloc: Global,
+        left_out: &GroupSet,
+        out: &mut String,
+    ) -> Result<(), AllocError> {
         out.push_str("left out")?;
         add_numbers(out, left_out.as_slice())?;
-        let without = self.flips.shown(alloc, &left_out)?.is_some();
-        let with = self.flips.shown(alloc, &GroupSet::new(alloc))?.is_some();
-        Ok(writeln!(out, ", shown {without}, with all {with}")?)
+        let without = self.is_shown(alloc, left_out)?;
+        let with = self.is_shown(alloc, &GroupSet::new(alloc))?;
+        writeln!(out, ", shown {without}, with all {with}")
+    }
+
+    fn is_shown(&mut self, alloc: Global, left_out: &GroupSet) -> Result<bool, AllocError> {
+        Ok(self.flips.shown(alloc, left_out)?.is_some())
     }
 
     fn turn(&self, alloc: Global, step: &Step<'_>) -> Result<Option<Turned>, Lacking> {
-        let problem = self.problem;
         let var = number_at(alloc, step, 0, 0)?;
-        if var == 0 || var > problem.vars() {
+        if var == 0 || var > self.problem.vars() {
             return Err(Lacking::Evidence);
         }
+        self.turn_var(alloc, step, var)
+    }
+
+    fn turn_var(&self, alloc: Global, step: &Step<'_>, var: u32) -> Result<Option<Turned>, Lacking>
+        requires from_one { 0 < var }
+        requires within { var ≤ self.now.problem.now.vars }
+    {
+        let problem = self.problem;
         let values = values_in(alloc, step, 1, problem.vars())?;
         let left_out = set_in(alloc, step, 2, problem.groups())?;
         let rotation = &self.rotation;
@@ -95,9 +117,9 @@ impl Flipper<'_> {
 }
 
 fn tell_turned(turned: &Option<Turned>, out: &mut String) -> Played {
-    Ok(match turned {
-        Some(turned) => say_numbers(out, "left out", turned.out.as_slice())?,
-        None => say(out, "none")?,
+    played(match turned {
+        Some(turned) => say_numbers(out, "left out", turned.out.as_slice()),
+        None => say(out, "none"),
     })
 }
 

@@ -12,12 +12,13 @@
 //! | `inputs`, `learnt`, `steps` | at the end: what its log has |
 //!
 //! Before `set` is printed each block is tried on the seed: `wrong` is one that a block takes out.
-ghost use Rattle.std.specs.Prelude.{◌≡◌, ◌<◌, ◌^◌};
+ghost use Rattle.std.specs.Prelude.{◌≡◌, ◌<◌, ◌^◌, true};
 ghost use Rattle.evidence_rec.specs.Seeding.{EngineState};
 
-use crate::moves::{Mover, Played, make_moves};
-use crate::telling::{say, say_count, say_log, say_numbers, say_proof};
-use crate::words::{has_word, lines_of, number_at, set_in};
+use crate::asking::end;
+use crate::moves::{Mover, Played, make_moves, played};
+use crate::telling::{say, say_count, say_numbers, say_proof};
+use crate::words::{has_word, number_at, set_in};
 use evidence_rec::{MapEngine, Seed};
 use gm_base::{Derivation, GroupSet, Purse, Side};
 use lawful_fakes::Lacking;
@@ -77,8 +78,7 @@ fn explore<M: MapEngine>(
         proof: _,
     } = search;
     let log = map.into_log();
-    made?;
-    Ok(say_log(&log, lines_of(step), out)?)
+    end(made, &log, step, out)
 }
 
 impl<M: MapEngine> Mover for Search<M> {
@@ -86,12 +86,9 @@ impl<M: MapEngine> Mover for Search<M> {
         match step.word(0) {
             "seed" => self.find(alloc, has_word(step, "size"), out),
             "block" => self.block(alloc, step),
-            "left-out" => Ok(say_numbers(out, "left out", self.left_out.as_slice())?),
-            "proof" => match &self.proof {
-                Some(proof) => Ok(say_proof(alloc, out, proof, self.blocks.len())?),
-                None => Err(Lacking::Evidence),
-            },
-            "left" => Ok(say_count(out, "left", self.purse.left)?),
+            "left-out" => played(say_numbers(out, "left out", self.left_out.as_slice())),
+            "proof" => self.tell_proof(alloc, out),
+            "left" => played(say_count(out, "left", self.purse.left)),
             _ => Err(Lacking::Evidence),
         }
     }
@@ -102,11 +99,23 @@ impl<M: MapEngine> Search<M> {
     fn find(&mut self, alloc: Global, has_size: bool, out: &mut String) -> Played {
         match self.map.seed(alloc, 0, &mut self.purse)? {
             Seed::Set(set) => self.add_seed(alloc, &set, has_size, out),
-            Seed::Empty => {
-                self.proof = Some(self.map.empty_proof(alloc)?);
-                Ok(say(out, "none left")?)
-            }
-            Seed::Dry => Ok(say(out, "dry")?),
+            Seed::Empty => self.add_proof(alloc, out),
+            Seed::Dry => played(say(out, "dry")),
+        }
+    }
+
+    /// Keeps the derivation that no set is left.
+    fn add_proof(&mut self, alloc: Global, out: &mut String) -> Played
+        requires { (M.state self.old.map).exhausted ≡ true }
+    {
+        self.proof = Some(self.map.empty_proof(alloc)?);
+        played(say(out, "none left"))
+    }
+
+    fn tell_proof(&self, alloc: Global, out: &mut String) -> Played {
+        match &self.proof {
+            Some(proof) => played(say_proof(alloc, out, proof, self.blocks.len())),
+            None => Err(Lacking::Evidence),
         }
     }
 
@@ -118,7 +127,7 @@ impl<M: MapEngine> Search<M> {
         out: &mut String,
     ) -> Played {
         self.tell_seed(seed, has_size, out)?;
-        Ok(self.add_left_out(alloc, seed)?)
+        played(self.add_left_out(alloc, seed))
     }
 
     fn tell_seed(
@@ -148,15 +157,17 @@ impl<M: MapEngine> Search<M> {
     }
 
     fn block(&mut self, alloc: Global, step: &Step<'_>) -> Played {
-        let side = match step.word(1) {
-            "up" => Side::Up,
-            "down" => Side::Down,
-            _ => return Err(Lacking::Evidence),
-        };
+        match step.word(1) {
+            "up" => self.block_on(alloc, step, Side::Up),
+            "down" => self.block_on(alloc, step, Side::Down),
+            _ => Err(Lacking::Evidence),
+        }
+    }
+
+    fn block_on(&mut self, alloc: Global, step: &Step<'_>, side: Side) -> Played {
         let set = set_in(alloc, step, 0, self.groups)?;
         self.map.block(alloc, &set, side)?;
-        self.blocks.push((side, set)).map_err(AllocError::from)?;
-        Ok(())
+        played(self.blocks.push((side, set)).map_err(AllocError::from))
     }
 }
 

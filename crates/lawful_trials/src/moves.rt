@@ -8,6 +8,14 @@ use trial_script::Step;
 /// How a call or a move ends: it lacks evidence where it isn't known, or its numbers don't fit.
 pub type Played = Result<(), Lacking>;
 
+/// How a call or a move ends whose answer was added.
+pub fn played(added: Result<(), AllocError>) -> Played {
+    match added {
+        Ok(()) => Ok(()),
+        Err(AllocError) => Err(Lacking::Memory),
+    }
+}
+
 /// What moves are made with.
 pub trait Mover {
     /// Makes a move, and adds what it answers to `out`.
@@ -22,12 +30,24 @@ pub fn make_moves<M: Mover>(
     out: &mut String,
 ) -> Result<(), AllocError> {
     for line in lines_of(step).split('\n') {
-        let step = Step::new(alloc, line)?;
-        if !is_no_move(step.word(0)) {
-            make_one(alloc, mover, &step, out)?;
-        }
+        make_line(alloc, mover, line, out)?;
     }
     Ok(())
+}
+
+/// Makes the move of a line, if it is one.
+fn make_line<M: Mover>(
+    alloc: Global,
+    mover: &mut M,
+    line: &str,
+    out: &mut String,
+) -> Result<(), AllocError> {
+    let step = Step::new(alloc, line)?;
+    if is_no_move(step.word(0)) {
+        Ok(())
+    } else {
+        make_one(alloc, mover, &step, out)
+    }
 }
 
 fn make_one<M: Mover>(

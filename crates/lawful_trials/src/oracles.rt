@@ -130,6 +130,11 @@ fn tell<O: Counted>(
     requires accepted { IfOk found (IsAccepted problem.now) }
     ensures { known.new.problem ≡ problem.now }
 {
-    known.know(alloc, &found?);
-    Ok(())
+    match found {
+        Ok(record) => {
+            known.know(alloc, &record);
+            Ok(())
+        }
+        Err(lacking) => Err(lacking),
+    }
 }

@@ -68,15 +68,16 @@ impl Player for Trials {
 
 /// Holds the problem of a call.
 fn hold(alloc: Global, step: &Step<'_>, held: &mut Option<Problem>) -> Played {
+    *held = Some(problem_of(alloc, step)?);
+    Ok(())
+}
+
+fn problem_of(alloc: Global, step: &Step<'_>) -> Result<Problem, Lacking> {
     if step.word(0) == "four-clauses" {
-        *held = Some(four_clauses(alloc)?);
-        return Ok(());
+        return Ok(four_clauses(alloc)?);
     }
     match read_gcnf(alloc, step.text()) {
-        Read::Problem(problem) => {
-            *held = Some(problem);
-            Ok(())
-        }
+        Read::Problem(problem) => Ok(problem),
         Read::Refused(_) => Err(Lacking::Evidence),
         Read::Memory => Err(Lacking::Memory),
     }

@@ -37,13 +37,16 @@ pub fn scripted_map(alloc: Global, problem: &Problem, lines: &str) -> Result<Scr
 
 /// The first line that begins with this word, or an empty one.
 fn line_with<'a>(alloc: Global, lines: &'a str, word: &str) -> Result<Step<'a>, AllocError> {
+    Step::new(alloc, first_with(lines, word))
+}
+
+fn first_with<'a>(lines: &'a str, word: &str) -> &'a str {
     for line in lines.split('\n') {
-        let step = Step::new(alloc, line)?;
-        if step.word(0) == word {
-            return Ok(step);
+        if line.split(' ').next().unwrap_or("") == word {
+            return line;
         }
     }
-    Step::new(alloc, "")
+    ""
 }
 
 fn seeds_of(alloc: Global, problem: &Problem, lines: &str) -> Result<Row<GroupSet>, Lacking> {

@@ -35,14 +35,18 @@ pub fn say_unknown(out: &mut String, step: &Step<'_>) -> Result<(), AllocError> 
 /// `steps`.
 pub fn say_log(log: &Log, lines: &str, out: &mut String) -> Result<(), AllocError> {
     for line in lines.split('\n') {
-        match line {
-            "inputs" => say_count(out, line, log.inputs())?,
-            "learnt" => say_count(out, line, log.learned())?,
-            "steps" => say_count(out, line, log.len())?,
-            _ => {}
-        }
+        say_of_log(log, line, out)?;
     }
     Ok(())
+}
+
+fn say_of_log(log: &Log, line: &str, out: &mut String) -> Result<(), AllocError> {
+    match line {
+        "inputs" => say_count(out, line, log.inputs()),
+        "learnt" => say_count(out, line, log.learned()),
+        "steps" => say_count(out, line, log.len()),
+        _ => Ok(()),
+    }
 }
 
 /// Adds a line of a word and a number.

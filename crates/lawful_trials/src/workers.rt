@@ -12,7 +12,7 @@ ghost use Rattle.evidence_rec.specs.Seeding.{new_engine};
 ghost use Rattle.worker_pool.specs.Workers.{IsFresh};
 
 use crate::cores::verdict_word;
-use crate::moves::Played;
+use crate::moves::{Played, played};
 use crate::oracles::ALL;
 use crate::scripted::scripted_map;
 use crate::telling::{add_numbers, say};
@@ -43,7 +43,7 @@ pub fn play_workers<R: Threads + Wait + Sync>(
     out: &mut String,
 ) -> Played {
     let outcome = enumerated(rt, alloc, problem, step)?;
-    Ok(tell_outcome(alloc, &outcome, lines_of(step), out)?)
+    played(tell_outcome(alloc, &outcome, lines_of(step), out))
 }
 
 fn tell_outcome(
@@ -56,14 +56,24 @@ fn tell_outcome(
     let logs = outcome.logs.len();
     let spent = outcome.spent;
     writeln!(out, "{verdict}, logs {logs}, spent {spent}")?;
-    let Some(closing) = &outcome.closing else {
-        return say(out, "nothing is closed");
-    };
+    match &outcome.closing {
+        Some(closing) => tell_closing(alloc, closing, lines, out),
+        None => say(out, "nothing is closed"),
+    }
+}
+
+fn tell_closing(
+    alloc: Global,
+    closing: &Closing,
+    lines: &str,
+    out: &mut String,
+) -> Result<(), AllocError> {
     say_records(alloc, out, &closing.records)?;
     if lines.split('\n').any(|line| line == "history") {
-        say_history(out, closing)?;
+        say_history(out, closing)
+    } else {
+        Ok(())
     }
-    Ok(())
 }
 
 pub fn play_either<R: Threads + Wait + Sync>(
@@ -77,7 +87,7 @@ pub fn play_either<R: Threads + Wait + Sync>(
     // A log for each number in front, and the map's: as many as there are words in front.
     let logs = part_of(step.words(), 0).len();
     let ends = ends_as_it_may(alloc, &outcome, logs)?;
-    Ok(say(out, if ends { "as it may" } else { "wrong" })?)
+    played(say(out, if ends { "as it may" } else { "wrong" }))
 }
 
 /// Has workers enumerate, with a map and oracles that are shy from some call on.
@@ -230,11 +240,15 @@ fn ends_as_it_may(alloc: Global, outcome: &Outcome, logs: usize) -> Result<bool,
     if outcome.logs.len() != logs || outcome.spent != 0 {
         return Ok(false);
     }
+    match outcome.verdict {
+        Verdict::Complete => are_all_five(alloc, &closing.records),
+        Verdict::Memory => Ok(closing.records.len() <= 5),
+        Verdict::Limit | Verdict::Budget => Ok(false),
+    }
+}
+
+fn are_all_five(alloc: Global, records: &Records) -> Result<bool, AllocError> {
     let mut found = String::new(alloc);
-    say_records(alloc, &mut found, &closing.records)?;
-    Ok(match outcome.verdict {
-        Verdict::Complete => found.as_str() == FIVE,
-        Verdict::Memory => closing.records.len() <= 5,
-        Verdict::Limit | Verdict::Budget => false,
-    })
+    say_records(alloc, &mut found, records)?;
+    Ok(found.as_str() == FIVE)
 }
