@@ -19,7 +19,7 @@ use learn_step::{Learnt, Origin, core_of, learn};
 use std::alloc::{AllocError, Global};
 use trail_book::Trail;
 use trial_lits::{add_ids, add_lits, lit_at, tell_number, vars_at};
-use trial_script::{Player, Step, known};
+use trial_script::{Player, Step, hold, known};
 
 /// Clauses and values, as somebody wrote them.
 #[derive(Drop)]
@@ -48,16 +48,9 @@ pub struct LearningPlayer {
 impl LearningPlayer {
     fn make(&mut self, alloc: Global, step: &Step<'_>) -> Result<bool, AllocError> {
         match vars_at(step, 1) {
-            Some(vars) => known(self.renew(alloc, vars)),
+            Some(vars) => hold(&mut self.scene, Scene::new(alloc, vars)),
             None => Ok(false),
         }
-    }
-
-    fn renew(&mut self, alloc: Global, vars: u32) -> Result<(), AllocError>
-        requires { vars < 2 ^ 31 }
-    {
-        self.scene = Some(Scene::new(alloc, vars)?);
-        Ok(())
     }
 }
 

@@ -11,13 +11,11 @@
 //!
 //! What is kept of the trail is told as in its own trials (`show`, `len`, `top`, `value 3`, ..), and what of a literal as in
 //! those of stores (`head 1`, `tail 1`, `parked 1`).
-ghost use Rattle.std.specs.Prelude.{◌<◌, ◌^◌};
-
 use crate::bench::Bench;
 use crate::{store, trail};
 use std::alloc::{AllocError, Global};
 use trial_lits::{lit_at, lits_at, tell_id, vars_at};
-use trial_script::{Player, Step, known};
+use trial_script::{Player, Step, hold, known};
 
 /// Clauses and values, once they were made.
 #[derive(Drop)]
@@ -28,16 +26,12 @@ pub struct PropagationPlayer {
 impl PropagationPlayer {
     fn make(&mut self, alloc: Global, step: &Step<'_>) -> Result<bool, AllocError> {
         match vars_at(step, 1) {
-            Some(vars) => known(self.renew(alloc, vars, step.word(2) == "parks")),
+            Some(vars) => {
+                let parks = step.word(2) == "parks";
+                hold(&mut self.bench, Bench::new(alloc, vars, parks))
+            }
             None => Ok(false),
         }
-    }
-
-    fn renew(&mut self, alloc: Global, vars: u32, parks: bool) -> Result<(), AllocError>
-        requires { vars < 2 ^ 31 }
-    {
-        self.bench = Some(Bench::new(alloc, vars, parks)?);
-        Ok(())
     }
 }
 

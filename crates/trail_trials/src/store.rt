@@ -30,7 +30,7 @@ use std::alloc::{AllocError, Global};
 use trial_lits::{
     add, add_lit, behind, lit_at, lits_at, tell, tell_id, tell_lit, tell_lits, tell_number, vars_at,
 };
-use trial_script::{Player, Step, known, show};
+use trial_script::{Player, Step, hold, known, show};
 
 /// A store, once one was made.
 #[derive(Drop)]
@@ -41,16 +41,9 @@ pub struct StorePlayer {
 impl StorePlayer {
     fn make(&mut self, alloc: Global, step: &Step<'_>) -> Result<bool, AllocError> {
         match vars_at(step, 1) {
-            Some(vars) => known(self.renew(alloc, vars)),
+            Some(vars) => hold(&mut self.store, Store::new(alloc, vars)),
             None => Ok(false),
         }
-    }
-
-    fn renew(&mut self, alloc: Global, vars: u32) -> Result<(), AllocError>
-        requires { vars < 2 ^ 31 }
-    {
-        self.store = Some(Store::new(alloc, vars)?);
-        Ok(())
     }
 }
 

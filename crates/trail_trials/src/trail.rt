@@ -30,7 +30,7 @@ use trail_book::Trail;
 use trial_lits::{
     add_id, add_lit, behind, lit_at, tell, tell_id, tell_lit, tell_number, var_at, vars_at,
 };
-use trial_script::{Player, Step, known, show};
+use trial_script::{Player, Step, hold, known, show};
 
 /// A trail, once one was made.
 #[derive(Drop)]
@@ -41,16 +41,9 @@ pub struct TrailPlayer {
 impl TrailPlayer {
     fn make(&mut self, alloc: Global, step: &Step<'_>) -> Result<bool, AllocError> {
         match vars_at(step, 1) {
-            Some(vars) => known(self.renew(alloc, vars)),
+            Some(vars) => hold(&mut self.trail, Trail::new(alloc, vars)),
             None => Ok(false),
         }
-    }
-
-    fn renew(&mut self, alloc: Global, vars: u32) -> Result<(), AllocError>
-        requires { vars < 2 ^ 31 }
-    {
-        self.trail = Some(Trail::new(alloc, vars)?);
-        Ok(())
     }
 }
 
