@@ -62,10 +62,7 @@ impl Player for BasesPlayer {
         out: &mut String,
     ) -> Result<bool, AllocError> {
         match step.word(0) {
-            "problem" => {
-                self.problems = problem_pair(alloc, step)?;
-                Ok(self.problems.is_some())
-            }
+            "problem" => self.read_problem(alloc, step),
             "holds" => match (&self.problems, &self.pieces.assign) {
                 (Some((problem, copy)), Some(assign)) => {
                     show_holds(problem, copy, assign, alloc, step, out)
@@ -76,10 +73,17 @@ impl Player for BasesPlayer {
                 Some((_, copy)) => show_clauses(copy, out),
                 None => Ok(false),
             },
-            _ => Ok(
-                call_pieces(&mut self.pieces, alloc, step, out)?
-                    || call_sets(&mut self.sets, alloc, step, out)?,
-            ),
+            _ => match call_pieces(&mut self.pieces, alloc, step, out) {
+                Ok(false) => call_sets(&mut self.sets, alloc, step, out),
+                told => told,
+            },
         }
+    }
+}
+
+impl BasesPlayer {
+    fn read_problem(&mut self, alloc: Global, step: &Step<'_>) -> Result<bool, AllocError> {
+        self.problems = problem_pair(alloc, step)?;
+        Ok(self.problems.is_some())
     }
 }

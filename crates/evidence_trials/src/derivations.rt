@@ -4,7 +4,7 @@ ghost use Rattle.sat_base.specs.Derivation.{max_id};
 
 use sat_base::{DerivationBuilder, Lit, Lits};
 use std::alloc::{AllocError, Global};
-use trial_script::Step;
+use trial_script::{Step, known};
 
 /// The greatest id.
 const MAX_ID: u64 = 9_223_372_036_854_775_807;
@@ -13,8 +13,10 @@ const MAX_ID: u64 = 9_223_372_036_854_775_807;
 pub fn id_at(step: &Step<'_>, at: usize) -> Option<u64>
     ensures { IfSome result (λ id. id ≤ max_id) }
 {
-    let id = step.amount(at)?;
-    if id <= MAX_ID { Some(id) } else { None }
+    match step.amount(at) {
+        Some(id) if id <= MAX_ID => Some(id),
+        _ => None,
+    }
 }
 
 /// Adds the step of the call, an id, literals, 0 and hints, if each is one.
@@ -33,8 +35,7 @@ pub fn push_step(
     if step.word(end) != "0" || behind != step.words().len() || !are_ids(hints.as_slice()) {
         return Ok(false);
     }
-    proof.push(id, lits.as_slice(), hints.as_slice())?;
-    Ok(true)
+    known(proof.push(id, lits.as_slice(), hints.as_slice()))
 }
 
 /// The literals from this place on, up to the first word that is none.
@@ -51,11 +52,13 @@ fn lits_from(alloc: Global, step: &Step<'_>, from: usize) -> Result<Lits, AllocE
 
 /// The literal at this place, if there is one.
 pub fn lit_at(step: &Step<'_>, at: usize) -> Option<Lit> {
-    let number = i32::try_from(step.number(at)?).ok()?;
-    if number == 0 || number == i32::MIN {
+    let Some(number) = step.number(at) else {
         return None;
+    };
+    match i32::try_from(number) {
+        Ok(number) if number != 0 && number != i32::MIN => Some(Lit::new(number)),
+        _ => None,
     }
-    Some(Lit::new(number))
 }
 
 /// The numbers from this place on, up to the first word that is none.

@@ -23,13 +23,13 @@ mod text;
 
 use crate::problems::problem_of;
 use drafting::{Draft, call_draft};
-use evidence_rec::Records;
+use evidence_rec::{Record, Records};
 use gm_base::Problem;
 use records::{check_kept, check_one};
 use std::alloc::{AllocError, Global};
 use std::mem;
 use text::call_text;
-use trial_script::{Player, Step};
+use trial_script::{Player, Step, known};
 
 /// Has a problem, evidence about it, and records.
 #[derive(Drop)]
@@ -64,25 +64,31 @@ impl Player for EvidencePlayer {
         out: &mut String,
     ) -> Result<bool, AllocError> {
         match step.word(0) {
-            "problem" => {
-                self.problem = problem_of(alloc, step.text())?;
-                Ok(self.problem.is_some())
-            }
-            "evidence" => {
-                self.evidence = Vec::from_slice(alloc, step.text())?;
-                Ok(true)
-            }
-            _ => {
-                let Some(problem) = &self.problem else {
-                    return Ok(false);
-                };
-                let evidence = self.evidence.as_slice();
-                if call_text(problem, evidence, alloc, step, out)? {
-                    return Ok(true);
+            "problem" => self.read_problem(alloc, step),
+            "evidence" => self.read_evidence(alloc, step),
+            "read" | "head" | "audit" => match &self.problem {
+                Some(problem) => call_text(problem, self.evidence.as_slice(), alloc, step, out),
+                None => Ok(false),
+            },
+            _ => match &self.problem {
+                Some(problem) => {
+                    call_records(problem, &mut self.draft, &mut self.kept, alloc, step, out)
                 }
-                call_records(problem, &mut self.draft, &mut self.kept, alloc, step, out)
-            }
+                None => Ok(false),
+            },
         }
+    }
+}
+
+impl EvidencePlayer {
+    fn read_problem(&mut self, alloc: Global, step: &Step<'_>) -> Result<bool, AllocError> {
+        self.problem = problem_of(alloc, step.text())?;
+        Ok(self.problem.is_some())
+    }
+
+    fn read_evidence(&mut self, alloc: Global, step: &Step<'_>) -> Result<bool, AllocError> {
+        self.evidence = Vec::from_slice(alloc, step.text())?;
+        Ok(true)
     }
 }
 
@@ -96,18 +102,28 @@ fn call_records(
     out: &mut String,
 ) -> Result<bool, AllocError> {
     match step.word(0) {
-        "check" | "keep" => {
-            let whole = mem::replace(draft, Draft::new(alloc));
-            let Some(record) = whole.finish(alloc)? else {
-                return Ok(false);
-            };
-            if step.word(0) == "check" {
-                return check_one(problem, &record, alloc, out);
-            }
-            kept.push(record)?;
-            Ok(true)
-        }
+        "check" => match whole_of(draft, alloc)? {
+            Some(record) => check_one(problem, &record, alloc, out),
+            None => Ok(false),
+        },
+        "keep" => keep(kept, whole_of(draft, alloc)),
         "check_kept" => check_kept(problem, kept, alloc, out),
         _ => call_draft(draft, problem, alloc, step),
+    }
+}
+
+/// The record that the pieces so far make, if they are enough. No piece is left.
+fn whole_of(draft: &mut Draft, alloc: Global) -> Result<Option<Record>, AllocError> {
+    let whole = mem::replace(draft, Draft::new(alloc));
+    whole.finish(alloc)
+}
+
+fn keep(
+    kept: &mut Records,
+    record: Result<Option<Record>, AllocError>,
+) -> Result<bool, AllocError> {
+    match record? {
+        Some(record) => known(kept.push(record)),
+        None => Ok(false),
     }
 }

@@ -1,10 +1,10 @@
 //! Sets of groups, and problems.
 use crate::problems::{problem_of, push_clause};
 use crate::sets::set_from;
-use gm_base::{Assign, GroupSet, Problem};
+use gm_base::{Assign, Clause, GroupSet, Problem};
 use std::alloc::{AllocError, Global};
 use std::cmp::Ordering;
-use trial_script::{Step, show};
+use trial_script::{Step, known, show};
 
 /// The set, and another one.
 #[derive(Drop)]
@@ -30,19 +30,17 @@ pub fn call_sets(
     out: &mut String,
 ) -> Result<bool, AllocError> {
     match step.word(0) {
-        "groups" => put_set(&mut sets.set, set_from(alloc, step, 1)?, out),
-        "other" => put_set(&mut sets.other, set_from(alloc, step, 1)?, out),
+        "groups" => put_set(&mut sets.set, set_from(alloc, step, 1), out),
+        "other" => put_set(&mut sets.other, set_from(alloc, step, 1), out),
         "without" | "complement" | "copy" => {
-            let made = made_of(&sets.set, alloc, step)?;
-            put_set(&mut sets.other, made, out)
+            put_set(&mut sets.other, made_of(&sets.set, alloc, step), out)
         }
         "contains" => show_contains(&sets.set, step.count(1), out),
-        "subset" => {
-            let within = sets.other.is_subset(&sets.set);
-            let around = sets.set.is_subset(&sets.other);
-            writeln!(out, "{within} {around}")?;
-            Ok(true)
-        }
+        "subset" => show_both(
+            sets.other.is_subset(&sets.set),
+            sets.set.is_subset(&sets.other),
+            out,
+        ),
         "compare" => show(name_of(sets.set.cmp(&sets.other)), out),
         _ => Ok(false),
     }
@@ -51,18 +49,28 @@ pub fn call_sets(
 /// Puts a set in place of another and tells it, if there is one.
 fn put_set(
     place: &mut GroupSet,
-    set: Option<GroupSet>,
+    set: Result<Option<GroupSet>, AllocError>,
     out: &mut String,
 ) -> Result<bool, AllocError> {
-    let Some(set) = set else {
-        return Ok(false);
-    };
+    match set? {
+        Some(set) => {
+            *place = set;
+            show_set(place, out)
+        }
+        None => Ok(false),
+    }
+}
+
+fn show_set(set: &GroupSet, out: &mut String) -> Result<bool, AllocError> {
     out.push_str("{")?;
     for group in set.as_slice() {
         write!(out, " {group}")?;
     }
-    *place = set;
     show(" }", out)
+}
+
+fn show_both(first: bool, second: bool, out: &mut String) -> Result<bool, AllocError> {
+    known(writeln!(out, "{first} {second}"))
 }
 
 /// What the call makes of the set.
@@ -122,18 +130,19 @@ pub fn show_holds(
     if len != problem.vars() as usize || len != copy.vars() as usize {
         return Ok(false);
     }
-    let (first, second) = (problem.holds(&set, assign), copy.holds(&set, assign));
-    writeln!(out, "{first} {second}")?;
-    Ok(true)
+    show_both(problem.holds(&set, assign), copy.holds(&set, assign), out)
 }
 
 /// Tells each clause, and how many its group has.
 pub fn show_clauses(problem: &Problem, out: &mut String) -> Result<bool, AllocError> {
     for at in 0..problem.len() {
-        let clause = problem.clause(at);
-        push_clause(clause, out)?;
-        let count = problem.places(clause.group).len();
-        writeln!(out, ", {count} of its group")?;
+        show_clause(problem, problem.clause(at), out)?;
     }
     Ok(true)
+}
+
+fn show_clause(problem: &Problem, clause: &Clause, out: &mut String) -> Result<(), AllocError> {
+    push_clause(clause, out)?;
+    let count = problem.places(clause.group).len();
+    writeln!(out, ", {count} of its group")
 }

@@ -4,7 +4,7 @@ ghost use Rattle.std.specs.Prelude.{◌<◌, length};
 use crate::derivations::{id_at, lit_at, push_step};
 use sat_base::{Assign, AssignBuilder, Derivation, DerivationBuilder, Lit, WorkList};
 use std::alloc::{AllocError, Global};
-use trial_script::{Step, show};
+use trial_script::{Step, hold, known, show};
 
 /// One of each kind.
 #[derive(Drop)]
@@ -36,41 +36,54 @@ pub fn call_pieces(
     out: &mut String,
 ) -> Result<bool, AllocError> {
     match step.word(0) {
-        "variables" | "true" | "false" => build(&mut pieces.builder, alloc, step, out),
-        "finish" | "prefix" | "flipped" => copy_values(pieces, alloc, step, out),
+        "variables" => begin_values(&mut pieces.builder, alloc, step, out),
+        "true" => Ok(set_values(&mut pieces.builder, true, step)),
+        "false" => Ok(set_values(&mut pieces.builder, false, step)),
+        "finish" => finish_values(pieces, alloc, out),
+        "prefix" | "flipped" => copy_values(pieces, alloc, step, out),
         "told" => show_told(pieces.assign.as_ref(), pieces.copy.as_ref(), step, out),
         "insert" => insert(&mut pieces.work, step),
         "greatest" => show_number(pieces.work.greatest(), out),
         "take" => show_number(pieces.work.take_greatest(), out),
-        "proof" | "step" | "steps" => call_proof(&mut pieces.proof, alloc, step, out),
+        "proof" => Ok(begin_proof(&mut pieces.proof, alloc, step)),
+        "step" => match &mut pieces.proof {
+            Some(proof) => push_step(proof, alloc, step),
+            None => Ok(false),
+        },
+        "steps" => match pieces.proof.take() {
+            Some(proof) => show_copy(proof, alloc, out),
+            None => Ok(false),
+        },
         _ => Ok(false),
     }
 }
 
-/// Begins an assignment and tells how many variables it has, or gives variables their values.
-fn build(
+/// Begins an assignment, and tells how many variables it has.
+fn begin_values(
     place: &mut Option<AssignBuilder>,
     alloc: Global,
     step: &Step<'_>,
     out: &mut String,
 ) -> Result<bool, AllocError> {
-    if step.word(0) != "variables" {
-        return match place {
-            Some(builder) => Ok(set_values(builder, step.word(0) == "true", step)),
-            None => Ok(false),
-        };
-    }
     let Some(vars) = step.count(1) else {
         return Ok(false);
     };
-    let builder = AssignBuilder::all_false(alloc, vars)?;
-    show_number(Some(builder.len() as u64), out)?;
-    *place = Some(builder);
-    Ok(true)
+    hold(place, AssignBuilder::all_false(alloc, vars))?;
+    match place {
+        Some(builder) => show_number(Some(builder.len() as u64), out),
+        None => Ok(false),
+    }
 }
 
-/// Gives the variables their value, up to the first word that is none of them; whether all were.
-fn set_values(builder: &mut AssignBuilder, value: bool, step: &Step<'_>) -> bool {
+/// Gives the variables their value, if there is an assignment, up to the first word that is none of them; whether all were.
+fn set_values(place: &mut Option<AssignBuilder>, value: bool, step: &Step<'_>) -> bool {
+    match place {
+        Some(builder) => set_each(builder, value, step),
+        None => false,
+    }
+}
+
+fn set_each(builder: &mut AssignBuilder, value: bool, step: &Step<'_>) -> bool {
     for at in 1..step.words().len() {
         let Some(var) = step.positive(at) else {
             return false;
@@ -83,28 +96,34 @@ fn set_values(builder: &mut AssignBuilder, value: bool, step: &Step<'_>) -> bool
     true
 }
 
-/// Makes the assignment or its copy, and tells how many variables it has.
+/// Makes the assignment, and tells how many variables it has.
+fn finish_values(pieces: &mut Pieces, alloc: Global, out: &mut String) -> Result<bool, AllocError> {
+    let Some(builder) = pieces.builder.take() else {
+        return Ok(false);
+    };
+    hold(&mut pieces.assign, builder.finish(alloc))?;
+    show_len(&pieces.assign, out)
+}
+
+/// Makes its copy, and tells how many variables that has.
 fn copy_values(
     pieces: &mut Pieces,
     alloc: Global,
     step: &Step<'_>,
     out: &mut String,
 ) -> Result<bool, AllocError> {
-    if step.word(0) == "finish" {
-        let Some(builder) = pieces.builder.take() else {
-            return Ok(false);
-        };
-        let assign = builder.finish(alloc)?;
-        show_number(Some(assign.len() as u64), out)?;
-        pieces.assign = Some(assign);
-        return Ok(true);
-    }
     let Some(copy) = copy_of(pieces.assign.as_ref(), alloc, step)? else {
         return Ok(false);
     };
-    show_number(Some(copy.len() as u64), out)?;
     pieces.copy = Some(copy);
-    Ok(true)
+    show_len(&pieces.copy, out)
+}
+
+fn show_len(assign: &Option<Assign>, out: &mut String) -> Result<bool, AllocError> {
+    match assign {
+        Some(assign) => show_number(Some(assign.len() as u64), out),
+        None => Ok(false),
+    }
 }
 
 /// The copy that the call wants, if there is one.
@@ -164,36 +183,26 @@ fn insert(work: &mut WorkList, step: &Step<'_>) -> Result<bool, AllocError> {
 }
 
 fn show_number(number: Option<u64>, out: &mut String) -> Result<bool, AllocError> {
-    let Some(number) = number else {
-        return show("none", out);
-    };
-    writeln!(out, "{number}")?;
-    Ok(true)
+    match number {
+        Some(number) => known(writeln!(out, "{number}")),
+        None => show("none", out),
+    }
 }
 
-/// Begins a derivation, adds a step, or tells a copy.
-fn call_proof(
-    proof: &mut Option<DerivationBuilder>,
+fn begin_proof(proof: &mut Option<DerivationBuilder>, alloc: Global, step: &Step<'_>) -> bool {
+    let Some(goal) = id_at(step, 1) else {
+        return false;
+    };
+    *proof = Some(DerivationBuilder::new(alloc, goal));
+    true
+}
+
+/// Tells a copy of the derivation.
+fn show_copy(
+    proof: DerivationBuilder,
     alloc: Global,
-    step: &Step<'_>,
     out: &mut String,
 ) -> Result<bool, AllocError> {
-    if step.word(0) == "proof" {
-        let Some(goal) = id_at(step, 1) else {
-            return Ok(false);
-        };
-        *proof = Some(DerivationBuilder::new(alloc, goal));
-        return Ok(true);
-    }
-    if step.word(0) == "step" {
-        return match proof {
-            Some(proof) => push_step(proof, alloc, step),
-            None => Ok(false),
-        };
-    }
-    let Some(proof) = proof.take() else {
-        return Ok(false);
-    };
     show_steps(&proof.finish(alloc)?.copy()?, out)
 }
 
@@ -212,13 +221,22 @@ fn show_step(derivation: &Derivation, at: usize, out: &mut String) -> Result<boo
     let step = derivation.step(at);
     let id = step.id;
     write!(out, "step {id}")?;
-    for lit in step.lits {
+    push_lits(step.lits, out)?;
+    push_hints(step.hints, out)?;
+    show("", out)
+}
+
+fn push_lits(lits: &[Lit], out: &mut String) -> Result<(), AllocError> {
+    for lit in lits {
         let number = lit.number();
         write!(out, " {number}")?;
     }
-    out.push_str(" 0")?;
-    for hint in step.hints {
+    out.push_str(" 0")
+}
+
+fn push_hints(hints: &[u64], out: &mut String) -> Result<(), AllocError> {
+    for hint in hints {
         write!(out, " {hint}")?;
     }
-    show("", out)
+    Ok(())
 }

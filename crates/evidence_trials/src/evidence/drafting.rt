@@ -4,7 +4,7 @@ use crate::sets::set_from;
 use evidence_rec::{Proofs, Record, Witnesses};
 use gm_base::{Assign, AssignBuilder, DerivationBuilder, GroupSet, Kind, Problem};
 use std::alloc::{AllocError, Global};
-use trial_script::Step;
+use trial_script::{Step, known};
 
 /// The pieces of a record so far.
 #[derive(Drop)]
@@ -46,21 +46,25 @@ impl Draft {
 }
 
 fn conflict_of(set: GroupSet, proofs: Proofs, witnesses: Witnesses) -> Option<Record> {
-    let proof = proofs.into_vec().pop()?;
-    Some(Record::Conflict {
-        set,
-        proof,
-        witnesses,
-    })
+    match proofs.into_vec().pop() {
+        Some(proof) => Some(Record::Conflict {
+            set,
+            proof,
+            witnesses,
+        }),
+        None => None,
+    }
 }
 
 fn correction_of(set: GroupSet, proofs: Proofs, witnesses: Witnesses) -> Option<Record> {
-    let witness = witnesses.into_vec().pop()?;
-    Some(Record::Correction {
-        set,
-        witness,
-        proofs,
-    })
+    match witnesses.into_vec().pop() {
+        Some(witness) => Some(Record::Correction {
+            set,
+            witness,
+            proofs,
+        }),
+        None => None,
+    }
 }
 
 /// Adds the piece of the call.
@@ -78,13 +82,10 @@ pub fn call_draft(
             Some(proof) => push_step(proof, alloc, step),
             None => Ok(false),
         },
-        "witness" => {
-            let Some(witness) = witness_of(alloc, problem.vars(), step)? else {
-                return Ok(false);
-            };
-            draft.witnesses.push(witness)?;
-            Ok(true)
-        }
+        "witness" => match witness_of(alloc, problem.vars(), step)? {
+            Some(witness) => known(draft.witnesses.push(witness)),
+            None => Ok(false),
+        },
         _ => Ok(false),
     }
 }

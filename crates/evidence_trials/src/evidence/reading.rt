@@ -1,6 +1,7 @@
 //! Evidence is read, and what was read is written again.
 ghost use Rattle.std.specs.Prelude.{◌≡◌, true, IfOk};
 
+use evidence_rec::Record;
 use evidence_text::{Answer, EvidenceReader, Offence, write_end, write_head, write_record};
 use gm_base::{Derivation, Problem};
 use std::alloc::{AllocError, Global};
@@ -30,21 +31,48 @@ pub fn read_and_write(
     };
     write_head(problem, out)?;
     for _ in text {
-        match following(alloc, &mut reader)? {
-            Answer::Record(record) => write_record(&record, out)?,
-            Answer::End(closing) => {
-                write_closing(closing, out)?;
-                return Ok(Outcome::Whole);
-            }
-            Answer::Offence(offence) => {
-                if is_told_again(alloc, &mut reader, offence)? {
-                    return Ok(Outcome::Refused(offence));
-                }
-                return Ok(Outcome::Changed);
-            }
+        if let Some(outcome) = write_next(alloc, &mut reader, out)? {
+            return Ok(outcome);
         }
     }
     Ok(Outcome::Endless)
+}
+
+/// Writes what is read next, and gives the outcome, where that is the end.
+fn write_next(
+    alloc: Global,
+    reader: &mut EvidenceReader<'_>,
+    out: &mut Vec<u8>,
+) -> Result<Option<Outcome>, AllocError>
+    requires { reader.old.begun ≡ true }
+    ensures { reader.new.begun ≡ true }
+{
+    match following(alloc, reader)? {
+        Answer::Record(record) => write_on(&record, out),
+        Answer::End(closing) => write_closing(closing, out),
+        Answer::Offence(offence) => outcome_of(alloc, reader, offence),
+    }
+}
+
+fn write_on(record: &Record, out: &mut Vec<u8>) -> Result<Option<Outcome>, AllocError> {
+    write_record(record, out)?;
+    Ok(None)
+}
+
+fn outcome_of(
+    alloc: Global,
+    reader: &mut EvidenceReader<'_>,
+    offence: Offence,
+) -> Result<Option<Outcome>, AllocError>
+    requires { reader.old.begun ≡ true }
+    ensures { reader.new.begun ≡ true }
+{
+    let again = is_told_again(alloc, reader, offence)?;
+    Ok(Some(if again {
+        Outcome::Refused(offence)
+    } else {
+        Outcome::Changed
+    }))
 }
 
 /// A reader whose head was answered.
@@ -80,9 +108,10 @@ fn is_told_again(
     }
 }
 
-fn write_closing(closing: Option<Derivation>, out: &mut Vec<u8>) -> Result<(), AllocError> {
-    match closing {
-        Some(closing) => write_end(Some(&closing), out),
-        None => write_end(None, out),
-    }
+fn write_closing(
+    closing: Option<Derivation>,
+    out: &mut Vec<u8>,
+) -> Result<Option<Outcome>, AllocError> {
+    write_end(closing.as_ref(), out)?;
+    Ok(Some(Outcome::Whole))
 }

@@ -6,7 +6,7 @@ use evidence_rec::{Record, RecordChecker, Records, Verdict, check_record};
 use gm_base::Problem;
 use lawful_fakes::is_shaped;
 use std::alloc::{AllocError, Global};
-use trial_script::show;
+use trial_script::{known, show};
 
 /// Checks a record by a checker of its own, and tells the verdict.
 pub fn check_one(
@@ -22,8 +22,7 @@ pub fn check_one(
         Verdict::Ok => show("accepted", out),
         Verdict::Refused { part, why } => {
             let number = why.number();
-            writeln!(out, "refused {number} at its line {part}")?;
-            Ok(true)
+            known(writeln!(out, "refused {number} at its line {part}"))
         }
     }
 }

@@ -4,11 +4,11 @@ use evidence_rec::Records;
 use evidence_text::{EvidenceReader, Offence};
 use gm_audit::{Audited, audit};
 use gm_base::{Kind, Problem};
-use lrat_check::{Counts, Why};
+use lrat_check::{Counts, Mismatch, Why};
 use std::alloc::{AllocError, Global};
-use trial_script::{Step, show};
+use trial_script::{Step, known, show};
 
-/// Makes a call that is about a text, if it is one.
+/// Makes a call that is about a text.
 pub fn call_text(
     problem: &Problem,
     evidence: &[u8],
@@ -16,9 +16,6 @@ pub fn call_text(
     step: &Step<'_>,
     out: &mut String,
 ) -> Result<bool, AllocError> {
-    if !matches!(step.word(0), "read" | "head" | "audit") {
-        return Ok(false);
-    }
     let text = text_of(alloc, evidence, step)?;
     match step.word(0) {
         "read" => show_reading(problem, alloc, text.as_slice(), out),
@@ -71,13 +68,15 @@ fn show_reading(
 /// Tells what the head is answered with, twice.
 fn show_head(problem: &Problem, text: &[u8], out: &mut String) -> Result<bool, AllocError> {
     let mut reader = EvidenceReader::new(problem, text);
-    for _ in 0..2u8 {
-        match reader.head() {
-            Ok(()) => show("read", out)?,
-            Err(offence) => show_offence(offence, out)?,
-        };
+    show_answer(reader.head(), out)?;
+    show_answer(reader.head(), out)
+}
+
+fn show_answer(answer: Result<(), Offence>, out: &mut String) -> Result<bool, AllocError> {
+    match answer {
+        Ok(()) => show("read", out),
+        Err(offence) => show_offence(offence, out),
     }
-    Ok(true)
 }
 
 /// Tells how many conflicts and corrections the evidence shows, and whether it says that they are all, or what it is
@@ -89,15 +88,19 @@ fn show_audit(
     out: &mut String,
 ) -> Result<bool, AllocError> {
     match audit(alloc, problem, text)? {
-        Audited::Yes { complete, records } => {
-            let conflicts = count_of(&records, Kind::Conflict);
-            let corrections = count_of(&records, Kind::Correction);
-            out.push_str(if complete { "complete" } else { "partial" })?;
-            writeln!(out, ", {conflicts} conflicts, {corrections} corrections")?;
-            Ok(true)
-        }
+        Audited::Yes { complete, records } => show_counts(complete, &records, out),
         Audited::No { line, why } => show_offence(Offence { line, why }, out),
     }
+}
+
+fn show_counts(complete: bool, records: &Records, out: &mut String) -> Result<bool, AllocError> {
+    let word = if complete { "complete" } else { "partial" };
+    let conflicts = count_of(records, Kind::Conflict);
+    let corrections = count_of(records, Kind::Correction);
+    known(writeln!(
+        out,
+        "{word}, {conflicts} conflicts, {corrections} corrections"
+    ))
 }
 
 fn count_of(records: &Records, kind: Kind) -> usize {
@@ -111,20 +114,26 @@ fn count_of(records: &Records, kind: Kind) -> usize {
 fn show_offence(offence: Offence, out: &mut String) -> Result<bool, AllocError> {
     let (number, line) = (offence.why.number(), offence.line);
     write!(out, "refused {number} at line {line}")?;
-    if let Why::OtherProblem(mismatch) = offence.why {
-        out.push_str(": of")?;
-        push_counts(mismatch.text, out)?;
-        out.push_str(" and not of")?;
-        push_counts(mismatch.problem, out)?;
+    match offence.why {
+        Why::OtherProblem(mismatch) => show_mismatch(mismatch, out),
+        _ => show("", out),
     }
+}
+
+fn show_mismatch(mismatch: Mismatch, out: &mut String) -> Result<bool, AllocError> {
+    push_counts(": of", mismatch.text, out)?;
+    push_counts(" and not of", mismatch.problem, out)?;
     show("", out)
 }
 
-fn push_counts(counts: Counts, out: &mut String) -> Result<(), AllocError> {
+fn push_counts(word: &str, counts: Counts, out: &mut String) -> Result<(), AllocError> {
     let Counts {
         vars,
         groups,
         clauses,
     } = counts;
-    write!(out, " {vars} variables {groups} groups {clauses} clauses")
+    write!(
+        out,
+        "{word} {vars} variables {groups} groups {clauses} clauses"
+    )
 }
