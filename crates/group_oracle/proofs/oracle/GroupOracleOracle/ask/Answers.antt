@@ -1,4 +1,5 @@
-use Rattle.std.proofs.Common.{◌≡◌, ◌∙◌, ℕ, List, Some, sym, ap, subst, arith}
+use Rattle.std.proofs.Common.{◌≡◌, ◌∙◌, ℕ, List, Some, refl, sym, ap, subst, arith}
+use Rattle.std.specs.Prelude.{Result, Ok, Err, OnErr}
 use Rattle.gm_base.specs.Sets.{IsSubset, all_groups}
 use Rattle.cdcl_core.specs.Answers.{IsModel, IsRefuted}
 use Rattle.evidence_rec.specs.Asking.{OracleState}
@@ -98,3 +99,12 @@ returns-in-Unsat-clause-refuted c =
     (core_read a.vars a.groups c.in-Unsat.step c.args.set.now c.in_ok-core-in-Unsat.core solver.log c.log.result.now c.deref.result.now c.lits.result.now
     (asked_within c.self.inside c.args.self.now c.args.set.now c.self.view_is c.requires) (c.deref.ensures.value ∙ c.in_ok-assumed.ensures) r c.log.ensures.log c.lits.ensures
     c.in_ok-core-in-Unsat.ensures))
+
+-- what holds anyway holds after `Err`
+always : {X E : Type 0} {A : Type 0} (r : Result X E) → A → OnErr r A
+always (Ok x) a = tt
+always (Err e) a = a
+
+-- where memory is wanting, no set is left as refuted
+pub returns-in_err-assumed-clause-err : goal.returns-in_err-assumed-clause-err
+returns-in_err-assumed-clause-err c = always c.from_residual.result refl
