@@ -2,7 +2,7 @@ use Rattle.std.proofs.Common.{◌≡◌, ◌+◌, ℕ, List, [], ◌∷◌, ◌+
 use Rattle.gm_base.specs.Sets.{has, IsSubset, all_groups}
 use Rattle.std.specs.Prelude.{ℤ, OnOk}
 use Rattle.gm_base.specs.declared.kind.Kind.{Kind}
-use Rattle.gm_base.specs.Explored.{Found, block_clause}
+use Rattle.gm_base.specs.Explored.{block_clause}
 use Rattle.gm_base.proofs.SetLemmas.{all_groups-has}
 use Rattle.sat_base.specs.Literals.{AreLiterals}
 use Rattle.evidence_rec.specs.Records.{found_of}

@@ -1,6 +1,5 @@
-use Rattle.std.proofs.Common.{List, ℕ, ap, sym}
+use Rattle.std.proofs.Common.{ap, sym}
 use Rattle.gm_base.specs.declared.kind.Kind.{Kind}
-use Rattle.gm_base.specs.Explored.{Found}
 use Rattle.gm_audit.proofs.closing.side_of.Goals as goal
 
 -- conflicts block all sets above

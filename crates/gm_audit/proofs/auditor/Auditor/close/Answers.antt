@@ -1,4 +1,4 @@
-use Rattle.std.proofs.Common.{◌≡◌, ◌∙◌, List, Option, Some, Ok, ap, sym}
+use Rattle.std.proofs.Common.{◌≡◌, ◌∙◌, List, Option, Ok, ap, sym}
 use Rattle.std.specs.Prelude.{is_some}
 use Rattle.sat_base.specs.Derivation.{Derivation}
 use Rattle.evidence_rec.specs.declared.record.Record.{Record}

@@ -1,4 +1,4 @@
-use Rattle.std.proofs.Common.{◌≡◌, ◌∙◌, ap, sym, subst}
+use Rattle.std.proofs.Common.{ap, sym, subst}
 use Rattle.gm_base.specs.Problem.{Problem, IsProblem}
 use Rattle.evidence_rec.specs.Asking.{OracleState, TellsAsked, IsSpent}
 use Rattle.known_sets.specs.Memory.{IsRightFor}
