@@ -1,5 +1,4 @@
 use Rattle.std.proofs.Common.{List, ℕ, ap}
-use Rattle.mss_grow.specs.declared.growth.Growth.{Growth}
 use Rattle.mss_grow.proofs.addition.put_in.Goals as goal
 
 -- the set has the group, and the rest stays

@@ -1,7 +1,6 @@
 use Rattle.std.proofs.Common.{◌≡◌, Bool, true, not, Some, List, [], ◌∷◌, ◌++◌, subst, sym, ap, ◌∙◌, eqb}
 use Rattle.gm_base.specs.Sets.{IsSubset, has, all_groups, without}
 use Rattle.gm_base.specs.Problem.{Problem}
-use Rattle.gm_base.specs.Evidence.{is_witness}
 use Rattle.gm_base.proofs.SetLemmas.{AscendsAbove-filter}
 use Rattle.evidence_rec.specs.Asking.{TellsAsked, IsDryAt, refuted_by}
 use Rattle.mus_shrink.specs.Candidate.{IsCandidate}
