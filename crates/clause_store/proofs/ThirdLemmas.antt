@@ -1,5 +1,5 @@
 -- Two literals of a clause of three tell the third.
-use Rattle.std.proofs.Common.{◌≡◌, ◌≢◌, ℕ, ℤ, List, [], ◌∷◌, ◌⊎◌, inl, inr, refl, sym, ap, ◌∙◌, ◌<◌, arith, subst, Option, Some, None, is_some, IfSome, IfNone}
+use Rattle.std.proofs.Common.{◌≡◌, ◌≢◌, ℕ, ℤ, List, [], ◌∷◌, ◌⊎◌, inl, inr, refl, sym, ap, ◌∙◌, ◌<◌, arith, subst, Option, Some, None, is_some, IfSome, IfNone, length, get_or}
 use Rattle.std.proofs.lemmas.Bool.{false≢true}
 use Rattle.std.specs.Prelude.{bit_xor}
 use Rattle.std.proofs.lemmas.Nat.{xor_comm}
@@ -111,3 +111,15 @@ pub none_left : (clause : List ℤ) (f s : ℤ) (row : ℕ) (o : Option ℤ)
     → IfNone o (¬ AreTwoOfThree clause f s)
 none_left clause f s row (Some lit) h = tt
 none_left clause f s row None h = λ two. false≢true (ap is_some (h two).1)
+
+-- three literals that are read one by one give the number of their rows
+pub mix_read : (lits : List ℤ) (a b c : ℤ) (x y z : ℕ) → length lits ≡ 3 → a ≡ get_or lits 0 a → b ≡ get_or lits 1 b → c ≡ get_or lits 2 c
+    → x ≡ row_of a → y ≡ row_of b → z ≡ row_of c → bit_xor x (bit_xor y z) ≡ mix_of lits
+mix_read [] a b c x y z three first second third of_a of_b of_c = absurd (omega (arith, three))
+mix_read (l ∷ []) a b c x y z three first second third of_a of_b of_c = absurd (omega (arith, three))
+mix_read (l ∷ m ∷ []) a b c x y z three first second third of_a of_b of_c = absurd (omega (arith, three))
+mix_read (l ∷ m ∷ n ∷ []) a b c x y z three first second third of_a of_b of_c =
+    ap (λ (k : ℕ). bit_xor k (bit_xor y z)) (of_a ∙ ap row_of first)
+    ∙ ap (λ (k : ℕ). bit_xor (row_of l) (bit_xor k z)) (of_b ∙ ap row_of second)
+    ∙ ap (λ (k : ℕ). bit_xor (row_of l) (bit_xor (row_of m) k)) (of_c ∙ ap row_of third ∙ sym (xor_zero_r (row_of n)))
+mix_read (l ∷ m ∷ n ∷ k ∷ ks) a b c x y z three first second third of_a of_b of_c = absurd (omega (arith, three))
