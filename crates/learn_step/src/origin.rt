@@ -2,7 +2,7 @@
 use sat_base::Lit;
 
 /// What was found false under assumptions.
-#[derive(Clone, Copy, Debug)]
+#[derive(Clone, Copy)]
 pub enum Origin {
     /// The clause of this id.
     Conflict(u64),

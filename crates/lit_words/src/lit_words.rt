@@ -11,7 +11,7 @@ use crate::word::{both, lowest, with_bit, without, without_bit};
 use sat_base::Lit;
 
 /// A set of literals over the variables 1 to 64.
-#[derive(Clone, Copy, Debug)]
+#[derive(Clone, Copy)]
 pub struct LitWords {
     positive: u64,
     negative: u64,

@@ -1,7 +1,7 @@
 //! The answer of propagation.
 
 /// What propagation ended with.
-#[derive(Clone, Copy, Debug)]
+#[derive(Clone, Copy)]
 pub enum Propagated {
     /// No live clause is falsified or unit.
     Fixpoint,

@@ -2,7 +2,7 @@
 use sat_base::Lit;
 
 /// A literal that is true, and what a derivation names for it.
-#[derive(Clone, Copy, Debug)]
+#[derive(Clone, Copy)]
 pub struct Entry {
     pub lit: Lit,
     /// The id of the clause that forced it. A decision has none.
