@@ -1,4 +1,4 @@
-use Rattle.std.proofs.Common.{◌≡◌, ◌∷◌, [], ◌++◌, ◌-◌, arith, subst, sym, ap, ◌∙◌, List, length, ℕ, Some, None, inl, inr}
+use Rattle.std.proofs.Common.{◌≡◌, ◌∷◌, [], ◌++◌, arith, subst, sym, ap, ◌∙◌, List, length, ℕ, Some, None, inl, inr}
 use Rattle.std.specs.Prelude.{ℤ, true}
 use Rattle.sat_base.specs.Members.{In}
 use Rattle.sat_base.specs.Literals.{IsLiteral, AreLiterals}
@@ -6,8 +6,7 @@ use Rattle.trail_book.specs.declared.entry.Entry.{Entry}
 use Rattle.trail_book.specs.Trail.{Trail, trues, keep}
 use Rattle.propagate.specs.Entrance.{IsUnwatched}
 use Rattle.propagate.proofs.KeptLemmas.{kept_same}
-use Rattle.lrat_steps.specs.Log.{LogStep, Learned}
-use Rattle.cdcl_core.specs.Answers.{IsHonestlyPaid}
+use Rattle.lrat_steps.specs.Log.{Learned}
 use Rattle.cdcl_core.specs.Entrance.{IsAsserting}
 use Rattle.propagate.proofs.NewLemmas.{new_kept, new_clause, unwatched_same}
 use Rattle.cdcl_core.proofs.ActivityLemmas.{hint_is_id}
@@ -163,7 +162,7 @@ returns-clause-paid c =
     ∙ ap (λ (hs : List ℕ). s.log ++ Learned lits hs ∷ []) hints_are in
     let recorded =
     learned_recorded s.trail.vars s.store.clauses s.log s.trail.entries c.args.assumed.now s.assumed_levels c.in_ok-learnt.learnt.back_level lits hints c.requires.search.state c.in_ok-learnt.ensures c.requires.choice in
-    subst (λ (k : List LogStep). IsHonestlyPaid s.log k left (left - 1)) (sym logged) (paid_learned s.log lits hints left (left - 1) recorded.honest (omega (arith, c.requires.purse)))
+    rw logged (paid_learned s.log lits hints left _ recorded.honest (omega (arith, c.requires.purse)))
 
 -- it has just come, so all but it is kept, and with that where each watch hangs
 pub back_to-requires-clause-hung : goal.back_to-requires-clause-hung
