@@ -5,6 +5,7 @@ use Rattle.sat_base.specs.Literals.{var_of}
 use Rattle.sat_base.specs.Units.{IsUnset}
 use Rattle.trail_book.specs.Trail.{Trail, trues}
 use Rattle.trail_book.specs.Tables.{trail_of}
+use Rattle.trail_book.proofs.OrderLemmas.{unset_literal}
 use Rattle.trail_book.proofs.WaitLemmas.{holding_unset}
 use Rattle.trail_book.proofs.trail.Trail.pick.Goals as goal
 
@@ -23,3 +24,17 @@ returns-clause-held c =
     ∙ sym (holding_unset a.vars a.held.items (trail_of a).entries index inv.trail some.0)
     ∙ ap (λ (t : Trail). slice_index_or t.held index (pos 0)) is
     ∙ ap (λ (n : ℕ). slice_index_or c.args.self.now.held n (pos 0)) (sym of_var)
+
+-- it is a literal of the variable that was picked, which has no value
+pub returns-clause-some : goal.returns-clause-some
+returns-clause-some c =
+    let a = c.self.inside in
+    let inv = c.self.invariant in
+    let index = c.in_ok-index.index in
+    let some = c.in_ok-index.ensures.some in
+    let is : trail_of a ≡ c.args.self.now = c.self.view_is ∙ c.first_unset.ensures.same in
+    let below : index < a.vars = subst (λ (t : Trail). index < t.vars) (sym is) some.1 in
+    let within : index < length a.held.items = omega (arith, below, inv.one_held_each) in
+    let read : c.index.result.now ≡ slice_index_or a.held.items index (pos 0) = get_or_read a.held.items index c.index.result.now within c.index.ensures (pos 0) in
+    let of_var : var_of c.index.result.now ≡ index + 1 = omega (arith, ap var_of read, inv.of_vars index below) in
+    (unset_literal (trues c.args.self.now.entries) c.index.result.now index of_var some.0, record { not_zero = omega (arith, of_var); in_range = omega (arith, of_var, some.1) })
