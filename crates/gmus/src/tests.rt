@@ -4,13 +4,11 @@
 mod adapters;
 mod meeting;
 
-use crate::files::RealFiles;
-use adapters::{fill, read_text, tell, write_text};
+use adapters::{Told, try_adapters};
 use gm_ports::{Calls, Gate, MemFiles, MemSink, OpenGate, Rooms, Texts};
 use gm_tool::run;
 use meeting::Meeting;
 use std::alloc::{AllocError, Global};
-use std::fs;
 use std::sync::Wait;
 use std::test::Fail;
 use std::thread::Threads;
@@ -25,41 +23,20 @@ fn fresh_name(rt: &HostRuntime) -> Result<String, Fail> {
 
 #[test]
 fn adapters_move_bytes_and_count_faults(rt: HostRuntime) -> Result<(), Fail> {
-    let alloc = rt.alloc();
-    let name = fresh_name(&rt)?;
-    let name = name.as_str();
-    let mut files = RealFiles::new(&rt);
-    assert_eq!(rt;
-        write_text(&mut files, name),
-        (13, [false, false, true, true, false])
-    );
-    assert_eq!(rt; files.faults(), (0, 3));
-
-    assert_eq!(rt; read_text(alloc, &mut files, name, 13), "the text");
-    assert_eq!(rt; read_text(alloc, &mut files, name, 12), "too long");
-    assert!(rt; fs::remove_file(&rt, name).is_ok());
-    assert_eq!(rt;
-        read_text(alloc, &mut files, name, 13),
-        "failed",
-        "it is gone"
-    );
-    assert_eq!(rt;
-        read_text(alloc, &mut files, "/tmp", 13),
-        "failed",
-        "a folder opens"
-    );
-    assert_eq!(rt; files.faults(), (2, 3));
-
-    assert_eq!(rt;
-        fill(&mut files),
-        [true, false],
-        "a full device takes nothing"
-    );
-    assert_eq!(rt; files.faults(), (2, 4));
-
-    assert_eq!(rt; tell(rt.stdout(), b"to standard output\n"), (19, 0));
-    assert_eq!(rt; tell(rt.stderr(), b"to standard error\n"), (18, 0));
+    let told = tell_of_adapters(&rt)?;
+    assert_eq!(rt; told.written, (13, [false, false, true, true, false]));
+    assert_eq!(rt; told.read, ["the text", "too long", "failed", "failed"]);
+    assert!(rt; told.removed);
+    assert_eq!(rt; told.filled, [true, false], "a full device takes nothing");
+    assert_eq!(rt; told.faults, [(0, 3), (2, 3), (2, 4)]);
+    assert_eq!(rt; told.streams, [(19, 0), (18, 0)]);
     Ok(())
+}
+
+// Calls of the adapters, one after another, under a fresh name.
+fn tell_of_adapters(rt: &HostRuntime) -> Result<Told, Fail> {
+    let name = fresh_name(rt)?;
+    Ok(try_adapters(rt, name.as_str()))
 }
 
 // Four clauses: x, not x, x implies y, and not y, each in a group of its own.
@@ -93,23 +70,21 @@ fn run_on_first<R: Threads + Wait + Sync, G: Gate>(
     gate: &G,
 ) -> Result<(u8, bool), AllocError> {
     let words = words_of(alloc, line)?;
-    let files = first_files(alloc)?;
-    let out = MemSink::new(alloc, 1000, 1000, Calls::new(alloc))?;
-    let err = MemSink::new(alloc, 1000, 1000, Calls::new(alloc))?;
-    Ok(run_words(rt, alloc, words.as_slice(), files, out, err, gate))
+    let mut files = first_files(alloc)?;
+    run_words(rt, alloc, words.as_slice(), &mut files, gate)
 }
 
 fn run_words<R: Threads + Wait + Sync, G: Gate>(
     rt: &R,
     alloc: Global,
     words: &[String],
-    mut files: MemFiles,
-    mut out: MemSink,
-    mut err: MemSink,
+    files: &mut MemFiles,
     gate: &G,
-) -> (u8, bool) {
-    let finish = run(rt, alloc, words, &mut files, &mut out, &mut err, gate);
-    (finish.status, out.got() == FIRST_REPORT.as_bytes())
+) -> Result<(u8, bool), AllocError> {
+    let mut out = MemSink::new(alloc, 1000, 1000, Calls::new(alloc))?;
+    let mut err = MemSink::new(alloc, 1000, 1000, Calls::new(alloc))?;
+    let finish = run(rt, alloc, words, files, &mut out, &mut err, gate);
+    Ok((finish.status, out.got() == FIRST_REPORT.as_bytes()))
 }
 
 #[test]
