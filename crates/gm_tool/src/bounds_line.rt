@@ -2,16 +2,15 @@
 ghost use Rattle.std.specs.Prelude.{◌≡◌, IfOk};
 ghost use Rattle.gm_tool.specs.Lines.{budget_line, limit_line};
 
+use crate::line_parts::put_counted;
 use std::alloc::{AllocError, Global};
-use token_text::put_number;
 
 /// That the budget is spent.
 pub fn line_of_budget(alloc: Global, conflicts: u64) -> Result<Vec<u8>, AllocError>
     ensures { IfOk result (λ line. line.items ≡ budget_line conflicts) }
 {
     let mut line = Vec::new(alloc);
-    line.extend_from_slice(b"gmus: budget of ")?;
-    put_number(&mut line, i128::from(conflicts))?;
+    put_counted(&mut line, b"gmus: budget of ", conflicts)?;
     line.extend_from_slice(b" conflicts spent\n")?;
     Ok(line)
 }
@@ -21,8 +20,7 @@ pub fn line_of_limit(alloc: Global, limit: u64) -> Result<Vec<u8>, AllocError>
     ensures { IfOk result (λ line. line.items ≡ limit_line limit) }
 {
     let mut line = Vec::new(alloc);
-    line.extend_from_slice(b"gmus: limit of ")?;
-    put_number(&mut line, i128::from(limit))?;
+    put_counted(&mut line, b"gmus: limit of ", limit)?;
     line.extend_from_slice(b" records reached\n")?;
     Ok(line)
 }

@@ -2,8 +2,8 @@
 ghost use Rattle.std.specs.Prelude.{◌≡◌, IfOk};
 ghost use Rattle.gm_tool.specs.Drilling.{drill_line};
 
+use crate::line_parts::put_counted;
 use std::alloc::{AllocError, Global};
-use token_text::put_number;
 
 /// How many groups there are, how many conflicts and how many corrections.
 #[tactic(auto, unfolding(crate::specs::Drilling::drill_line))]
@@ -16,12 +16,9 @@ pub fn line_of_counts(
     ensures { IfOk result (λ line. line.items ≡ drill_line groups conflicts corrections) }
 {
     let mut line = Vec::new(alloc);
-    line.extend_from_slice(b"drill ")?;
-    put_number(&mut line, i128::from(groups))?;
-    line.extend_from_slice(b" ")?;
-    put_number(&mut line, conflicts as i128)?;
-    line.extend_from_slice(b" ")?;
-    put_number(&mut line, corrections as i128)?;
+    put_counted(&mut line, b"drill ", u64::from(groups))?;
+    put_counted(&mut line, b" ", conflicts as u64)?;
+    put_counted(&mut line, b" ", corrections as u64)?;
     line.extend_from_slice(b"\n")?;
     Ok(line)
 }

@@ -21,7 +21,7 @@ use gm_ports::{Failed, Files};
 use std::alloc::Global;
 
 /// Why a text was not written to its end.
-#[derive(Clone, Copy, Debug, PartialEq, Eq)]
+#[derive(Clone, Copy)]
 pub enum CutOff {
     Failed,
     Memory,

@@ -29,6 +29,7 @@ mod error_line;
 mod evidence_file;
 mod input;
 mod judging;
+mod line_parts;
 mod list;
 mod prepared;
 mod program;

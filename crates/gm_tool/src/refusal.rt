@@ -2,10 +2,10 @@
 ghost use Rattle.std.specs.Prelude.{◌≡◌, IfOk};
 ghost use Rattle.gm_tool.specs.Refusals.{evidence_line, refusal_line, limit_text};
 
+use crate::line_parts::put_counted;
 use gcnf_text::{Limit, Offence};
 use lrat_check::Why;
 use std::alloc::{AllocError, Global};
-use token_text::put_number;
 
 fn text_of_limit(limit: Option<Limit>) -> &'static str
     ensures { result.now ≡ limit_text limit }
@@ -26,15 +26,16 @@ pub fn line_of_refusal(alloc: Global, offence: Offence) -> Result<Vec<u8>, Alloc
     ensures { IfOk result (λ line. line.items ≡ refusal_line offence) }
 {
     let mut line = Vec::new(alloc);
-    line.extend_from_slice(b"gmus: input refused: ")?;
-    put_number(&mut line, i128::from(offence.number))?;
+    put_counted(
+        &mut line,
+        b"gmus: input refused: ",
+        u64::from(offence.number),
+    )?;
     line.extend_from_slice(b" ")?;
     line.extend_from_slice(offence.name().as_bytes())?;
     line.extend_from_slice(text_of_limit(offence.limit).as_bytes())?;
-    line.extend_from_slice(b" at line ")?;
-    put_number(&mut line, i128::from(offence.line))?;
-    line.extend_from_slice(b" byte ")?;
-    put_number(&mut line, i128::from(offence.byte))?;
+    put_counted(&mut line, b" at line ", offence.line)?;
+    put_counted(&mut line, b" byte ", offence.byte)?;
     line.extend_from_slice(b"\n")?;
     Ok(line)
 }
@@ -45,10 +46,8 @@ pub fn line_of_evidence(alloc: Global, line: u64, why: &Why) -> Result<Vec<u8>, 
     ensures { IfOk result (λ text. text.items ≡ evidence_line (record { line = line; why = why.now })) }
 {
     let mut text = Vec::new(alloc);
-    text.extend_from_slice(b"gmus: evidence refused: line ")?;
-    put_number(&mut text, i128::from(line))?;
-    text.extend_from_slice(b": ")?;
-    put_number(&mut text, i128::from(why.number()))?;
+    put_counted(&mut text, b"gmus: evidence refused: line ", line)?;
+    put_counted(&mut text, b": ", u64::from(why.number()))?;
     text.extend_from_slice(b" ")?;
     text.extend_from_slice(why.name().as_bytes())?;
     text.extend_from_slice(b"\n")?;
