@@ -1,3 +1,4 @@
+use Rattle.std.proofs.Common.{rules}
 use Rattle.worker_pool.proofs.Given.{given}
 use Rattle.worker_pool.proofs.Steps.{take_job, take_ends, same-seat}
 use Rattle.worker_pool.proofs.marco.work_beside.Goals as goal
@@ -9,6 +10,10 @@ work_on-requires-clause-given g c =
 
 pub work_on-requires-clause-at : goal.work_on-requires-clause-at
 work_on-requires-clause-at g c = take_job c.in-Job.turn c.in-Job.grant c.in-Job.seed c.loop-turn.invariant.at c.in-Job.ensures.call c.in-Job.ensures.worker
+
+-- the purse is what the job was handed out with
+pub work_on-requires-clause-granted : goal.work_on-requires-clause-granted
+work_on-requires-clause-granted g c = search rules
 
 -- each other answer ends the worker
 pub returns : goal.returns
