@@ -18,7 +18,7 @@ mod sets;
 use bases::BasesPlayer;
 use evidence::EvidencePlayer;
 use std::{env, io};
-use trial_script::play;
+use trial_script::{Player, play};
 
 fn main(rt: HostRuntime) -> io::Result<()> {
     for name in env::args(&rt)?.skip(1) {
@@ -30,8 +30,13 @@ fn main(rt: HostRuntime) -> io::Result<()> {
 /// Plays the script of this name.
 fn play_script(rt: &HostRuntime, name: &str) -> io::Result<()> {
     match name.strip_prefix("data/").unwrap_or(name) {
-        "bases" => play(rt, name, &mut BasesPlayer::new(rt.alloc())),
-        "evidence" => play(rt, name, &mut EvidencePlayer::new(rt.alloc())),
+        "bases" => play_by(rt, name, BasesPlayer::new(rt.alloc())),
+        "evidence" => play_by(rt, name, EvidencePlayer::new(rt.alloc())),
         _ => println!(rt; "? {name}"),
     }
+}
+
+/// Owns the player, so that few proofs have to drop one.
+fn play_by<P: Player + Drop>(rt: &HostRuntime, name: &str, mut player: P) -> io::Result<()> {
+    play(rt, name, &mut player)
 }
