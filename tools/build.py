@@ -52,7 +52,16 @@ class Building:
     def __init__(self, log, told):
         self.log, self.told = log, told
         self.crate, self.lines = None, 0
-        self.proved, self.failed = [], []
+        self.proved, self.failed, self.told_of = [], [], []
+
+    def begin(self, crate):
+        """What is heard from now on is said of this crate, which is not done with yet."""
+        self.log.write(f"== {crate}\n")
+        self.crate, self.lines = crate, 0
+
+    def tell(self, crate):
+        self.told_of.append(crate)
+        self.told(crate)
 
     def hear(self, line):
         self.log.write(line)
@@ -64,7 +73,7 @@ class Building:
             self.end(self.lines == 0)
             self.crate, self.lines = heading[1], 0
             if self.crate != "summary":
-                self.told(self.crate)
+                self.tell(self.crate)
         elif ended and ended[2] != "ok":
             self.failed.append(ended[1])
         else:
@@ -81,21 +90,23 @@ def prove(top, below, log, told):
 
     A check of one crate keeps those of others in this repository waiting, so all are one call, which takes the crates at or
     below its folder and those that they stand on, each on one processor. It is stopped before the ends, each of which then
-    gets as many processors as it can use."""
+    gets as many processors as it can use. The last one is proved as it is built and run, which tells that it works."""
     ends = ends_of(below, top)
-    first = set(lowest_first(below, top)) - set(ends)
+    first = set(lowest_first(below, top)) - set(ends) - {top}
     building = Building(log, told)
     # A crate that waits for those below it keeps its place among those that run.
     status = call(["rt", "all", "check", "--jobs", str(lanes(processors() * 3 // 2))], top, building,
-                  lambda: bool(ends) and first <= set(building.proved))
+                  lambda: len(ends) > 0 and first <= set(building.proved))
     if status and not building.failed:
         building.failed.append(top)
-    for crate in ends:
-        if crate in building.proved or building.failed:
-            continue
-        building.hear(f"== {crate}\n")
-        if call(["rt", "check" if crate == top else "lib"], crate, building, lambda: False):
+    for crate in [it for it in ends if it != top and it not in building.proved] + [top]:
+        if building.failed:
+            break
+        building.begin(crate)
+        if call(["rt", "run", "--", "list", "data/first.gcnf"] if crate == top else ["rt", "lib"], crate, building, lambda: False):
             building.failed.append(crate)
+        elif crate not in building.told_of:
+            building.tell(crate)
     return building.failed
 
 
@@ -131,12 +142,9 @@ def main(words):
     with open(os.path.join(TOP, "build.log"), "w", encoding="utf-8") as log:
         if prove(PROGRAM, below, log, told):
             return 1
-        for crate, own in owns.items():
-            note_proved(crate, below, own)
-        # The run tells whether there is a program that works.
-        ended = subprocess.run(["rt", "run", "--", "list", "data/first.gcnf"], cwd=os.path.join(TOP, "crates", PROGRAM),
-                               stdin=subprocess.DEVNULL, stdout=log, stderr=subprocess.STDOUT, check=False)
-    return 1 if ended.returncode else 0
+    for crate, own in owns.items():
+        note_proved(crate, below, own)
+    return 0
 
 
 if __name__ == "__main__":
