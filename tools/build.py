@@ -7,6 +7,7 @@ What the toolchain says goes to build.log at the top of the repository, a crate 
 for each crate that is done with, and how long it has been so far. Where one fails, nothing above it is begun, and the
 status is 1.
 """
+import contextlib
 import os
 import re
 import signal
@@ -95,8 +96,9 @@ def prove(top, below, log, told):
     first = set(lowest_first(below, top)) - set(ends) - {top}
     building = Building(log, told)
     # A crate that waits for those below it keeps its place among those that run.
-    status = call(["rt", "all", "check", "--jobs", str(lanes(processors() * 3 // 2))], top, building,
-                  lambda: len(ends) > 0 and first <= set(building.proved))
+    with beside_the_look([it for it in lowest_first(below, top) if not below[it]]):
+        status = call(["rt", "all", "check", "--jobs", str(lanes(processors() * 3 // 2))], top, building,
+                      lambda: len(ends) > 0 and first <= set(building.proved))
     if status and not building.failed:
         building.failed.append(top)
     for crate in [it for it in ends if it != top and it not in building.proved] + [top]:
@@ -108,6 +110,24 @@ def prove(top, below, log, told):
         elif crate not in building.told_of:
             building.tell(crate)
     return building.failed
+
+
+@contextlib.contextmanager
+def beside_the_look(crates):
+    """Has some crates that stand on no other proved meanwhile: the common call looks over all sources first, for a minute, and
+    needs two processors for that. It takes over what was kept of them, and waits for one that is at work. What they say is
+    not kept: where one fails, it fails again in that call."""
+    going = []
+    try:
+        for crate in crates[:max(0, lanes(processors()) - 2)]:
+            going.append(subprocess.Popen(["rt", "lib"], cwd=os.path.join(TOP, "crates", crate), stdin=subprocess.DEVNULL,
+                                          stdout=subprocess.DEVNULL, stderr=subprocess.DEVNULL, start_new_session=True))
+        yield
+    finally:
+        for it in going:
+            if it.poll() is None:
+                os.killpg(it.pid, signal.SIGTERM)
+            it.wait()
 
 
 def call(words, crate, building, is_enough):
