@@ -87,23 +87,12 @@ pub record MayBringIn (db : List StoredClause) (es : List Entry) (id : ℕ) : Ty
   pub is_id : IsId db id
   pub values : HaveValues (trues es) (clause_at db id).lits
 
-may_bring_in_of : (db : List StoredClause) (es : List Entry) (p : ℕ) (e : Entry) (id : ℕ) → p < length es → oldest (p + 1) es ≡ e ∷ oldest p es → IsReason db (trues (oldest p es)) e.lit id
-    → MayBringIn db es id
-may_bring_in_of db es p e id lt at f =
-    let on : In e.lit (trues es) = subst (λ (l : ℤ). In l (trues es)) (literal_of es p e at) (literal_true es p lt) in
-    record { is_id = named_id db id f.clause f.named; values = named_values db id f.clause (trues es) f.named (reason_values db es p id e.lit f on) }
-
 pub may_bring_in : (db : List StoredClause) (es : List Entry) (p : ℕ) (e : Entry) (id : ℕ) → AreReasoned db es → p < length es → oldest (p + 1) es ≡ e ∷ oldest p es → hint_of e ≡ Some id
     → MayBringIn db es id
-may_bring_in db es p e id r lt at is = may_bring_in_of db es p e id lt at (hint_forces db es p e id r at is)
-
--- what a reason names is a clause of the store, whose literals have values
-pub may_be_followed : (db : List StoredClause) (es : List Entry) (p : ℕ) (e : Entry) (id : ℕ) → AreReasoned db es → p < length es → oldest (p + 1) es ≡ e ∷ oldest p es → e.reason ≡ Some id
-    → MayBringIn db es id
-may_be_followed db es p e id r lt at is =
-    let here : AreReasoned db (e ∷ oldest p es) = subst (AreReasoned db) at (reasoned_oldest db (p + 1) es r) in
-    let f : IsReason db (trues (oldest p es)) e.lit id = subst (HasReason db (trues (oldest p es)) e.lit) is here.0 in
-    may_bring_in_of db es p e id lt at f
+may_bring_in db es p e id r lt at is =
+    let f = hint_forces db es p e id r at is in
+    let on : In e.lit (trues es) = subst (λ (l : ℤ). In l (trues es)) (literal_of es p e at) (literal_true es p lt) in
+    record { is_id = named_id db id f.clause f.named; values = named_values db id f.clause (trues es) f.named (reason_values db es p id e.lit f on) }
 
 -- Steps.
 

@@ -1,5 +1,5 @@
 -- What holds of a clause on its way down the trail, by resolution with reasons (GRASP: Marques-Silva and Sakallah 1999).
-use Rattle.std.specs.Prelude.{◌≡◌, ℕ, ◌+◌, ◌<◌, ◌≤◌, List, [], ◌∷◌, ◌++◌, reverse, length, ℤ, neg_ℤ, Bool, true, false, Some, None}
+use Rattle.std.specs.Prelude.{◌≡◌, ◌⊎◌, ℕ, ◌+◌, ◌<◌, ◌≤◌, List, [], ◌∷◌, ◌++◌, reverse, length, ℤ, neg_ℤ, Bool, true, false, Some, None}
 use Rattle.sat_base.specs.Members.{In}
 use Rattle.sat_base.specs.Derivation.{clause_of}
 use Rattle.sat_base.specs.Database.{StoredClause, known_of}
@@ -51,47 +51,36 @@ pub record IsAboveUip (db : List StoredClause) (es : List Entry) (places : List 
   pub none_kept : lits ≡ []
   pub some_top : HasTop es places
 
--- each of these places is of a level below the top one
-abbrev pub AreBelowTop : List Entry → List ℕ → Type 0
-AreBelowTop es places = (p : ℕ) → In p places → level_of es p < top es
-
--- at the first unique implication point: its literal alone was kept, and the others are of lower levels
-pub record IsAtUip (db : List StoredClause) (es : List Entry) (places : List ℕ) (lits : List ℤ) (hints : List ℕ) : Type 0 where
+-- at the first unique implication point: its literal alone was kept, and this is the highest level of the others
+pub record IsAtUip (db : List StoredClause) (es : List Entry) (places : List ℕ) (lits : List ℤ) (hints : List ℕ) (back : ℕ) : Type 0 where
   pub analysis : IsAnalysis db es (length es) places lits hints
   pub first : ℤ
   pub is : lits ≡ first ∷ []
   pub is_false : In (neg_ℤ first) (trues es)
   pub unset : IsUnset (trues (before_last es)) first
-  pub below : AreBelowTop es places
+  pub below : back < top es
+  pub above : (p : ℕ) → In p places → level_of es p ≤ back
+  pub reached : 0 < back → (p : ℕ) × In p places × (level_of es p ≡ back)
+
+-- the place is one of these, or of level 0
+abbrev pub IsFrom : List Entry → List ℕ → ℕ → Type 0
+IsFrom es places p = In p places ⊎ (level_of es p ≡ 0)
 
 -- the literal is false by the value at one of these places
 abbrev pub IsFalseAt : List Entry → List ℕ → ℤ → Type 0
 IsFalseAt es places lit = (p : ℕ) × In p places × (lit ≡ false_at es p)
 
--- the literal is false by a value above level 0, up to a level
-pub record IsFalseUpTo (es : List Entry) (level : ℕ) (lit : ℤ) : Type 0 where
-  pub place : ℕ
-  pub within : place < length es
-  pub above_root : 0 < level_of es place
-  pub up_to : level_of es place ≤ level
-  pub is : lit ≡ false_at es place
+-- the literal is false by the value at one of these places, above level 0
+abbrev pub IsFalseAbove : List Entry → List ℕ → ℤ → Type 0
+IsFalseAbove es places lit = (p : ℕ) × In p places × (0 < level_of es p) × (lit ≡ false_at es p)
 
--- one of the literals is false by a value of this level
-pub record HasLevel (es : List Entry) (lits : List ℤ) (level : ℕ) : Type 0 where
-  pub place : ℕ
-  pub within : place < length es
-  pub of_level : level_of es place ≡ level
-  pub has : In (false_at es place) lits
-
--- what was looked at after the first unique implication point: literals above level 0 were kept, of which this is the highest
--- level; what is still to be looked at is below the top level, too
-pub record AreKept (es : List Entry) (before : List ℤ) (places : List ℕ) (lits : List ℤ) (back : ℕ) : Type 0 where
+-- what was looked at after the first unique implication point: the literals above level 0 are kept, the others resolved
+pub record AreKept (es : List Entry) (first : List ℕ) (before : List ℤ) (places : List ℕ) (lits : List ℤ) : Type 0 where
   pub added : List ℤ
   pub is : lits ≡ before ++ added
-  pub below : back < top es
-  pub places_below : AreBelowTop es places
-  pub added_from : (l : ℤ) → In l added → IsFalseUpTo es back l
-  pub reached : 0 < back → HasLevel es added back
+  pub places_from : (p : ℕ) → In p places → IsFrom es first p
+  pub added_from : (l : ℤ) → In l added → IsFalseAbove es first l
+  pub all : (p : ℕ) → In p first → 0 < level_of es p → In p places ⊎ In (false_at es p) added
 
 -- on the way down to the decisions: beside what a core begins with, which became true after all that the analysis uses,
 -- negated decisions are kept

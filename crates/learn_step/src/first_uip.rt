@@ -2,16 +2,15 @@
 //!
 //! Literals of the top level are resolved with the clauses that forced their negations until one is left. It is on
 //! every path from the decision to the conflict, and no nearer one is (GRASP: Marques-Silva and Sakallah 1999). Of the
-//! others, those of level 0 are resolved away, too, and those that the clause can do without.
-ghost use Rattle.std.specs.Prelude.{◌≡◌, ◌<◌, true, false, length, max, IfOk, OnOk, []};
+//! others, those of level 0 are resolved away, too.
+ghost use Rattle.std.specs.Prelude.{◌≡◌, ◌<◌, length, IfOk, OnOk, []};
 ghost use Rattle.trail_book.specs.Trail.{top, IsTrail};
 ghost use Rattle.learn_step.specs.Reasons.{AreReasoned, IsConflict};
 ghost use Rattle.learn_step.specs.Learnt.{IsLearnt};
-ghost use Rattle.learn_step.specs.Analysis.{IsAnalysis, IsAboveUip, IsAtUip, AreBelowTop, AreKept};
+ghost use Rattle.learn_step.specs.Analysis.{IsAnalysis, IsAboveUip, IsAtUip, AreKept};
 
 use crate::analysis::Analysis;
 use crate::learnt::Learnt;
-use crate::minimiser::Minimiser;
 use clause_store::Store;
 use std::alloc::{AllocError, Global};
 use trail_book::Trail;
@@ -27,17 +26,17 @@ pub fn learn(alloc: Global, store: &Store, trail: &Trail, id: u64) -> Result<Lea
     let _vars = trail.vars();
     let mut analysis = Analysis::new(alloc);
     analysis.bring_in(store, trail, id, trail.len())?;
-    to_first_uip(&mut analysis, store, trail)?;
-    let back_level = keep_others(alloc, &mut analysis, store, trail)?;
+    let back_level = to_first_uip(&mut analysis, store, trail)?;
+    keep_others(&mut analysis, store, trail)?;
     Ok(analysis.finish(back_level))
 }
 
-/// Resolves literals of the top level away until one is left, and keeps it.
-fn to_first_uip(analysis: &mut Analysis, store: &Store, trail: &Trail) -> Result<(), AllocError>
+/// Resolves literals of the top level away until one is left, and keeps it. Gives the highest level of the others.
+fn to_first_uip(analysis: &mut Analysis, store: &Store, trail: &Trail) -> Result<u32, AllocError>
     requires reasoned { AreReasoned store.now.clauses trail.now.entries }
     requires level { 0 < top trail.now.entries }
     requires above { IsAboveUip store.now.clauses trail.now.entries analysis.old.places analysis.old.lits.items analysis.old.hints.items }
-    ensures { OnOk result (IsAtUip store.now.clauses trail.now.entries analysis.new.places analysis.new.lits.items analysis.new.hints.items) }
+    ensures { IfOk result (λ back. IsAtUip store.now.clauses trail.now.entries analysis.new.places analysis.new.lits.items analysis.new.hints.items back) }
 {
     let _vars = trail.vars();
     while let Some(place) = analysis.take_place(trail) {
@@ -45,42 +44,23 @@ fn to_first_uip(analysis: &mut Analysis, store: &Store, trail: &Trail) -> Result
         let stays = next_level < trail.top();
         analysis.step(store, trail, place, stays)?;
         if stays {
-            return Ok(());
+            return Ok(next_level);
         }
     }
     unreachable!()
 }
 
-/// Keeps the literals that the clause can't do without in the order of the trail, the newest first, and resolves the others
-/// away. Gives the highest level of those that it kept, and 0 where there are none.
-fn keep_others(
-    alloc: Global,
-    analysis: &mut Analysis,
-    store: &Store,
-    trail: &Trail,
-) -> Result<u32, AllocError>
+/// Keeps the literals above level 0 in the order of the trail, the newest first, and resolves the others away.
+fn keep_others(analysis: &mut Analysis, store: &Store, trail: &Trail) -> Result<(), AllocError>
     requires reasoned { AreReasoned store.now.clauses trail.now.entries }
     requires analysis { IsAnalysis store.now.clauses trail.now.entries (length trail.now.entries) analysis.old.places analysis.old.lits.items analysis.old.hints.items }
-    requires level { 0 < top trail.now.entries }
-    requires below { AreBelowTop trail.now.entries analysis.old.places }
     ensures analysis { OnOk result (IsAnalysis store.now.clauses trail.now.entries (length trail.now.entries) [] analysis.new.lits.items analysis.new.hints.items) }
-    ensures kept { IfOk result (λ back. AreKept trail.now.entries analysis.old.lits.items [] analysis.new.lits.items back) }
+    ensures kept { OnOk result (AreKept trail.now.entries analysis.old.places analysis.old.lits.items [] analysis.new.lits.items) }
 {
     let _vars = trail.vars();
-    let mut minimiser = Minimiser::new(alloc);
-    let mut back_level = 0;
     while let Some(place) = analysis.take_place(trail) {
-        let stays = minimiser.keeps(store, trail, &analysis.places, place)?;
-        back_level = raised(back_level, trail.level_at(place), stays);
+        let stays = trail.level_at(place) > 0;
         analysis.step(store, trail, place, stays)?;
     }
-    Ok(back_level)
-}
-
-/// The higher one of two levels, if the second counts.
-fn raised(level: u32, other: u32, counts: bool) -> u32
-    ensures counts { counts ≡ true → result ≡ max level other }
-    ensures same { counts ≡ false → result ≡ level }
-{
-    if counts { level.max(other) } else { level }
+    Ok(())
 }

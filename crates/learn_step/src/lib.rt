@@ -11,14 +11,13 @@
 //!
 //! Start reading at `specs/Reasons.antt`, which says what a trail has to be, and at `specs/Learnt.antt`, which says what
 //! comes out; then at `analysis`, whose head has the idea. No clause says that the learnt clause is the shortest, nor
-//! how many steps it takes.
+//! how many steps it takes, and literals that others imply are not looked for.
 #![tactic(auto)]
 
 mod analysis;
 mod cores;
 mod first_uip;
 mod learnt;
-mod minimiser;
 mod origin;
 mod pending;
 

@@ -50,14 +50,6 @@ impl Pending {
         Ok(())
     }
 
-    /// Whether the place is there.
-    pub fn has(&self, place: u64) -> bool {
-        match self.words.get((place / 64) as usize) {
-            Some(word) => word >> (63 - place % 64) & 1 == 1,
-            None => false,
-        }
-    }
-
     /// The greatest place.
     pub fn greatest(&self) -> Option<u64>
         ensures { TellsGreatest self.now result }

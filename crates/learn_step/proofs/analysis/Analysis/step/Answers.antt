@@ -13,6 +13,6 @@ bring_in-requires-clause-values c =
     (may_bring_in c.args.store.now.clauses c.args.trail.now.entries c.args.place c.entry-entry.result c.in-Some.id c.requires.reasoned c.requires.in_range c.entry-entry.ensures
     (sym c.hint.ensures ∙ c.in-Some.is)).values
 
--- the literal stays, or what the reason needs comes in its place
-pub returns : goal.returns
-returns c = search rules
+-- the literal that is false stays
+pub returns-then-stays : goal.returns-then-stays
+returns-then-stays c = search rules
