@@ -13,3 +13,10 @@ returns-in-Ok g c =
     let new = outside files (g.O.Sink.got c.write_shown.new.out) (g.O.Sink.faults c.write_shown.new.out) in
     checking-reports k (g.F.Files.state c.args.files.now) mid new c.in-Ok.field-0 c.in-Ok.ensures.leaves c.in-Ok.ensures.begun refl c.write_shown.result
     (c.write_shown.ensures files)
+
+-- what stopped the reading ends the command
+pub returns-in-Err : goal.returns-in-Err
+returns-in-Err g c =
+    let k : Checking = record { file = c.args.checking.file.now; evidence = c.args.checking.evidence.now } in
+    checking-stopped k (g.F.Files.state c.args.files.now) (g.F.Files.state c.begin.new.files) (g.O.Sink.got c.args.out.now) (g.O.Sink.faults c.args.out.now)
+    c.in-Err.ending c.in-Err.ensures.stopped c.in-Err.ensures.leaves

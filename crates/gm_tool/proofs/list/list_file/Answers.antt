@@ -17,3 +17,12 @@ returns-in-Ok g c =
     let new = outside (g.F.Files.state c.list_problem.new.files) (g.O.Sink.got c.list_problem.new.out) (g.O.Sink.faults c.list_problem.new.out) in
     listing-lists l (g.F.Files.state c.args.files.now) mid new begun c.in-Ok.ensures.leaves c.in-Ok.ensures.begun c.list_problem.result
     (subst (λ b. Lists begun.problem begun.records b l.evidence mid new c.list_problem.result) c.bounds_for-bounds.ensures c.list_problem.ensures)
+
+-- what stopped the reading ends the command
+pub returns-in-Err : goal.returns-in-Err
+returns-in-Err g c =
+    let a = c.args.listing in
+    let l : Listing =
+    record { file = a.file.now; jobs = a.jobs; conflicts = a.conflicts; limit = a.limit; evidence = text_of a.evidence; resume = text_of a.resume } in
+    listing-stopped l (g.F.Files.state c.args.files.now) (g.F.Files.state c.begin.new.files) (g.O.Sink.got c.args.out.now) (g.O.Sink.faults c.args.out.now)
+    c.in-Err.ending c.in-Err.ensures.stopped c.in-Err.ensures.leaves
