@@ -32,7 +32,7 @@ def lines_of(text, name):
         return clause_at(lines, next(i for i, line in enumerate(lines) if re.match(rf"\s*{name}\b", line)))
     if re.search(rf"(?m)^pub struct {name} ", text):
         return clause_at(lines, next(i for i, line in enumerate(lines) if line.startswith(f"pub struct {name} ")))
-    at = next(i for i, line in enumerate(lines) if re.match(rf"(?:\w+ )*{re.escape(first)} ", line))
+    at = next(i for i, line in enumerate(lines) if re.match(rf"(?:[\w()]+ )*{re.escape(first)} ", line))
     # A definition goes on up to an empty line, and the lines of comment in it don't count.
     end = next((i for i in range(at, len(lines)) if not lines[i]), len(lines))
     found = [i for i in range(at, end) if not lines[i].strip().startswith("--")]
@@ -195,7 +195,7 @@ class Documents(unittest.TestCase):
 
     def test_each_example_is_told_of(self):
         for name in os.listdir(os.path.join(TOP, "examples")):
-            if name.endswith(".gcnf"):
+            if name.endswith((".gcnf", ".cnf")):
                 self.assertIn(name, text_of("examples/README.md"))
 
 

@@ -1,5 +1,8 @@
 pub mod StepLemmas
+pub mod ClauseLemmas
 pub mod HeaderLemmas
+pub mod NumberedLemmas
+pub mod LiteralLemmas
 pub mod AcceptedLemmas
 pub mod SameLemmas
 pub mod TableLemmas

@@ -27,6 +27,7 @@ use Rattle.token_text.proofs.CursorLemmas.{is_taken, left_from-blank, left_from-
 use Rattle.gm_base.specs.declared.clause.Clause.{Clause}
 use Rattle.gm_base.specs.Problem.{Problem, IsClause, IsProblem}
 use Rattle.sat_base.specs.Literals.{AreLiterals, IsLiteral}
+use Rattle.gcnf_text.specs.declared.form.Form.TheVariants.{Gcnf}
 use Rattle.gcnf_text.specs.Grammar.{IsWithinLimits, clause_kinds, kinds_of, problem_kinds}
 use Rattle.gcnf_text.specs.Plain.{clause_line, literals_text, plain_text}
 
@@ -174,7 +175,7 @@ chain_of_five : (a b c d e rest : List ℕ) → (a ++ b ++ c ++ d ++ e) ++ rest 
 chain_of_five a b c d e rest = simp append_assoc
 
 spells-clause : (vars groups : ℕ) (c : Clause) (rest : List ℕ) (ks : List Kind) → vars < 2 ^ 63 → groups < 2 ^ 63 → IsClause vars groups c → Spells rest ks
-    → Spells (clause_line c ++ rest) (clause_kinds c ++ ks)
+    → Spells (clause_line c ++ rest) (clause_kinds Gcnf c ++ ks)
 spells-clause vars groups c rest ks small few is behind =
     let high = is.group in
     let ended : List ℕ = 48 ∷ 10 ∷ rest in
@@ -185,24 +186,24 @@ spells-clause vars groups c rest ks small few is behind =
     spells-literals vars c.lits (32 ∷ ended) (Number (pos 0) ∷ ks) small is.lits refl (spells-blank ended (Number (pos 0) ∷ ks) zero) in
     let at_group : Spells (decimal c.group ++ 125 ∷ lits) (Number (pos c.group) ∷ CloseBrace ∷ literal_kinds) =
     spells-decimal c.group (125 ∷ lits) (CloseBrace ∷ literal_kinds) (omega (arith, high)) refl (spells-close lits literal_kinds at_literals) in
-    let kinds : OpenBrace ∷ Number (pos c.group) ∷ CloseBrace ∷ literal_kinds ≡ clause_kinds c ++ ks =
+    let kinds : OpenBrace ∷ Number (pos c.group) ∷ CloseBrace ∷ literal_kinds ≡ clause_kinds Gcnf c ++ ks =
     ap (λ (ls : List Kind). OpenBrace ∷ Number (pos c.group) ∷ CloseBrace ∷ ls) (sym (append_assoc (map Number c.lits) (Number (pos 0) ∷ []) ks)) in
-    subst (λ (bytes : List ℕ). Spells bytes (clause_kinds c ++ ks)) (sym (chain_of_five (codes "{") (decimal c.group) (codes "}") (literals_text c.lits) (codes " 0\n") rest))
+    subst (λ (bytes : List ℕ). Spells bytes (clause_kinds Gcnf c ++ ks)) (sym (chain_of_five (codes "{") (decimal c.group) (codes "}") (literals_text c.lits) (codes " 0\n") rest))
     (subst (λ (ls : List Kind). Spells (123 ∷ (decimal c.group ++ 125 ∷ lits)) ls) kinds
     (spells-open (decimal c.group ++ 125 ∷ lits) (Number (pos c.group) ∷ CloseBrace ∷ literal_kinds) at_group))
 
 spells-clauses : (vars groups : ℕ) (cs : List Clause) → vars < 2 ^ 63 → groups < 2 ^ 63 → AllByRecursion (IsClause vars groups) cs
-    → Spells (flat_map clause_line cs) (flat_map clause_kinds cs)
+    → Spells (flat_map clause_line cs) (flat_map (clause_kinds Gcnf) cs)
 spells-clauses vars groups [] small few are = spells-nothing
 spells-clauses vars groups (c ∷ cs) small few are =
-    spells-clause vars groups c (flat_map clause_line cs) (flat_map clause_kinds cs) small few are.0 (spells-clauses vars groups cs small few are.1)
+    spells-clause vars groups c (flat_map clause_line cs) (flat_map (clause_kinds Gcnf) cs) small few are.0 (spells-clauses vars groups cs small few are.1)
 
 -- ---- the whole text
 
 chain_of_seven : (a b c d e f g rest : List ℕ) → (a ++ b ++ c ++ d ++ e ++ f ++ g) ++ rest ≡ a ++ (b ++ (c ++ (d ++ (e ++ (f ++ (g ++ rest))))))
 chain_of_seven a b c d e f g rest = simp append_assoc
 
-spells-plain : (p : Problem) → IsProblem p → IsWithinLimits p → Spells (plain_text p) (problem_kinds p)
+spells-plain : (p : Problem) → IsProblem p → IsWithinLimits p → Spells (plain_text p) (problem_kinds Gcnf p)
 spells-plain p well_formed limits =
     let v = limits.vars in
     let m = limits.clauses in
@@ -212,7 +213,7 @@ spells-plain p well_formed limits =
     let groups : List ℕ = decimal p.groups ++ 10 ∷ body in
     let count : List ℕ = decimal n ++ 32 ∷ groups in
     let vars : List ℕ = decimal p.vars ++ 32 ∷ count in
-    let clauses : List Kind = flat_map clause_kinds p.clauses in
+    let clauses : List Kind = flat_map (clause_kinds Gcnf) p.clauses in
     let at_body : Spells body clauses = spells-clauses p.vars p.groups p.clauses (omega (arith, v)) (omega (arith, g)) well_formed in
     let at_groups : Spells groups (Number (pos p.groups) ∷ clauses) =
     spells-decimal p.groups (10 ∷ body) clauses (omega (arith, g)) refl (spells-newline body clauses at_body) in
@@ -222,13 +223,13 @@ spells-plain p well_formed limits =
     spells-decimal p.vars (32 ∷ count) _ (omega (arith, v)) refl (spells-blank count _ at_count) in
     let at_format : Spells (codes "gcnf" ++ 32 ∷ vars) (Word (codes "gcnf") ∷ Number (pos p.vars) ∷ Number (pos n) ∷ Number (pos p.groups) ∷ clauses) =
     spells-run (codes "gcnf") (32 ∷ vars) (Word (codes "gcnf")) _ (refl, (refl, (refl, (refl, (refl, tt))))) refl refl (spells-blank vars _ at_vars) in
-    let at_start : Spells (codes "p" ++ 32 ∷ (codes "gcnf" ++ 32 ∷ vars)) (problem_kinds p) =
+    let at_start : Spells (codes "p" ++ 32 ∷ (codes "gcnf" ++ 32 ∷ vars)) (problem_kinds Gcnf p) =
     spells-run (codes "p") (32 ∷ (codes "gcnf" ++ 32 ∷ vars)) (Word (codes "p")) _ (refl, (refl, tt)) refl refl (spells-blank (codes "gcnf" ++ 32 ∷ vars) _ at_format) in
-    subst (λ (bytes : List ℕ). Spells bytes (problem_kinds p))
+    subst (λ (bytes : List ℕ). Spells bytes (problem_kinds Gcnf p))
     (sym (chain_of_seven (codes "p gcnf ") (decimal p.vars) (codes " ") (decimal n) (codes " ") (decimal p.groups) (codes "\n") body)) at_start
 
 -- the tokens of the plain text are those of the problem
-pub kinds_of-plain : (p : Problem) → IsProblem p → IsWithinLimits p → kinds_of (tokens_of (plain_text p)) ≡ problem_kinds p
+pub kinds_of-plain : (p : Problem) → IsProblem p → IsWithinLimits p → kinds_of (tokens_of (plain_text p)) ≡ problem_kinds Gcnf p
 kinds_of-plain p well_formed limits =
     sym (ap kinds_left (left_from-start (plain_text p))) ∙ spells-plain p well_formed limits Blanks 1 1 (λ e. cc)
 

@@ -1,13 +1,14 @@
 -- How long a plain text can be: 7 bytes for a literal, 10 for a clause beside its literals, and 27 for the header.
-use Rattle.std.proofs.Common.{◌≡◌, ℕ, suc, ◌+◌, ◌*◌, ◌≤◌, List, [], ◌∷◌, ◌++◌, length, arith, ℤ, pos, negsuc, codes}
+use Rattle.std.proofs.Common.{◌≡◌, ℕ, suc, ◌+◌, ◌*◌, ◌≤◌, List, [], ◌∷◌, ◌++◌, length, refl, sym, ◌∙◌, arith, ℤ, pos, negsuc, codes}
 use Rattle.std.specs.List.{AllByRecursion, flat_map}
 use Rattle.std.specs.Fmt.{decimal, signed_decimal}
 use Rattle.std.proofs.lemmas.Fmt.{length-decimal-le}
-use Rattle.std.proofs.lemmas.List.{length-append}
+use Rattle.std.proofs.lemmas.List.{append-nil, length-append}
 use Rattle.gm_base.specs.declared.clause.Clause.{Clause}
 use Rattle.gm_base.specs.Problem.{Problem, IsClause, IsProblem}
 use Rattle.sat_base.specs.Literals.{AreLiterals, IsLiteral}
-use Rattle.gcnf_text.specs.Grammar.{IsWithinLimits, literal_count, max_bytes, max_groups, max_vars}
+use Rattle.gcnf_text.specs.declared.form.Form.TheVariants.{Gcnf}
+use Rattle.gcnf_text.specs.Grammar.{IsWithinLimits, literal_count, max_bytes, max_groups, max_vars, problem_kinds}
 use Rattle.gcnf_text.specs.Plain.{PlainIsRead, clause_line, header_line, literals_text, plain_text}
 use Rattle.gcnf_text.proofs.AcceptedLemmas.{literal_count-cons}
 use Rattle.gcnf_text.proofs.PlainLemmas.{kinds_of-plain}
@@ -60,4 +61,15 @@ length-plain p well_formed limits =
 
 pub plain_is_read : PlainIsRead
 plain_is_read p well_formed limits =
-    record { well_formed = well_formed; limits = limits; bytes = length-plain p well_formed limits; kinds = kinds_of-plain p well_formed limits }
+    record {
+      well_formed = well_formed;
+      limits = limits;
+      bytes = length-plain p well_formed limits;
+      form = Gcnf;
+      kinds = record {
+        groups = tt;
+        behind = [];
+        same = kinds_of-plain p well_formed limits ∙ sym (append-nil (problem_kinds Gcnf p));
+        follows = refl;
+      };
+    }

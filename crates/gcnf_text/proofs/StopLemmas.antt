@@ -10,6 +10,8 @@ use Rattle.gm_base.specs.Problem.{Problem}
 use Rattle.gcnf_text.specs.declared.offence.Limit.{Limit}
 use Rattle.gcnf_text.specs.declared.offence.Limit.TheVariants as limit
 use Rattle.gcnf_text.specs.declared.offence.Offence.{Offence}
+use Rattle.gcnf_text.specs.declared.form.Form.{Form}
+use Rattle.gcnf_text.specs.declared.form.Form.TheVariants.{Gcnf, Cnf}
 use Rattle.gcnf_text.specs.Grammar.{Reads, kinds_of, max_bytes}
 use Rattle.gcnf_text.specs.Table as table
 use Rattle.gcnf_text.specs.Table.{Due, Goes, Refused, Sofar, Verdict, after, after_group, at_end, behind_header, end_offence, first_offence, offence_at, offence_from, offence_or}
@@ -46,7 +48,7 @@ faultless_is_read text none = by (ltb max_bytes (length text)) refl
         let verdict : first_offence text ≡ offence_from table.Start (tokens_of text) (end_of text) = rw short refl in
         let (p, are) = accepted_are_kinds (kinds_of (tokens_of text)) (accepts_of table.Start (tokens_of text) (end_of text) (sym verdict ∙ none)) in
         let bytes : length text ≤ max_bytes = grind (arith, common_steps, nat_tests) in
-        (p, record { well_formed = are.well_formed; limits = are.limits; bytes = bytes; kinds = are.same })
+        (p, record { well_formed = are.well_formed; limits = are.limits; bytes = bytes; form = are.form; kinds = are.same })
 
 -- ---- the tokens of a problem are accepted
 
@@ -61,7 +63,8 @@ kinds_of-somewhere (k ∷ ks) = ap (λ ls. k ∷ ls) (kinds_of-somewhere ks)
 kinds_accepted : (ks : List Kind) (p : Problem) → AreKindsOf ks p → Accepts table.Start ks
 kinds_accepted ks p are =
     let end = place 0 0 in
-    let none = whole_goes_on p end are.well_formed are.limits (somewhere ks) (kinds_of-somewhere ks ∙ are.same) in
+    let none = whole_goes_on are.form p are.same.behind end are.well_formed are.limits are.same.groups are.same.follows (somewhere ks)
+    (kinds_of-somewhere ks ∙ are.same.same) in
     subst (λ ls. Accepts table.Start ls) (kinds_of-somewhere ks) (accepts_of table.Start (somewhere ks) end none)
 
 -- ---- where tokens lead, and from there
@@ -88,55 +91,71 @@ group_completes s behind =
     let goes : after_group (pos 0) s ≡ Goes (table.Close s) = grind (arith, common_steps, nat_tests) in
     completes_by (table.Group s) (table.Close s) (Number (pos 0)) goes behind
 
-close_completes : (s : Sofar) → Completes (table.Literals s) → Completes (table.Close s)
-close_completes s behind = completes_by (table.Close s) (table.Literals s) CloseBrace refl behind
+close_completes : (s : Sofar) → Completes (table.Literals Gcnf s) → Completes (table.Close s)
+close_completes s behind = completes_by (table.Close s) (table.Literals Gcnf s) CloseBrace refl behind
 
-literals_complete : (s : Sofar) → Completes (table.Between (record s { ended = s.ended + 1 })) → Completes (table.Literals s)
-literals_complete s behind = completes_by (table.Literals s) (table.Between (record s { ended = s.ended + 1 })) (Number (pos 0)) refl behind
+literals_complete : (form : Form) (s : Sofar) → Completes (table.Between form (record s { ended = s.ended + 1 })) → Completes (table.Literals form s)
+literals_complete form s behind =
+    completes_by (table.Literals form s) (table.Between form (record s { ended = s.ended + 1 })) (Number (pos 0)) refl behind
+
+-- an empty clause
+clause_completes : (form : Form) (s : Sofar) → ltb s.ended s.clauses ≡ true → Completes (table.Between form (record s { ended = s.ended + 1 }))
+    → Completes (table.Between form s)
+clause_completes Gcnf s more behind =
+    let goes : after (table.Between Gcnf s) OpenBrace ≡ Goes (table.Group s) = rw more refl in
+    completes_by (table.Between Gcnf s) (table.Group s) OpenBrace goes
+    (group_completes s (close_completes s (literals_complete Gcnf s behind)))
+clause_completes Cnf s more behind =
+    let goes : after (table.Between Cnf s) (Number (pos 0)) ≡ Goes (table.Between Cnf (record s { ended = s.ended + 1 })) = rw more refl in
+    completes_by (table.Between Cnf s) (table.Between Cnf (record s { ended = s.ended + 1 })) (Number (pos 0)) goes behind
 
 -- as many empty clauses as are due
-clauses_complete : (n : ℕ) (s : Sofar) → s.clauses ≤ s.ended + n → Completes (table.Between s)
-clauses_complete zero s enough =
-    let ends : at_end (table.Between s) ≡ None = grind (arith, common_steps, nat_tests) in
-    ([], record { last = table.Between s; leads = refl; ends = ends })
-clauses_complete (suc n) s enough =
-    by (ltb s.ended s.clauses) (clauses_complete n (record s { ended = s.ended + 1 }) (omega arith)) refl
+clauses_complete : (form : Form) (n : ℕ) (s : Sofar) → s.clauses ≤ s.ended + n → Completes (table.Between form s)
+clauses_complete form zero s enough =
+    let ends : at_end (table.Between form s) ≡ None = grind (arith, common_steps, nat_tests) in
+    ([], record { last = table.Between form s; leads = refl; ends = ends })
+clauses_complete form (suc n) s enough =
+    by (ltb s.ended s.clauses) (clauses_complete form n (record s { ended = s.ended + 1 }) (omega arith)) refl
   where
-    by : (more : Bool) → Completes (table.Between (record s { ended = s.ended + 1 })) → ltb s.ended s.clauses ≡ more → Completes (table.Between s)
+    by : (more : Bool) → Completes (table.Between form (record s { ended = s.ended + 1 })) → ltb s.ended s.clauses ≡ more
+        → Completes (table.Between form s)
     by false behind more =
-        let ends : at_end (table.Between s) ≡ None = rw more refl in
-        ([], record { last = table.Between s; leads = refl; ends = ends })
-    by true behind more =
-        let goes : after (table.Between s) OpenBrace ≡ Goes (table.Group s) = rw more refl in
-        completes_by (table.Between s) (table.Group s) OpenBrace goes
-        (group_completes s (close_completes s (literals_complete s behind)))
+        let ends : at_end (table.Between form s) ≡ None = rw more refl in
+        ([], record { last = table.Between form s; leads = refl; ends = ends })
+    by true behind more = clause_completes form s more behind
 
-between_completes : (s : Sofar) → Completes (table.Between s)
-between_completes s = clauses_complete s.clauses s (omega arith)
+between_completes : (form : Form) (s : Sofar) → Completes (table.Between form s)
+between_completes form s = clauses_complete form s.clauses s (omega arith)
 
 groups_complete : (vars clauses : ℕ) → Completes (table.Groups vars clauses)
 groups_complete vars clauses =
-    completes_by (table.Groups vars clauses) (table.Between (behind_header vars clauses 0)) (Number (pos 0)) refl (between_completes (behind_header vars clauses 0))
+    completes_by (table.Groups vars clauses) (table.Between Gcnf (behind_header vars clauses 0)) (Number (pos 0)) refl
+    (between_completes Gcnf (behind_header vars clauses 0))
 
-count_completes : (vars : ℕ) → Completes (table.Clauses vars)
-count_completes vars = completes_by (table.Clauses vars) (table.Groups vars 0) (Number (pos 0)) refl (groups_complete vars 0)
+count_completes : (form : Form) (vars : ℕ) → Completes (table.Clauses form vars)
+count_completes Gcnf vars = completes_by (table.Clauses Gcnf vars) (table.Groups vars 0) (Number (pos 0)) refl (groups_complete vars 0)
+count_completes Cnf vars =
+    completes_by (table.Clauses Cnf vars) (table.Between Cnf (behind_header vars 0 0)) (Number (pos 0)) refl
+    (between_completes Cnf (behind_header vars 0 0))
 
-vars_complete : Completes table.Vars
-vars_complete = completes_by table.Vars (table.Clauses 0) (Number (pos 0)) refl (count_completes 0)
+vars_complete : (form : Form) → Completes (table.Vars form)
+vars_complete form = completes_by (table.Vars form) (table.Clauses form 0) (Number (pos 0)) refl (count_completes form 0)
 
 format_completes : Completes table.Format
-format_completes = completes_by table.Format table.Vars (Word (codes "gcnf")) refl vars_complete
+format_completes = completes_by table.Format (table.Vars Gcnf) (Word (codes "gcnf")) refl (vars_complete Gcnf)
 
 completes : (due : Due) → Completes due
 completes table.Start = completes_by table.Start table.Format (Word (codes "p")) refl format_completes
 completes table.Format = format_completes
-completes table.Vars = vars_complete
-completes (table.Clauses vars) = count_completes vars
+completes (table.Vars form) = vars_complete form
+completes (table.Clauses form vars) = count_completes form vars
 completes (table.Groups vars clauses) = groups_complete vars clauses
-completes (table.Between s) = between_completes s
-completes (table.Group s) = group_completes s (close_completes s (literals_complete s (between_completes (record s { ended = s.ended + 1 }))))
-completes (table.Close s) = close_completes s (literals_complete s (between_completes (record s { ended = s.ended + 1 })))
-completes (table.Literals s) = literals_complete s (between_completes (record s { ended = s.ended + 1 }))
+completes (table.Between form s) = between_completes form s
+completes (table.Group s) =
+    group_completes s (close_completes s (literals_complete Gcnf s (between_completes Gcnf (record s { ended = s.ended + 1 }))))
+completes (table.Close s) = close_completes s (literals_complete Gcnf s (between_completes Gcnf (record s { ended = s.ended + 1 })))
+completes (table.Literals form s) = literals_complete form s (between_completes form (record s { ended = s.ended + 1 }))
+completes table.Rest = ([], record { last = table.Rest; leads = refl; ends = refl })
 
 -- ---- where the first offence stands
 

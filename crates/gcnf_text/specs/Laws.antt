@@ -4,7 +4,8 @@ use Rattle.token_text.specs.Kinds.{Kind}
 use Rattle.token_text.specs.Tokens.{Token, Place, end_of, tokens_of}
 use Rattle.gm_base.specs.Problem.{Problem, IsProblem}
 use Rattle.gcnf_text.specs.declared.offence.Offence.{Offence}
-use Rattle.gcnf_text.specs.Grammar.{IsWithinLimits, Reads, kinds_of, max_bytes, problem_kinds}
+use Rattle.gcnf_text.specs.declared.form.Form.{Form}
+use Rattle.gcnf_text.specs.Grammar.{HasForm, IsWithinLimits, Reads, kinds_of, max_bytes}
 use Rattle.gcnf_text.specs.Table.{first_offence}
 
 -- a text without an offence is one of a problem
@@ -19,11 +20,12 @@ ReadIsFaultless = (text : List ℕ) (p : Problem) → Reads text p → first_off
 abbrev pub ReadsOne : Type 0
 ReadsOne = (text : List ℕ) (p q : Problem) → Reads text p → Reads text q → q ≡ p
 
--- these are the tokens of this problem, which is well formed and within the limits
+-- these are the tokens of this problem in one of the forms, and it is well formed and within the limits
 pub record AreKindsOf (kinds : List Kind) (p : Problem) : Type 0 where
   pub well_formed : IsProblem p
   pub limits : IsWithinLimits p
-  pub same : kinds ≡ problem_kinds p
+  pub form : Form
+  pub same : HasForm form p kinds
 
 -- these tokens go on to those of some problem
 abbrev pub GoOn : List Kind → Type 0

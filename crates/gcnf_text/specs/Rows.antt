@@ -1,14 +1,16 @@
 -- Worked texts, computed from the definitions. The wanted answers were worked out by hand.
-use Rattle.std.specs.Prelude.{◌≡◌, ℕ, [], ◌∷◌, codes, pos, negsuc, Option, Some, None}
+use Rattle.std.specs.Prelude.{◌≡◌, ℕ, [], ◌∷◌, ◌++◌, codes, pos, negsuc, Option, Some, None}
 use Rattle.std.proofs.Common.{refl}
 use Rattle.std.specs.Fmt.{digits}
+use Rattle.token_text.specs.Kinds.{Word, Number}
 use Rattle.token_text.specs.Tokens.{tokens_of}
 use Rattle.gm_base.specs.Problem.{Problem}
 use Rattle.gm_base.specs.Rows.{four_clauses, in_group}
 use Rattle.gcnf_text.specs.declared.offence.Limit.TheVariants as limit
 use Rattle.gcnf_text.specs.declared.offence.Offence.{Offence}
 use Rattle.gcnf_text.specs.declared.reader.TheConstants.{MAX_BYTES}
-use Rattle.gcnf_text.specs.Grammar.{kinds_of, max_bytes, problem_kinds}
+use Rattle.gcnf_text.specs.declared.form.Form.TheVariants.{Gcnf, Cnf}
+use Rattle.gcnf_text.specs.Grammar.{HasGroups, kinds_of, max_bytes, problem_kinds}
 use Rattle.gcnf_text.specs.Table.{first_offence, offence_at}
 use Rattle.gcnf_text.specs.Plain.{plain_text}
 use Rattle.gcnf_text.specs.Chain.{chain_widths, links_from, made_case, states}
@@ -20,13 +22,24 @@ at number line byte = Some (offence_at number None line byte)
 -- free white space, comments, and several clauses a line
 pub free_text :
     kinds_of (tokens_of (codes "c lenient\np gcnf 2 4 4\r\n{ 1 }1 0\r\n  c between\n{2} -1 0 {3} -1\n2 0\n{4} -2 0\n"))
-    ≡ problem_kinds four_clauses
+    ≡ problem_kinds Gcnf four_clauses
 free_text = refl
+
+-- the same problem in the other form, of which each clause is a group, with the ending that old files have
+pub plain_form :
+    kinds_of (tokens_of (codes "p cnf 2 4\n1 0 -1 0\n-1\nc within a clause\n2 0\n-2 0\n%\n0\n"))
+    ≡ problem_kinds Cnf four_clauses ++ Word (codes "%") ∷ Number (pos 0) ∷ []
+plain_form = refl
+
+pub own_groups : HasGroups Cnf four_clauses
+own_groups = (refl, refl)
 
 pub accepted :
     (first_offence (codes "p gcnf 2 4 4\n{1} 1 0\n{2} -1 0\n{3} -1 2 0\n{4} -2 0\n") ≡ None)
     × (first_offence (codes "p gcnf 0 0 0") ≡ None)
-accepted = (refl, refl)
+    × (first_offence (codes "p cnf 2 4\n1 0\n-1 0\n-1 2 0\n-2 0\n") ≡ None)
+    × (first_offence (codes "p cnf 0 0") ≡ None)
+accepted = (refl, refl, refl, refl)
 
 pub cut_or_too_long :
     (first_offence (codes "p gcnf 2 4 4\n{1} 1 0\n{2} -1 0\n{3} -1 2 0\n{4} -2") ≡ at 7 5 7)
@@ -35,9 +48,20 @@ cut_or_too_long = (refl, refl)
 
 pub headers :
     (first_offence [] ≡ at 1 1 1)
-    × (first_offence (codes "p cnf 1 1\n") ≡ at 2 1 3)
+    × (first_offence (codes "p dnf 1 1\n") ≡ at 2 1 3)
     × (first_offence (codes "p gcnf 65537 0 0\n") ≡ Some (offence_at 9 (Some limit.Vars) 1 8))
 headers = (refl, refl, refl)
+
+-- CNF has two numbers in its header, of which the second has two limits
+pub plain_headers :
+    (first_offence (codes "p cnf 1 1\n") ≡ at 7 2 1)
+    × (first_offence (codes "p cnf 65537 0\n") ≡ Some (offence_at 9 (Some limit.Vars) 1 7))
+    × (first_offence (codes "p cnf 1 1000001\n") ≡ Some (offence_at 9 (Some limit.Clauses) 1 9))
+    × (first_offence (codes "p cnf 1 16385\n") ≡ Some (offence_at 9 (Some limit.Groups) 1 9))
+    × (first_offence (codes "p cnf 1 -1\n") ≡ at 2 1 9)
+    × (first_offence (codes "p cnf 1") ≡ at 2 1 8)
+    × (first_offence (codes "p cnf 0 0 0") ≡ at 8 1 11)
+plain_headers = (refl, refl, refl, refl, refl, refl, refl)
 
 pub clauses :
     (first_offence (codes "p gcnf 1 1 4\n{9} 1 0\n") ≡ at 5 2 2)
@@ -45,6 +69,29 @@ pub clauses :
     × (first_offence (codes "p gcnf 2 1 1\n{1} 3 0\n") ≡ at 4 2 5)
     × (first_offence (codes "p gcnf 2 1 1\n{1} 1 x 0\n") ≡ at 3 2 7)
 clauses = (refl, refl, refl, refl)
+
+-- in CNF a brace may come nowhere, and a number behind the last clause begins another one
+pub plain_clauses :
+    (first_offence (codes "p cnf 1 1\n1 0\n-1 0\n") ≡ at 8 3 1)
+    × (first_offence (codes "p cnf 1 1\n{1} 1 0\n") ≡ at 3 2 1)
+    × (first_offence (codes "p cnf 1 1\n1 0 {") ≡ at 3 2 5)
+    × (first_offence (codes "p cnf 1 1\n2 0\n") ≡ at 4 2 1)
+    × (first_offence (codes "p cnf 1 1\n1 -2 0\n") ≡ at 4 2 3)
+    × (first_offence (codes "p cnf 1 1\n1 {") ≡ at 3 2 3)
+    × (first_offence (codes "p cnf 1 1\n1") ≡ at 7 2 2)
+    × (first_offence (codes "p cnf 1 1\nx") ≡ at 3 2 1)
+    × (first_offence (codes "p cnf 1 1\n1 0 x") ≡ at 3 2 5)
+plain_clauses = (refl, refl, refl, refl, refl, refl, refl, refl, refl)
+
+-- an end mark is the end behind the last clause, and too early between clauses; within one it may not come
+pub end_marks :
+    (first_offence (codes "p cnf 1 1\n1 0\n%\n0\n") ≡ None)
+    × (first_offence (codes "p cnf 1 1\n1 0 %{ x -0 9") ≡ None)
+    × (first_offence (codes "p cnf 1 2\n1 0\n%\n") ≡ at 7 3 1)
+    × (first_offence (codes "p cnf 1 1\n1 %\n") ≡ at 3 2 3)
+    × (first_offence (codes "p cnf 1 %\n") ≡ at 2 1 9)
+    × (first_offence (codes "p gcnf 1 0 1\n%\n") ≡ at 3 2 1)
+end_marks = (refl, refl, refl, refl, refl, refl)
 
 -- what spells the tokens of a problem that is not well formed: a 0 within a clause, and a group above the last
 pub not_well_formed :

@@ -1,14 +1,15 @@
-//! The reader of problems in GCNF, and the writer of their plain text.
+//! The reader of problems in GCNF and CNF, and the writer of their plain text.
 //!
 //! GCNF is the group-oriented CNF of the MUS track of the SAT competition 2011, in this project's profile. A text has a
-//! header, and then clauses with their groups in braces:
+//! header, and then clauses with their groups in braces. CNF is that of DIMACS, where each clause is a group of its own:
+//! the first clause is group 1, and there is no background.
 //!
 //! ```text
-//! c two groups over a background
-//! p gcnf 2 3 2
-//! {0} 1 2 0
-//! {1} -1 0
-//! {2} -2 0
+//! c two groups over a background      c three clauses, three groups
+//! p gcnf 2 3 2                        p cnf 2 3
+//! {0} 1 2 0                           1 2 0
+//! {1} -1 0                            -1 0
+//! {2} -2 0                            -2 0
 //! ```
 //!
 //! White space and comment lines may stand between any two tokens. [`read_gcnf`] goes over the tokens once:
@@ -32,6 +33,7 @@
 
 mod chain;
 mod clause;
+mod form;
 mod header;
 pub mod laws;
 mod offence;

@@ -20,3 +20,7 @@ returns-in-Number-3-clause-step c = search rules
 -- within the last
 pub returns-in-Number-3-clause-fits : goal.returns-in-Number-3-clause-fits
 returns-in-Number-3-clause-fits c = search rules
+
+-- an end mark has the offence that is told
+pub returns-in-Word-clause-step : goal.returns-in-Word-clause-step
+returns-in-Word-clause-step c = search rules
