@@ -3,9 +3,9 @@
 
     tools/check_evidence.py FILE EVIDENCE
 
-FILE is the GCNF file, EVIDENCE the evidence about it. If nothing is refused, the report of the evidence's sets is written,
+FILE is the GCNF or CNF file, EVIDENCE the evidence about it. If nothing is refused, the report of the evidence's sets is written,
 and the status is 0. Else the first refusal is told on standard error, and the status is 9, as that of `gmus check`. It is 1
-if FILE is no GCNF file or a file can't be read, and 2 if the words have no reading. It is plain and slow; evidence of some
+if FILE is no such file or a file can't be read, and 2 if the words have no reading. It is plain and slow; evidence of some
 megabytes is fine.
 """
 import re
@@ -30,29 +30,34 @@ class Refused(Exception):
 
 
 class NoProblem(Exception):
-    """Why a text is no GCNF file."""
+    """Why a text is no GCNF or CNF file."""
 
 
 class Problem:
-    """A GCNF file: how many variables, the greatest group, and the clauses, each a group and its literals."""
+    """A GCNF or CNF file: how many variables, the greatest group, and the clauses, each a group and its literals."""
 
     def __init__(self, text):
         lines = [line for line in text.split("\n") if not line.lstrip(" \t").startswith("c")]
         tokens = " ".join(lines).replace("{", " { ").replace("}", " } ").split()
-        if tokens[:2] != ["p", "gcnf"]:
-            raise NoProblem("it does not begin with 'p gcnf'")
-        self.vars, count, self.groups = map(int, tokens[2:5])
-        self.clauses, at = [], 5
-        for _ in range(count):
-            if tokens[at] != "{" or tokens[at + 2] != "}":
-                raise NoProblem("a clause begins with its group in braces")
-            group, lits, at = int(tokens[at + 1]), [], at + 3
+        if tokens[:2] not in (["p", "gcnf"], ["p", "cnf"]):
+            raise NoProblem("it does not begin with 'p gcnf' or 'p cnf'")
+        in_braces = tokens[1] == "gcnf"
+        at = 5 if in_braces else 4
+        # in CNF each clause is a group
+        self.vars, count, self.groups = map(int, tokens[2:5] if in_braces else tokens[2:4] + tokens[3:4])
+        self.clauses = []
+        for group in range(1, count + 1):
+            if in_braces:
+                if tokens[at] != "{" or tokens[at + 2] != "}":
+                    raise NoProblem("a clause begins with its group in braces")
+                group, at = int(tokens[at + 1]), at + 3
+            lits = []
             while int(tokens[at]) != 0:
                 lits.append(int(tokens[at]))
                 at += 1
             self.clauses.append((group, lits))
             at += 1
-        if at != len(tokens):
+        if at != len(tokens) and (in_braces or not tokens[at].startswith("%")):
             raise NoProblem("something stands behind the last clause")
 
     def selector_form(self):
@@ -294,9 +299,9 @@ def problem_of(name):
     try:
         return Problem(text)
     except NoProblem as why:
-        raise telling.Refused(f"{name}: this is no GCNF file: {why}") from None
+        raise telling.Refused(f"{name}: this is no GCNF or CNF file: {why}") from None
     except (ValueError, IndexError):
-        raise telling.Refused(f"{name}: this is no GCNF file: a number is missing in its header or in a clause") from None
+        raise telling.Refused(f"{name}: this is no GCNF or CNF file: a number is missing in its header or in a clause") from None
 
 
 def main(words):

@@ -2,7 +2,7 @@
 
     import gmus_tools
     result = gmus_tools.solve(rules)                    rules: their text, a file, or a mapping from names to lines
-    result = gmus_tools.list_gcnf("laptop.gcnf")        a GCNF file, or its text
+    result = gmus_tools.list_gcnf("laptop.gcnf")        a GCNF or CNF file, or its text
     result = gmus_tools.check("laptop.gcnf", evidence)  what evidence shows, which anybody may have written
     text = gmus_tools.gcnf(rules)                       the GCNF file of rules
 

@@ -4,8 +4,9 @@
     gmus list FILE | tools/names.py FILE [--first N] [--json] [--html [--why EVIDENCE]] [--fail-on-conflict]
     tools/names.py FILE REPORT ..
 
-FILE is the GCNF file. Its comments 'c group 7 TEXT' name its groups; if one group has several of them, their texts are
-joined by a blank. A group with a name is called a rule. The report comes from the file REPORT, or from standard input.
+FILE is the GCNF or CNF file. Its comments 'c group 7 TEXT' name its groups, in CNF clause 7; if one group has several of
+them, their texts are joined by a blank. A group with a name is called a rule. The report comes from the file REPORT, or
+from standard input.
 
 What is written is a text: first the rules, with how many conflicts and how many corrections each is in. Those in most
 conflicts come first, then those in most corrections. Then the conflicts and the corrections, those of few rules first,

@@ -161,6 +161,14 @@ class Contents(unittest.TestCase):
         self.assertEqual(answer("p gcnf 1 1 1\n{1} 1 0\n", whole), (1, "OtherProblem"))
         self.assertEqual(answer(FIRST.replace("{4} -2", "{4} 2"), whole), (8, "NotFalse"))
 
+    def test_a_clause_of_cnf_is_a_group(self):
+        whole = "\n".join(LINES) + "\n"
+        for text, wanted in (("p cnf 2 4\n1 0 -1 0\nc x\n-1 2 0 -2 0\n", FIRST), ("p cnf 2 4 1 0 -1 0 -1 2 0 -2 0 % {0} x\n", FIRST),
+                             ("p cnf 0 1 0\n", EMPTY), ("p cnf 0 0", NOTHING)):
+            found, problem = check_evidence.Problem(text), check_evidence.Problem(wanted)
+            self.assertEqual((found.vars, found.groups, found.clauses), (problem.vars, problem.groups, problem.clauses), text)
+        self.assertEqual(answer("p cnf 2 4 1 0 -1 0 -1 2 0 2 0", whole), (8, "NotFalse"))
+
 
 class Command(unittest.TestCase):
     def run_on(self, text):
@@ -177,14 +185,18 @@ class Command(unittest.TestCase):
     def test_what_is_no_evidence_is_told(self):
         usage = "    tools/check_evidence.py FILE EVIDENCE\n"
         with tempfile.TemporaryDirectory() as room:
-            for text, why in (("x", "it does not begin with 'p gcnf'"), ("p gcnf 1 1", "a number is missing in its header or in a clause"),
+            for text, why in (("x", "it does not begin with 'p gcnf' or 'p cnf'"),
+                              ("p gcnf 1 1", "a number is missing in its header or in a clause"),
+                              ("p cnf 1", "a number is missing in its header or in a clause"),
+                              ("p cnf 1 2 1 0 %", "a number is missing in its header or in a clause"),
+                              ("p cnf 1 1 1 0 x", "something stands behind the last clause"),
                               ("p gcnf 1 1 1 1 0 0", "a clause begins with its group in braces"),
                               ("p gcnf 1 1 1 {1} 1", "a number is missing in its header or in a clause"),
                               ("p gcnf 1 1 1 {1} 1 0 {1} 1 0", "something stands behind the last clause")):
                 path = os.path.join(room, "f")
                 with open(path, "w", encoding="utf-8") as file:
                     file.write(text)
-                self.told([path, path], 1, f"check_evidence.py: {path}: this is no GCNF file: {why}\n")
+                self.told([path, path], 1, f"check_evidence.py: {path}: this is no GCNF or CNF file: {why}\n")
             self.told([room, room], 1, f"check_evidence.py: {room}: Is a directory\n")
             self.told([room + "/x", room], 1, f"check_evidence.py: {room}/x: No such file or directory\n")
         for words in ([], ["a"], ["a", "b", "c"], ["-x", "b"]):

@@ -109,6 +109,8 @@ class Followed(unittest.TestCase):
                  "p gmev 1 1 2 1\nu 1 0\nd 3 -2 0 1 2 0\nr 0 3\nw 1 0\ne partial\n", {(1,): [1, 2]}),
                 ("no conflict", "p gcnf 0 0 0\n", "p gmev 1 0 0 0\nm 0\nw 0 0\nx 1\ne complete\n", {}),
                 ("a CNF file", "p cnf 2 4\n1 0\n-1 0 -1\n2 0\n-2 0", HEAD + record + "e partial\n", {(1, 2): [1, 2]}),
+                ("a CNF file that ends by %", "p cnf 2 4\n1 0\n-1 0 -1 2 0\n-2 0\n%\n0\n{ x\n", HEAD + record + "e partial\n", {(1, 2): [1, 2]}),
+                ("with % behind the last clause", "p cnf 2 4\n1 0\n-1 0 -1\n2 0 -2 0 % 1 0", HEAD + record + "e partial\n", {(1, 2): [1, 2]}),
                 ("a layout of its own", "p gcnf\n 2 4 4\r\n{ 1 }1 0\n\tc x\n{2} -1 0 {3} -1\n2 0\n{4} -2 0",
                  HEAD + record + "e partial\n", {(1, 2): [1, 2]}),
                 ("version 2", PLAIN, "p gmev 2 2 4 4\nm 1 0\nt 2 3\nw 0 0\nt 5 6\nr 1 5\n" + record + "e partial\n",
@@ -159,8 +161,8 @@ class Followed(unittest.TestCase):
 
     def test_files_that_are_none_are_told_with_their_line(self):
         for text, wanted in (
-                ("", "f: line 1: this is no GCNF file"),
-                ("p gmev 1 2 4 4\n", "f: line 1: this is no GCNF file"),
+                ("", "f: line 1: this is no GCNF or CNF file"),
+                ("p gmev 1 2 4 4\n", "f: line 1: this is no GCNF or CNF file"),
                 ("p gcnf 2 x 4\n", "f: line 1: the header has a number that is none"),
                 ("p gcnf 1 2 1\n{1} 1 0\n", "f: line 2: the file ends with 1 whole clauses, and its header says 2"),
                 ("p gcnf 1 1 1\n{1} 1", "f: line 2: the file ends with 0 whole clauses"),
@@ -170,6 +172,9 @@ class Followed(unittest.TestCase):
                 ("p gcnf 1 1 1\n{1} x 0\n", "f: line 2: this is no clause"),
                 ("p gcnf 1 1 1\n1 0\n", "f: line 2: this is no clause"),
                 ("p gcnf 1 1 1\n{1 1 0\n", "f: line 2: this is no clause"),
+                ("p gcnf 1 1 1\n{1} 1 0\n%\n", "f: line 3: this is no clause"),
+                ("p cnf 1 2\n1 0\n%\n", "f: line 3: this is no clause"),
+                ("p cnf 1 1\n1 %\n", "f: line 2: this is no clause"),
         ):
             with self.assertRaises(telling.Refused, msg=text) as refused:
                 problem(text)
@@ -242,7 +247,7 @@ the <second>
                     ([FIRST, EVIDENCE], 0, b""),
                     ([FIRST, EVIDENCE, "2", "--html"], 0, b""),
                     ([FIRST, EVIDENCE, "3"], 1, f"why.py: {EVIDENCE}: there is no conflict 3: it has 2\n".encode()),
-                    ([EVIDENCE, FIRST], 1, f"why.py: {EVIDENCE}: line 1: this is no GCNF file".encode()),
+                    ([EVIDENCE, FIRST], 1, f"why.py: {EVIDENCE}: line 1: this is no GCNF or CNF file".encode()),
                     ([laptop, EVIDENCE], 1,
                      f"why.py: {EVIDENCE}: line 1: 4 OtherProblem: this is no evidence about {laptop}\n".encode()),
                     ([FIRST, os.path.join(EXAMPLES, "first.report")], 1, b"why.py: "),

@@ -4,8 +4,8 @@
     gmus list FILE --evidence EVIDENCE
     tools/why.py FILE EVIDENCE [N] [--html]
 
-FILE is the GCNF file, EVIDENCE what gmus wrote about it (- is standard input). N is the number of a conflict in the report's
-order; without it all are told. What is written is a text, or with --html a page that stands by itself.
+FILE is the GCNF or CNF file, EVIDENCE what gmus wrote about it (- is standard input). N is the number of a conflict in the
+report's order; without it all are told. What is written is a text, or with --html a page that stands by itself.
 
 For a conflict come the lines of its rules, as they were written, and those that hold anyway: all together they can't hold. In
 files with no comments on rules these are clauses, with the names of their variables if the file has them. Each step of the

@@ -67,6 +67,7 @@ class Reader:
         self.problem = problem
         self.number = 0          # of the line
         self.header = []         # its words, until there are enough of them
+        self.is_ended = False    # whether a word was read that ends a CNF file
         self.clause = None       # the literals of the clause that was begun, or None
         self.group = None        # the group that was read in braces for the next clause, or `{` or `}` behind it
         self.rule, self.rule_group = 0, None
@@ -82,7 +83,7 @@ class Reader:
                 self.words(line)
         problem, self.number = self.problem, max(1, self.number)
         if not self.is_header_read():
-            self.refuse("this is no GCNF file")
+            self.refuse("this is no GCNF or CNF file")
         if len(problem.group_of) - 1 != problem.count or self.clause is not None or self.group is not None:
             self.refuse(f"the file ends with {len(problem.group_of) - 1} whole clauses, and its header says {problem.count}")
 
@@ -103,13 +104,13 @@ class Reader:
 
     def words(self, line):
         words = line.replace(b"{", b" { ").replace(b"}", b" } ").split()
-        if not words:
+        if not words or self.is_ended:
             return
         if not self.is_header_read():
             words = self.read_header(words)
         try:
             zeros = 1 + (words[:2] == [b"{", b"0"])
-            if self.clause is None and self.group is None and words[-1:] == [b"0"] and words.count(b"0") == zeros:
+            if self.clause is None and self.group is None and words[-1:] == [b"0"] and words.count(b"0") == zeros and not self.ends(words[0]):
                 self.whole_clause(words)
             else:
                 for word in words:
@@ -123,7 +124,7 @@ class Reader:
         left = wanted - len(self.header)
         self.header += words[:left]
         if self.header[:1] != [b"p"] or len(self.header) > 1 and self.header[1] not in (b"gcnf", b"cnf"):
-            self.refuse("this is no GCNF file, which begins with 'p gcnf'")
+            self.refuse("this is no GCNF or CNF file, which begins with 'p gcnf' or 'p cnf'")
         if len(self.header) == wanted:
             try:
                 numbers = list(map(int, self.header[2:]))
@@ -145,9 +146,16 @@ class Reader:
         else:
             self.add(len(self.problem.group_of), list(map(int, words[:-1])))
 
+    def ends(self, word):
+        """Whether this word ends a CNF file, behind its last clause."""
+        problem = self.problem
+        return not problem.is_gcnf and self.clause is None and len(problem.group_of) > problem.count and word.startswith(b"%")
+
     def one_word(self, word):
         """One word of clauses that stand on lines as they like."""
-        if self.clause is not None:
+        if self.is_ended or self.ends(word):
+            self.is_ended = True
+        elif self.clause is not None:
             number = int(word)
             if number:
                 self.clause.append(number)
