@@ -1,5 +1,5 @@
 #!/usr/bin/env python3
-"""The report of a GCNF file by trying every set of groups: slow, plain, and independent of gmus.
+"""The report of a GCNF or CNF file by trying every set of groups: slow, plain, and independent of gmus.
 
 usage: brute_force.py FILE
 """
@@ -15,15 +15,31 @@ def read(path):
 def problem_of(lines):
     words = " ".join(l for l in lines if not l.lstrip(" \t").startswith("c"))
     words = words.replace("{", " { ").replace("}", " } ").split()
-    assert words[:2] == ["p", "gcnf"]
-    variables, clauses, groups = map(int, words[2:5])
-    found, rest = [], words[5:]
+    assert words[:2] in (["p", "gcnf"], ["p", "cnf"])
+    return in_braces(words[2:]) if words[1] == "gcnf" else in_order(words[2:])
+
+
+def in_braces(words):
+    variables, clauses, groups = map(int, words[:3])
+    found, rest = [], words[3:]
     while rest:
         end = rest.index("0", 3)
         found.append((int(rest[1]), [int(w) for w in rest[3:end]]))
         rest = rest[end + 1:]
     assert len(found) == clauses
     return variables, groups, found
+
+
+def in_order(words):
+    # each clause is a group
+    variables, clauses = map(int, words[:2])
+    found, rest = [], words[2:]
+    for group in range(1, clauses + 1):
+        end = rest.index("0")
+        found.append((group, [int(w) for w in rest[:end]]))
+        rest = rest[end + 1:]
+    assert not rest or rest[0].startswith("%")
+    return variables, clauses, found
 
 
 def report(variables, groups, clauses):

@@ -13,6 +13,7 @@ import argparse
 import collections
 import os
 import random
+import re
 import subprocess
 import sys
 import tempfile
@@ -50,7 +51,7 @@ def write(name, text):
 
 TOKENS = [b"p", b"gcnf", b"cnf", b"{", b"}", b"{1}", b"{0}", b"0", b"-0", b"+1", b"1", b"-1", b"2", b"-2", b"007", b"3", b"c", b"x", b"-",
           b"--1", b"1x", b"65536", b"65537", b"1000000", b"1000001", b"16384", b"16385", b"8000000", b"99999999999999999999",
-          b"-99999999999999999999", b"9223372036854775807", b"\xc3\xa4", b"\0"]
+          b"-99999999999999999999", b"9223372036854775807", b"\xc3\xa4", b"\0", b"%", b"%0"]
 SPACES = [b" ", b"\n", b"\t", b"\r\n", b"  ", b"\nc x\n", b"\n \tc {9} 9 0\n", b"\rc", b""]
 
 
@@ -64,6 +65,16 @@ def change_token(chance, text):
     middle = chance.choice([chance.choice(TOKENS), chance.choice(tokens)[0], b"", token + chance.choice(SPACES), chance.choice(SPACES) + token])
     lines[line - 1] = kept[:byte - 1] + middle + kept[byte - 1 + len(token):]
     return b"\n".join(lines)
+
+
+def in_a_form(chance, text):
+    """The same clauses in GCNF, or as CNF, which may have the ending that old files have."""
+    header, clauses = text.split(b"\n", 1)
+    # each clause is a group there, and brute_force.py tries all sets of them
+    if chance.random() < 0.5 or clauses.count(b"\n") > 9:
+        return text
+    plain = b"p cnf " + b" ".join(header.split()[2:4]) + b"\n" + re.sub(rb"\{[0-9]+\} ?", b"", clauses)
+    return plain + chance.choice([b"", b"", b"%\n0\n", b"% { x"])
 
 
 def change_file(chance, text):
@@ -94,7 +105,7 @@ def wanted_listing(text):
 
 
 def try_file(chance, gmus, folder):
-    text = change_file(chance, mutate_evidence.random_problem(chance).encode())
+    text = change_file(chance, in_a_form(chance, mutate_evidence.random_problem(chance).encode()))
     name = os.path.join(folder, "file")
     write(name, text)
     wanted = wanted_listing(text)

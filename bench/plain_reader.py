@@ -1,4 +1,4 @@
-"""The reader of GCNF and the reader of the words, as tables: slow, plain, and independent of gmus.
+"""The reader of GCNF and CNF and the reader of the words, as tables: slow, plain, and independent of gmus.
 
 `first_offence(text)` is None where the text is accepted, and else the line that a refused file is told. `problem_of(text)`
 is the problem of an accepted one. `words_read(words, commands)` is what the words of a command line ask for, or None.
@@ -32,7 +32,12 @@ def number(token):
 
 
 # ---- the table: what follows a token, by what is due. A state is a list: its name, the header's numbers, the clauses that
-# were ended and the literals that were read. The answer is the next name, or a refusal's number with its limit.
+# were ended and the literals that were read. The answer is the next name, or a refusal's number with its limit. The names
+# of CNF's states begin with `cnf`, but for `rest`, where its end was marked.
+
+LIMITS = {"vars": ["vars"], "clauses": ["clauses"], "groups": ["groups"], "cnf vars": ["vars"], "cnf clauses": ["clauses", "groups"]}
+BEHIND = {"vars": "clauses", "clauses": "groups", "groups": "between", "cnf vars": "cnf clauses", "cnf clauses": "cnf between"}
+
 
 def after(state, token):
     value = number(token)
@@ -40,14 +45,22 @@ def after(state, token):
     if name == "start":
         return "format" if token == b"p" else (1, None)
     if name == "format":
-        return "vars" if token == b"gcnf" else (2, None)
-    if name in ("vars", "clauses", "groups"):
+        return {b"gcnf": "vars", b"cnf": "cnf vars"}.get(token, (2, None))
+    if name in LIMITS:
         if value is None or value < 0:
             return 2, None
-        if value > MAX[name]:
-            return 9, name
+        for limit in LIMITS[name]:
+            if value > MAX[limit]:
+                return 9, limit
         header.append(value)
-        return {"vars": "clauses", "clauses": "groups", "groups": "between"}[name]
+        return BEHIND[name]
+    if name == "rest":
+        return name
+    if name == "cnf between":
+        if token[:1] == b"%":
+            return (7, None) if ended < header[1] else "rest"
+        if value is not None and ended == header[1]:
+            return 8, None
     if name == "between":
         if token != b"{" and value is None:
             return 3, None
@@ -62,23 +75,26 @@ def after(state, token):
         return "literals" if token == b"}" else (3, None)
     if value is None:
         return 3, None
+    form = "cnf " if name[:4] == "cnf " else ""
     if value == 0:
         state[2] += 1
-        return "between"
+        return form + "between"
     if abs(value) > header[0]:
         return 4, None
     if literals == MAX["literals"]:
         return 9, "literals"
     state[3] += 1
-    return "literals"
+    return form + "literals"
 
 
 def at_end(state):
     if state[0] == "start":
         return 1
-    if state[0] in ("format", "vars", "clauses", "groups"):
+    if state[0] == "format" or state[0] in LIMITS:
         return 2
-    return None if state[0] == "between" and state[2] == state[1][1] else 7
+    if state[0] == "rest":
+        return None
+    return None if state[0] in ("between", "cnf between") and state[2] == state[1][1] else 7
 
 
 def told(offence, limit, line, byte):
@@ -102,10 +118,13 @@ def first_offence(text):
 def problem_of(text):
     """Variables, groups, and each clause as its group and its literals, of an accepted text."""
     tokens = [token for token, _, _ in tokens_of(text)[0]]
-    variables, count, groups = map(int, tokens[2:5])
-    clauses, at = [], 5
-    for _ in range(count):
-        group, lits, at = int(tokens[at + 1]), [], at + 3
+    in_braces = tokens[1] == b"gcnf"
+    variables, count, groups = map(int, tokens[2:5] if in_braces else tokens[2:4] + tokens[3:4])
+    clauses, at = [], 5 if in_braces else 4
+    for group in range(1, count + 1):
+        if in_braces:
+            group, at = int(tokens[at + 1]), at + 3
+        lits = []
         while int(tokens[at]) != 0:
             lits.append(int(tokens[at]))
             at += 1

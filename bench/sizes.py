@@ -56,11 +56,14 @@ def clauses(folder, name, count):
     return put(folder, name, b"p gcnf 1 %d 0\n" % count, (b"{0} 1 0\n", count))
 
 
-def literals(folder, name, count):
+def literals(folder, name, count, header=b"p gcnf 65536 1000 0\n", group=b"{0} "):
     """So many literals in a thousand clauses, of which the last may be longer."""
     each = count // 1000
-    return put(folder, name, b"p gcnf 65536 1000 0\n", (b"{0} " + b"1 " * each + b"0\n", 999),
-               b"{0} " + b"1 " * (count - 999 * each) + b"0\n")
+    return put(folder, name, header, (group + b"1 " * each + b"0\n", 999), group + b"1 " * (count - 999 * each) + b"0\n")
+
+
+def cnf_literals(folder, name, count):
+    return literals(folder, name, count, b"p cnf 65536 1000\n", b"")
 
 
 def alone(folder, name, groups):
@@ -93,6 +96,11 @@ def limit_rows(folder):
     yield "1,000,001 clauses", clauses(folder, "c", 1000001), 5, b"", REFUSED + "9 TooLarge clauses at line 1 byte 10\n"
     yield "8,000,000 literals", literals(folder, "l", 8000000), 0, empty_report(0), ""
     yield "8,000,001 literals", literals(folder, "l", 8000001), 5, b"", REFUSED + "9 TooLarge literals at line 1001 byte 16005\n"
+    yield "16,384 clauses in CNF", put(folder, "d", b"p cnf 65536 16384\n", (b"1 0\n", 16384)), 0, empty_report(16384), ""
+    yield "16,385 clauses in CNF", put(folder, "d", b"p cnf 1 16385"), 5, b"", REFUSED + "9 TooLarge groups at line 1 byte 9\n"
+    yield "1,000,001 clauses in CNF", put(folder, "d", b"p cnf 1 1000001"), 5, b"", REFUSED + "9 TooLarge clauses at line 1 byte 9\n"
+    yield "8,000,000 literals in CNF", cnf_literals(folder, "l", 8000000), 0, empty_report(1000), ""
+    yield "8,000,001 literals in CNF", cnf_literals(folder, "l", 8000001), 5, b"", REFUSED + "9 TooLarge literals at line 1001 byte 16001\n"
     yield "134,217,728 bytes", padded(folder, "b", 134217728), 0, empty_report(0), ""
     yield "134,217,729 bytes", padded(folder, "b", 134217729), 5, b"", REFUSED + "9 TooLarge bytes at line 0 byte 0\n"
     yield "a million clauses promised", put(folder, "p", b"p gcnf 65536 1000000 16384"), 5, b"", REFUSED + "7 Truncated at line 1 byte 27\n"
