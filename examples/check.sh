@@ -83,17 +83,17 @@ pairs_report() {
 pairs 8 >pairs.gcnf
 pairs_report 8 >pairs.report
 
-for file in "$here"/*.gcnf; do
+for file in "$here"/*.gcnf "$here"/*.cnf; do
     name=${file##*/}
-    try "$name" 0 '' "${file%.gcnf}.report" list "$file"
+    try "$name" 0 '' "${file%.*}.report" list "$file"
 done
 try 'many sets' 0 '' pairs.report list pairs.gcnf
 
 # Any number of workers gives the same whole report, and as many sets up to a limit.
 for jobs in 1 2 3 7 64; do
-    for file in "$here"/*.gcnf; do
+    for file in "$here"/*.gcnf "$here"/*.cnf; do
         name=${file##*/}
-        try "$name by $jobs" 0 '' "${file%.gcnf}.report" list "$file" --jobs "$jobs"
+        try "$name by $jobs" 0 '' "${file%.*}.report" list "$file" --jobs "$jobs"
     done
     try "many sets by $jobs" 0 '' pairs.report list --jobs="$jobs" pairs.gcnf
     try_partial "a limit of 5 by $jobs" 4 'gmus: limit of 5 records reached' "$here/laptop.report" 5 list "$here/laptop.gcnf" --limit 5 --jobs "$jobs"
@@ -172,9 +172,9 @@ accepted() { # the problem, its evidence, and the report that both have to give
         judge "evidence of ${1##*/}, by check_evidence.py" 0 '' "$3"
     fi
 }
-for file in "$here"/*.gcnf pairs.gcnf; do
+for file in "$here"/*.gcnf "$here"/*.cnf pairs.gcnf; do
     name=${file##*/}
-    report=${file%.gcnf}.report
+    report=${file%.*}.report
     try "$name with evidence" 0 '' "$report" list "$file" --evidence written
     accepted "$file" written "$report"
 done
