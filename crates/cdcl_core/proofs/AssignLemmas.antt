@@ -1,11 +1,11 @@
 -- The values of the literals on the trail as an assignment.
-use Rattle.std.proofs.Common.{◌≡◌, ◌≢◌, ℕ, zero, suc, ◌+◌, ◌-◌, ◌<◌, Bool, true, false, not, List, [], ◌∷◌, length, get_or, set, refl, sym, ◌∙◌, ap, subst, inl, inr, arith}
+use Rattle.std.proofs.Common.{◌≡◌, ◌≢◌, ◌⊎◌, ℕ, zero, suc, ◌+◌, ◌-◌, ◌<◌, Bool, true, false, not, List, [], ◌∷◌, length, get_or, set, refl, sym, ◌∙◌, ap, subst, inl, inr, arith}
 use Rattle.std.specs.Prelude.{ℤ, pos, negsuc, drop}
-use Rattle.std.proofs.lemmas.Bool.{false_from_ne_true}
+use Rattle.std.proofs.lemmas.Bool.{false_from_ne_true, cases_eq}
 use Rattle.std.proofs.lemmas.List.{get_or-set_same, get_or-set_other}
 use Rattle.sat_base.specs.Members.{In}
 use Rattle.sat_base.specs.Literals.{var_of, IsLiteral, literal_true}
-use Rattle.sat_base.specs.Units.{IsUnset}
+use Rattle.sat_base.specs.Units.{IsUnset, HasValue}
 use Rattle.trail_book.specs.declared.entry.Entry.{Entry}
 use Rattle.trail_book.specs.Trail.{trues, oldest, IsTrail}
 use Rattle.trail_book.proofs.TrailLemmas.{same_var, trail_vars}
@@ -57,3 +57,22 @@ values_step vars n es lit assign b t is len to from old l i =
         value_old assign lit l b literal.not_zero other.not_zero
         (λ same. elim (same_var l lit same) [ inl is ↦ unset.not_true (subst (λ m. In m (trues (oldest n es))) is j) | inr turned ↦ unset.not_false (subst (λ m. In m (trues (oldest n es))) turned j) ])
         ∙ old l j
+
+value_first : (lit l : ℤ) (low : List ℤ) → var_of lit ≡ var_of l → HasValue (lit ∷ low) l
+value_first lit l low same = elim (same_var lit l same) [ inl is ↦ inl (inl (sym is)) | inr turned ↦ inr (inl (sym turned)) ]
+
+value_later : (lit l : ℤ) (low : List ℤ) → HasValue low l → HasValue (lit ∷ low) l
+value_later lit l low (inl yes_true) = inl (inr yes_true)
+value_later lit l low (inr is_false) = inr (inr is_false)
+
+-- a variable has a value on the trail, or is as it was at first
+pub others_step : (vars n : ℕ) (es : List Entry) (lit : ℤ) (assign : List Bool) (b other : Bool) → 0 < var_of lit → trues (oldest (n + 1) es) ≡ lit ∷ trues (oldest n es)
+    → ((index : ℕ) → index < vars → HasValue (trues (oldest n es)) (pos (index + 1)) ⊎ (get_or assign index false ≡ other))
+    → (index : ℕ) → index < vars → HasValue (trues (oldest (n + 1) es)) (pos (index + 1)) ⊎ (get_or (set assign (var_of lit - 1) b) index false ≡ other)
+others_step vars n es lit assign b other low is old index h = elim (cases_eq index (var_of lit - 1)) [
+  | inl same ↦ inl (subst (λ (ts : List ℤ). HasValue ts (pos (index + 1))) (sym is) (value_first lit (pos (index + 1)) (trues (oldest n es)) (omega (arith, same, low))))
+  | inr apart ↦ elim (old index h) [
+    | inl has ↦ inl (subst (λ (ts : List ℤ). HasValue ts (pos (index + 1))) (sym is) (value_later lit (pos (index + 1)) (trues (oldest n es)) has))
+    | inr free ↦ inr (get_or-set_other assign (var_of lit - 1) index b false apart ∙ free)
+  ]
+]

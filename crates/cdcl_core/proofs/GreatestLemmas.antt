@@ -1,9 +1,9 @@
--- A model whose decisions were all positive has none above it.
-use Rattle.std.proofs.Common.{◌≡◌, ℕ, zero, suc, ◌≤◌, ◌∷◌, ◌+◌, ◌-◌, ◌<◌, Bool, true, false, not, List, [], length, Option, Some, None, refl, sym, ◌∙◌, ap, subst, inl, inr, arith}
+-- A model whose decisions were all positive, and which makes true what has no value, has none above it.
+use Rattle.std.proofs.Common.{◌≡◌, ◌⊎◌, ℕ, zero, suc, ◌∷◌, ◌+◌, ◌-◌, ◌<◌, Bool, true, false, not, List, [], length, Option, Some, None, refl, sym, ◌∙◌, ap, subst, inl, inr, arith}
 use Rattle.std.specs.Prelude.{ℤ, pos, neg_ℤ, slice_index_or}
 use Rattle.std.proofs.lemmas.Bool.{false≢true}
 use Rattle.sat_base.specs.Members.{In}
-use Rattle.sat_base.specs.Literals.{var_of, IsLiteral, literal_true, clause_true}
+use Rattle.sat_base.specs.Literals.{var_of, literal_true, clause_true}
 use Rattle.sat_base.specs.Database.{StoredClause, IsLive}
 use Rattle.sat_base.specs.Units.{HasValue}
 use Rattle.sat_base.proofs.Members.{any_from}
@@ -75,15 +75,17 @@ value_of : (assign : List Bool) (index : ℕ) → literal_true assign (pos (inde
 value_of assign index = let same : index + 1 - 1 ≡ index = omega arith in ap (λ (i : ℕ). slice_index_or assign i false) same
 
 pub greatest_of : (vars : ℕ) (db : List StoredClause) (log : List LogStep) (es : List Entry) (assumed : List ℤ) (count : ℕ) (assign : List Bool)
-    → IsState vars db log es assumed count → ArePositive count es → assumed ≡ [] → ((l : ℤ) → IsLiteral vars l → HasValue (trues es) l) → MakesTrue assign (trues es)
+    → IsState vars db log es assumed count → ArePositive count es → assumed ≡ []
+    → ((index : ℕ) → index < vars → HasValue (trues es) (pos (index + 1)) ⊎ (slice_index_or assign index false ≡ true)) → MakesTrue assign (trues es)
     → IsGreatestModel vars (inputs_of log) assign
-greatest_of vars db log es assumed count assign state positive none full made other len inputs below index on =
+greatest_of vars db log es assumed count assign state positive none others made other len inputs below index on =
     let s : IsState vars db log es [] count = subst (λ (a : List ℤ). IsState vars db log es a count) none state in
     let agree : MakesTrue other (trues es) = agrees db count other es s.sound positive (live_hold vars db log es count other s inputs) (λ l i p. above l i p) in
-    elim (full (pos (index + 1)) (record { not_zero = omega arith; in_range = within })) [
-      | inl t ↦ sym (value_of assign index) ∙ made (pos (index + 1)) t
-      | inr f ↦ absurd (not_both (literal_true other (pos (index + 1))) (value_of other index ∙ on)
+    elim (others index within) [
+      | inl (inl t) ↦ sym (value_of assign index) ∙ made (pos (index + 1)) t
+      | inl (inr f) ↦ absurd (not_both (literal_true other (pos (index + 1))) (value_of other index ∙ on)
           (sym (literal_true-neg other (pos (index + 1)) (omega arith)) ∙ agree (neg_ℤ (pos (index + 1))) f))
+      | inr free ↦ free
     ]
   where
     above : (l : ℤ) → In l (trues es) → IsPositive l → literal_true other l ≡ true
@@ -94,5 +96,11 @@ greatest_of vars db log es assumed count assign state positive none full made ot
         subst (λ (m : ℤ). literal_true other m ≡ true) at
         (value_of other (var_of l - 1) ∙ below (var_of l - 1) (sym (value_of assign (var_of l - 1)) ∙ subst (λ (m : ℤ). literal_true assign m ≡ true) (sym at) (made l i)))
 
-    within : index + 1 ≤ vars
+    within : index < vars
     within = let lt = index_within other index on in omega (arith, lt, len)
+
+-- what has no value is true where choices are positive
+pub true_others : (vars : ℕ) (es : List Entry) (a : List Bool) (other : Bool) → other ≡ true
+    → ((index : ℕ) → index < vars → HasValue (trues es) (pos (index + 1)) ⊎ (slice_index_or a index false ≡ other))
+    → (index : ℕ) → index < vars → HasValue (trues es) (pos (index + 1)) ⊎ (slice_index_or a index false ≡ true)
+true_others vars es a other asked others index h = elim (others index h) [ inl has ↦ inl has | inr free ↦ inr (free ∙ asked) ]

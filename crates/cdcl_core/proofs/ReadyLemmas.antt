@@ -1,5 +1,5 @@
 -- What is kept between calls, where a clause comes and where another question begins.
-use Rattle.std.proofs.Common.{◌≡◌, ◌⊎◌, ℕ, zero, suc, ◌+◌, ◌<◌, min, List, [], ◌∷◌, ◌++◌, take, Option, Some, None, refl, sym, ◌∙◌, ap, subst, inl, inr, arith}
+use Rattle.std.proofs.Common.{◌≡◌, ◌⊎◌, ℕ, zero, suc, ◌+◌, ◌<◌, min, Bool, List, [], ◌∷◌, ◌++◌, take, Option, Some, None, refl, sym, ◌∙◌, ap, subst, inl, inr, arith}
 use Rattle.std.specs.Prelude.{ℤ, true}
 use Rattle.sat_base.specs.Members.{In}
 use Rattle.sat_base.specs.Literals.{AreLiterals}
@@ -7,15 +7,15 @@ use Rattle.sat_base.specs.Database.{StoredClause, IsLive}
 use Rattle.sat_base.specs.Units.{AllTrue, IsLoose}
 use Rattle.sat_base.proofs.Members.{In-append_cases}
 use Rattle.trail_book.specs.declared.entry.Entry.{Entry}
-use Rattle.trail_book.specs.Trail.{trues, level_after, top, keep, IsTrail}
+use Rattle.trail_book.specs.Trail.{trues, level_after, top, keep, IsTrail, IsTouched}
 use Rattle.trail_book.proofs.TrailLemmas.{keep-whole, keep-skip, level_after-at_least}
 use Rattle.propagate.specs.Propagation.{Grows}
 use Rattle.propagate.specs.Entrance.{IsLooseBelow}
 use Rattle.propagate.proofs.GrowsLemmas.{top_grows}
 use Rattle.propagate.proofs.LevelLemmas.{keep_lower}
-use Rattle.lrat_steps.specs.Log.{LogStep, Input}
-use Rattle.lrat_steps.proofs.LogLemmas.{db_of-push, honest-input}
-use Rattle.cdcl_core.specs.State.{IsSoundEntry, IsSound, IsState, ArePositive}
+use Rattle.lrat_steps.specs.Log.{LogStep, Input, inputs_of}
+use Rattle.lrat_steps.proofs.LogLemmas.{db_of-push, honest-input, inputs-push_input}
+use Rattle.cdcl_core.specs.State.{IsSoundEntry, IsSound, IsState, ArePositive, AreTouched}
 use Rattle.cdcl_core.specs.declared.search.Search.{Search}
 use Rattle.cdcl_core.specs.Search.{IsSearch, IsAtRoot}
 use Rattle.cdcl_core.proofs.SearchLemmas.{AtDecision, AtDecisions, NewIsLoose, more-append, sound_more, sound_grows, sound_keep, sound_recount, at_weaken}
@@ -85,6 +85,16 @@ module _ (vars : ℕ) (db : List StoredClause) (log : List LogStep) (es new : Li
   added_positive p =
       positive_grows (db ++ record { lits = lits; live = true } ∷ []) left (keep (top new) es) new grows
       (positive_recount count left (keep (top new) es) (λ n low above. omega (arith, left_is, low_top, low, above)) (positive_keep count (top new) es p))
+
+-- what is touched stays so, and the clause's variables are touched besides
+pub added_touched : (old new : List Bool) (log more : List LogStep) (lits : List ℤ) → more ≡ log ++ Input lits ∷ [] → AreTouched old (inputs_of log)
+    → ((l : ℤ) → IsTouched old l → IsTouched new l) → ((l : ℤ) → In l lits → IsTouched new l) → AreTouched new (inputs_of more)
+added_touched old new log more lits is are stay here c i l j =
+    elim (In-append_cases c (inputs_of log) (lits ∷ []) (subst (In c) (ap inputs_of is ∙ inputs-push_input log lits) i)) [
+      | inl before ↦ stay l (are c before l j)
+      | inr (inl same) ↦ here l (subst (In l) same j)
+      | inr (inr none) ↦ absurd none
+    ]
 
 -- ---- another question begins
 

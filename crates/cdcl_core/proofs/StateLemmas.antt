@@ -12,7 +12,7 @@ use Rattle.sat_base.specs.Database.{StoredClause, known_of, IsLive, AreOver}
 use Rattle.sat_base.specs.Units.{IsUnset, HasValue, AllTrue, AllFalse, IsLoose, IsFixpoint, IsFalsified}
 use Rattle.sat_base.proofs.Members.{In-append_right, In-append_cases, any_at}
 use Rattle.trail_book.specs.declared.entry.Entry.{Entry}
-use Rattle.trail_book.specs.Trail.{trues, level_after, top, keep, IsTrail}
+use Rattle.trail_book.specs.Trail.{trues, level_after, top, keep, IsTrail, IsTouched}
 use Rattle.trail_book.proofs.TrailLemmas.{keep-whole, keep-skip, top-keep_exact, lit-keep_more, IsTrail-keep, trail_consistent, level_after-at_least}
 use Rattle.lrat_steps.specs.Log.{LogStep, Learned, Core, steps_of, db_of, inputs_of}
 use Rattle.lrat_steps.specs.Honest.{HasVar, IsHonest}
@@ -21,7 +21,7 @@ use Rattle.lrat_steps.proofs.LogLemmas.{db_len, steps-append, db_of-push, inputs
 use Rattle.propagate.specs.Propagation.{Grows}
 use Rattle.learn_step.specs.Reasons.{before_last, IsConflict, IsDecision}
 use Rattle.learn_step.specs.Learnt.{IsUsed, IsLearnt, IsCore}
-use Rattle.cdcl_core.specs.State.{IsSoundEntry, IsSound, IsRecorded, IsState}
+use Rattle.cdcl_core.specs.State.{IsSoundEntry, IsSound, IsRecorded, IsState, AreTouched}
 use Rattle.lrat_steps.proofs.PaidLemmas.{IsPaid-none, IsPaid-then}
 use Rattle.cdcl_core.specs.Answers.{IsConsistent, IsModel, IsRefuted, IsHonestlyPaid}
 use Rattle.cdcl_core.specs.Search.{IsCoreAdded}
@@ -343,20 +343,26 @@ dry_of vars db log es assumed count id s f choice =
     })
 
 -- a model
-loose_true_lit : (vars : ℕ) (es : List Entry) (c : List ℤ) → ((l : ℤ) → In l c → IsLiteral vars l) → ((l : ℤ) → IsLiteral vars l → HasValue (trues es) l) → IsLoose (trues es) c → (l : ℤ) × In l c × In l (trues es)
-loose_true_lit vars es c v full (inl found) = found
-loose_true_lit vars es c v full (inr two) = elim (full two.one (v two.one two.one_in)) [ inl t ↦ (two.one, two.one_in, t) | inr f ↦ absurd (two.one_open f) ]
+loose_true_lit : (es : List Entry) (c : List ℤ) → ((l : ℤ) → In l c → HasValue (trues es) l) → IsLoose (trues es) c → (l : ℤ) × In l c × In l (trues es)
+loose_true_lit es c full (inl found) = found
+loose_true_lit es c full (inr two) = elim (full two.one two.one_in) [ inl t ↦ (two.one, two.one_in, t) | inr f ↦ absurd (two.one_open f) ]
 
-pub model_of : (vars : ℕ) (db : List StoredClause) (log : List LogStep) (es : List Entry) (assumed : List ℤ) (count : ℕ) (assign : List Bool) → IsState vars db log es assumed count → IsFixpoint db (trues es)
-    → AllTrue (trues es) assumed → ((l : ℤ) → IsLiteral vars l → HasValue (trues es) l) → length assign ≡ vars → ((l : ℤ) → In l (trues es) → literal_true assign l ≡ true) → IsModel vars (inputs_of log) assumed assign
-model_of vars db log es assumed count assign s fix all full total values = record {
+pub model_of : (vars : ℕ) (touched : List Bool) (db : List StoredClause) (log : List LogStep) (es : List Entry) (assumed : List ℤ) (count : ℕ) (assign : List Bool) → IsState vars db log es assumed count
+    → IsFixpoint db (trues es) → AllTrue (trues es) assumed → AreTouched touched (inputs_of log) → ((l : ℤ) → IsLiteral vars l → IsTouched touched l → HasValue (trues es) l) → length assign ≡ vars
+    → ((l : ℤ) → In l (trues es) → literal_true assign l ≡ true) → IsModel vars (inputs_of log) assumed assign
+model_of vars touched db log es assumed count assign s fix all are full total values = record {
   total = total;
   clauses_true = λ c i.
       let live : IsLive db c = subst (λ (k : List StoredClause). IsLive k c) s.recorded.same (input_in log c s.recorded.honest i) in
-      let (l, j, t) = loose_true_lit vars es c (λ m k. literal_at vars c m (s.recorded.over (record { lits = c; live = true }) live) k) full (fix c live) in
+      let (l, j, t) = loose_true_lit es c (λ m k. full m (literal_at vars c m (s.recorded.over (record { lits = c; live = true }) live) k) (are c i m k)) (fix c live) in
       any_at (literal_true assign) c l j (values l t);
   assumed_true = λ l i. values l (all l i);
 }
+
+-- the same of other names
+pub touched_is : (touched others : List Bool) (clauses more : List (List ℤ)) → others ≡ touched → more ≡ clauses → AreTouched touched clauses → AreTouched others more
+touched_is touched others clauses more a b are =
+    subst (λ (bs : List Bool). AreTouched bs more) (sym a) (subst (AreTouched touched) (sym b) are)
 
 -- the same state by other names
 pub state_is : (v w n : ℕ) (d d2 : List StoredClause) (l l2 : List LogStep) (e e2 : List Entry) (assumed : List ℤ) → w ≡ v → d2 ≡ d → l2 ≡ l → e2 ≡ e → IsState v d l e assumed n → IsState w d2 l2 e2 assumed n

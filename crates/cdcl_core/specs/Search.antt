@@ -5,7 +5,7 @@ use Rattle.sat_base.specs.Literals.{IsLiteral}
 use Rattle.sat_base.specs.Database.{StoredClause}
 use Rattle.sat_base.specs.Units.{AllTrue, IsUnset, HasValue}
 use Rattle.trail_book.specs.declared.entry.Entry.{Entry}
-use Rattle.trail_book.specs.Trail.{trues}
+use Rattle.trail_book.specs.Trail.{trues, IsTouched}
 use Rattle.trail_book.specs.Order.{IsPositive}
 use Rattle.learn_step.specs.Learnt.{IsCore}
 use Rattle.lrat_steps.specs.Log.{LogStep, Core}
@@ -55,12 +55,13 @@ pub record KeepsValues (old new : Search) : Type 0 where
   pub tells : (p : Propagated) → propagation.Tells old.store.clauses (trues old.trail.entries) p → propagation.Tells new.store.clauses (trues new.trail.entries) p
   pub all_done : (p : Propagated) → propagation.IsDone old.store old.trail p → propagation.IsDone new.store new.trail p
 
--- what is to be done where nothing is left to propagate; a literal is chosen positive where that is asked for
-abbrev pub IsNext : Bool → ℕ → List ℤ → List ℤ → Next → Type 0
-IsNext true_first vars assumed trues (next.Assume lit) = In lit assumed × IsUnset trues lit
-IsNext true_first vars assumed trues (next.Failed lit) = In lit assumed × In (neg_ℤ lit) trues
-IsNext true_first vars assumed trues (next.Choose lit) = AllTrue trues assumed × IsUnset trues lit × IsLiteral vars lit × (true_first ≡ true → IsPositive lit)
-IsNext true_first vars assumed trues next.Full = AllTrue trues assumed × ((lit : ℤ) → IsLiteral vars lit → HasValue trues lit)
+-- what is to be done where nothing is left to propagate; a literal is chosen of a touched variable, and positive where
+-- that is asked for
+abbrev pub IsNext : Bool → ℕ → List Bool → List ℤ → List ℤ → Next → Type 0
+IsNext true_first vars touched assumed trues (next.Assume lit) = In lit assumed × IsUnset trues lit
+IsNext true_first vars touched assumed trues (next.Failed lit) = In lit assumed × In (neg_ℤ lit) trues
+IsNext true_first vars touched assumed trues (next.Choose lit) = AllTrue trues assumed × IsUnset trues lit × IsLiteral vars lit × (true_first ≡ true → IsPositive lit) × IsTouched touched lit
+IsNext true_first vars touched assumed trues next.Full = AllTrue trues assumed × ((lit : ℤ) → IsLiteral vars lit → IsTouched touched lit → HasValue trues lit)
 
 -- a round that goes on has paid a unit, or one more variable has a value
 pub record GoesOn (old new : Search) (assumed : List ℤ) (before left : ℕ) : Type 0 where

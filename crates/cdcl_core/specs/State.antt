@@ -1,11 +1,11 @@
 -- What a search keeps true from step to step (conflict-driven clause learning: Marques-Silva and Sakallah 1999; assumed
 -- literals as the first decisions: Eén and Sörensson 2003).
-use Rattle.std.specs.Prelude.{◌≡◌, ◌⊎◌, ℕ, ◌+◌, ◌<◌, ◌≤◌, List, [], ◌∷◌, ℤ, Option, Some, None}
+use Rattle.std.specs.Prelude.{◌≡◌, ◌⊎◌, ℕ, ◌+◌, ◌<◌, ◌≤◌, Bool, List, [], ◌∷◌, ℤ, Option, Some, None}
 use Rattle.sat_base.specs.Members.{In}
 use Rattle.sat_base.specs.Database.{StoredClause, AreOver}
 use Rattle.sat_base.specs.Units.{AllTrue, IsFixpoint, IsReason, IsConsequence}
 use Rattle.trail_book.specs.declared.entry.Entry.{Entry}
-use Rattle.trail_book.specs.Trail.{trues, top, IsTrail}
+use Rattle.trail_book.specs.Trail.{trues, top, IsTrail, IsTouched}
 use Rattle.trail_book.specs.Order.{IsPositive}
 use Rattle.learn_step.specs.Reasons.{HasUnit}
 use Rattle.lrat_steps.specs.Log.{LogStep, db_of}
@@ -48,6 +48,10 @@ pub record IsState (vars : ℕ) (db : List StoredClause) (log : List LogStep) (e
   pub trail : IsTrail vars es
   pub sound : IsSound db assumed count es
   pub levels : count ≤ top es
+
+-- the variables of these clauses are touched
+abbrev pub AreTouched : List Bool → List (List ℤ) → Type 0
+AreTouched touched clauses = (c : List ℤ) → In c clauses → (l : ℤ) → In l c → IsTouched touched l
 
 -- the trail is at level 0, where nothing is decided
 pub record IsRoot (vars : ℕ) (db : List StoredClause) (log : List LogStep) (es : List Entry) : Type 0 where

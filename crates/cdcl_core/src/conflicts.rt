@@ -44,6 +44,7 @@ impl Search {
         ensures round { IfOk result (λ answer. IsRound self.old self.new assumed.now purse.old.left purse.new.left answer) }
         ensures paid { IsHonestlyPaid self.old.log self.new.log purse.old.left purse.new.left }
         ensures vars { self.new.trail.vars ≡ self.old.trail.vars }
+        ensures touched { self.new.trail.touched ≡ self.old.trail.touched }
         ensures true_first { self.new.true_first ≡ self.old.true_first }
     {
         if self.trail.top() <= self.assumed_levels {
@@ -74,6 +75,7 @@ impl Search {
         ensures unit { OnOk result (purse.new.left + 1 ≡ purse.old.left) }
         ensures paid { IsHonestlyPaid self.old.log self.new.log purse.old.left purse.new.left }
         ensures vars { self.new.trail.vars ≡ self.old.trail.vars }
+        ensures touched { self.new.trail.touched ≡ self.old.trail.touched }
         ensures true_first { self.new.true_first ≡ self.old.true_first }
     {
         let learnt = learn(alloc, &self.store, &self.trail, id)?;
@@ -112,6 +114,7 @@ impl Search {
         ensures search { OnOk result (IsSearch self.new assumed.now) }
         ensures paid { (left : ℕ) → IsHonestlyPaid self.old.log self.new.log left left }
         ensures vars { self.new.trail.vars ≡ self.old.trail.vars }
+        ensures touched { self.new.trail.touched ≡ self.old.trail.touched }
         ensures true_first { self.new.true_first ≡ self.old.true_first }
     {
         let id = log_core(alloc, &mut self.log, &mut self.store, &self.trail, origin)?;

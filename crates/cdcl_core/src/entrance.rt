@@ -69,6 +69,7 @@ pub fn enter_learnt(store: &mut Store, trail: &mut Trail, id: u64, lits: &[Lit],
     ensures store_vars { store.new.vars ≡ store.old.vars }
     ensures entries { trail.new.entries ≡ record { lit = first; reason = Some id; unit = None } ∷ trail.old.entries }
     ensures vars { trail.new.vars ≡ trail.old.vars }
+    ensures touched { trail.new.touched ≡ trail.old.touched }
 {
     let second = latest(trail, lits, first);
     trail.assign(first, id);

@@ -32,6 +32,7 @@ pub fn forget(search: &mut Search) -> Result<(), AllocError>
     ensures ready { OnOk result (IsReady search.new) }
     ensures paid { (left : ℕ) → IsHonestlyPaid search.old.log search.new.log left left }
     ensures vars { search.new.trail.vars ≡ search.old.trail.vars }
+    ensures touched { search.new.trail.touched ≡ search.old.trail.touched }
     ensures true_first { search.new.true_first ≡ search.old.true_first }
 {
     let live = search.log.live_learned();
@@ -81,6 +82,7 @@ fn forget_long(search: &mut Search, longest: u64) -> Result<(), AllocError>
     ensures stale { OnOk result (IsStaleAtRoot search.new) }
     ensures paid { (left : ℕ) → IsHonestlyPaid search.old.log search.new.log left left }
     ensures vars { search.new.trail.vars ≡ search.old.trail.vars }
+    ensures touched { search.new.trail.touched ≡ search.old.trail.touched }
     ensures levels { search.new.assumed_levels ≡ search.old.assumed_levels }
     ensures true_first { search.new.true_first ≡ search.old.true_first }
 {
@@ -101,6 +103,7 @@ fn forget_one(search: &mut Search, id: u64) -> Result<(), AllocError>
     ensures stale { OnOk result (IsStaleAtRoot search.new) }
     ensures paid { (left : ℕ) → IsHonestlyPaid search.old.log search.new.log left left }
     ensures vars { search.new.trail.vars ≡ search.old.trail.vars }
+    ensures touched { search.new.trail.touched ≡ search.old.trail.touched }
     ensures levels { search.new.assumed_levels ≡ search.old.assumed_levels }
     ensures true_first { search.new.true_first ≡ search.old.true_first }
     ensures len { length search.new.store.clauses ≡ length search.old.store.clauses }

@@ -29,6 +29,7 @@ impl Search {
         ensures ready { IsReady self.new }
         ensures log { self.new.log ≡ self.old.log }
         ensures vars { self.new.trail.vars ≡ self.old.trail.vars }
+        ensures touched { self.new.trail.touched ≡ self.old.trail.touched }
         ensures true_first { self.new.true_first ≡ self.old.true_first }
     {
         let is_due = self.plan.is_due();
@@ -49,9 +50,9 @@ impl Search {
     }
 }
 
-// Whether each variable has a value, and all values were propagated.
+// Whether each touched variable has a value, and all values were propagated.
 fn is_whole(trail: &Trail) -> bool {
-    trail.len() == trail.vars() && trail.done() == trail.len()
+    trail.done() == trail.len() && trail.is_full()
 }
 
 // The next variable behind this one, in a round, that is false above level 0.

@@ -13,7 +13,7 @@
 ghost use Rattle.std.specs.Prelude.{◌≡◌, ◌<◌, ◌≤◌, true, IfSome};
 ghost use Rattle.sat_base.specs.Literals.{IsLiteral};
 ghost use Rattle.sat_base.specs.Units.{IsUnset};
-ghost use Rattle.trail_book.specs.Trail.{trues};
+ghost use Rattle.trail_book.specs.Trail.{trues, IsTouched};
 ghost use Rattle.trail_book.specs.Order.{IsPositive};
 
 use sat_base::Lit;
@@ -34,7 +34,7 @@ pub struct Plan {
     lits: Vec<Lit>,
     len: usize,
     next: usize,
-    // The variables with a lower index had a value when they were looked at, or an activity.
+    // The variables with a lower index had a value when they were looked at, or an activity, or are not touched.
     idle: u32,
     // How many counts since the last beginning, and at how many the next one is due.
     count: u32,
@@ -72,7 +72,7 @@ impl Plan {
         self.next = 0;
     }
 
-    /// Ends with a trail on which each variable has a value: its literals are planned, the oldest first. Where choices are
+    /// Ends with a trail on which each touched variable has a value: its literals are planned, the oldest first. Where choices are
     /// positive only, they are not.
     pub fn end(&mut self, trail: &Trail, true_first: bool) {
         if true_first {
@@ -124,6 +124,7 @@ impl Plan {
     /// The next literal that has no value on this trail, and is positive where that is asked for.
     pub fn next(&mut self, trail: &Trail, true_first: bool) -> Option<Lit>
         ensures unset { IfSome result (λ lit. IsUnset (trues trail.now.entries) lit × IsLiteral trail.now.vars lit) }
+        ensures touched { IfSome result (IsTouched trail.now.touched) }
         ensures positive { IfSome result (λ lit. true_first ≡ true → IsPositive lit) }
     {
         match self.next_planned(trail, true_first) {
@@ -136,6 +137,7 @@ impl Plan {
     // The next one of the plan's list.
     fn next_planned(&mut self, trail: &Trail, true_first: bool) -> Option<Lit>
         ensures unset { IfSome result (λ lit. IsUnset (trues trail.now.entries) lit × IsLiteral trail.now.vars lit) }
+        ensures touched { IfSome result (IsTouched trail.now.touched) }
         ensures positive { IfSome result (λ lit. true_first ≡ true → IsPositive lit) }
     {
         for at in self.next..self.len.min(self.lits.len()) {
@@ -149,9 +151,10 @@ impl Plan {
         None
     }
 
-    // The positive literal of the next variable that has neither a value nor an activity.
+    // The positive literal of the next touched variable that has neither a value nor an activity.
     fn next_idle(&mut self, trail: &Trail) -> Option<Lit>
         ensures unset { IfSome result (λ lit. IsUnset (trues trail.now.entries) lit × IsLiteral trail.now.vars lit) }
+        ensures touched { IfSome result (IsTouched trail.now.touched) }
         ensures positive { IfSome result IsPositive }
     {
         let vars = trail.vars();
@@ -166,36 +169,45 @@ impl Plan {
     }
 }
 
-// How far down from this index the variables have lost their values.
+// How far down from this index the variables have lost their values. One that is not touched never has any.
 fn lowest_free(trail: &Trail, from: u32) -> u32
     requires { from ≤ trail.now.vars }
     ensures { result ≤ from }
 {
     let _vars = trail.vars(); // So each variable's number is that of a literal.
     let mut index = from;
-    while index > 0 && is_free(trail, Lit::new(index as i32)) {
+    while index > 0 && is_unset(trail, Lit::new(index as i32)) {
         index -= 1;
     }
     index
 }
 
-// The positive literal of the variable of this index, where it has neither a value nor an activity.
+// The positive literal of the variable of this index, where it is touched and has neither a value nor an activity.
 fn idle_lit(trail: &Trail, index: u32) -> Option<Lit>
     requires { index < trail.now.vars }
     ensures unset { IfSome result (λ lit. IsUnset (trues trail.now.entries) lit × IsLiteral trail.now.vars lit) }
+    ensures touched { IfSome result (IsTouched trail.now.touched) }
     ensures positive { IfSome result IsPositive }
 {
     let _vars = trail.vars(); // So each variable's number is that of a literal.
     let lit = Lit::new((index + 1) as i32);
-    if trail.activity(index + 1) == 0 && is_free(trail, lit) {
+    if is_free(trail, lit) && trail.activity(index + 1) == 0 {
         Some(lit)
     } else {
         None
     }
 }
 
-// Whether this is a literal of the trail's variables without value.
+// Whether this is a literal of the trail's touched variables without value.
 fn is_free(trail: &Trail, lit: Lit) -> bool
+    ensures unset { result ≡ true → IsUnset (trues trail.now.entries) lit × IsLiteral trail.now.vars lit }
+    ensures touched { result ≡ true → IsTouched trail.now.touched lit }
+{
+    is_unset(trail, lit) && trail.is_touched(lit.var())
+}
+
+// Whether this is a literal of the trail's variables without value.
+fn is_unset(trail: &Trail, lit: Lit) -> bool
     ensures { result ≡ true → IsUnset (trues trail.now.entries) lit × IsLiteral trail.now.vars lit }
 {
     lit.var() <= trail.vars() && trail.value(lit).is_none()

@@ -21,6 +21,7 @@ impl Search {
         ensures search { (assumed : List ℤ) → IsSearch self.old assumed → IsSearch self.new assumed }
         ensures log { self.new.log ≡ self.old.log }
         ensures vars { self.new.trail.vars ≡ self.old.trail.vars }
+        ensures touched { self.new.trail.touched ≡ self.old.trail.touched }
         ensures true_first { self.new.true_first ≡ self.old.true_first }
     {
         self.plan.stop();

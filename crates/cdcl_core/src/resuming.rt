@@ -26,6 +26,7 @@ impl Search {
         ensures search { IsSearch self.new assumed.now }
         ensures log { self.new.log ≡ self.old.log }
         ensures vars { self.new.trail.vars ≡ self.old.trail.vars }
+        ensures touched { self.new.trail.touched ≡ self.old.trail.touched }
         ensures true_first { self.new.true_first ≡ self.old.true_first }
     {
         let mut reached = 0;
@@ -44,6 +45,7 @@ impl Search {
         ensures at_root { IsAtRoot self.new }
         ensures log { self.new.log ≡ self.old.log }
         ensures vars { self.new.trail.vars ≡ self.old.trail.vars }
+        ensures touched { self.new.trail.touched ≡ self.old.trail.touched }
         ensures true_first { self.new.true_first ≡ self.old.true_first }
         ensures levels { self.new.assumed_levels ≡ 0 }
     {
@@ -58,6 +60,7 @@ impl Search {
         ensures ready { IsReady self.new }
         ensures log { self.new.log ≡ self.old.log }
         ensures vars { self.new.trail.vars ≡ self.old.trail.vars }
+        ensures touched { self.new.trail.touched ≡ self.old.trail.touched }
         ensures true_first { self.new.true_first ≡ self.old.true_first }
     {
         self.assumed_levels = self.assumed_levels.min(level);

@@ -21,6 +21,7 @@
 //!
 //! Why a model under no assumed literals is greatest where choices are positive: a true literal of it was decided, and is
 //! positive, or is forced by earlier ones. So a model with all of its true variables agrees with it, literal by literal along the trail.
+//! What stands in no clause is not on the trail, and true in the model.
 //!
 //! It ends, since each round pays a unit or gives one more variable a value. A restart is part of a round that pays.
 //!
@@ -31,6 +32,8 @@ ghost use Rattle.trail_book.specs.Trail.{trues, IsTrail};
 ghost use Rattle.propagate.specs.Propagation as propagation;
 ghost use Rattle.propagate.specs.Propagation.{Grows, IsDone};
 ghost use Rattle.propagate.specs.Watches.{IsKept, KeepsClauses};
+ghost use Rattle.lrat_steps.specs.Log.{inputs_of};
+ghost use Rattle.cdcl_core.specs.State.{AreTouched};
 ghost use Rattle.cdcl_core.specs.Answers.{IsConsistent, IsHonestlyPaid, Tells, IsGreatest};
 ghost use Rattle.cdcl_core.specs.Search.{IsSearch, IsReady, IsRound, Ends};
 
@@ -77,11 +80,13 @@ impl Search {
         requires ready { IsReady self.old }
         requires literals { AreLiterals self.old.trail.vars assumed.now }
         requires consistent { IsConsistent assumed.now }
+        requires touched { AreTouched self.old.trail.touched (inputs_of self.old.log) }
         ensures answer { IfOk result (λ answer. Tells self.new.trail.vars self.new.log assumed.now purse.new.left answer) }
         ensures greatest { self.old.true_first ≡ true → assumed.now ≡ [] → IfOk result (λ answer. IsGreatest self.new.trail.vars self.new.log answer) }
         ensures ready { OnOk result (IsReady self.new) }
         ensures paid { IsHonestlyPaid self.old.log self.new.log purse.old.left purse.new.left }
         ensures vars { self.new.trail.vars ≡ self.old.trail.vars }
+        ensures touched { self.new.trail.touched ≡ self.old.trail.touched }
         ensures true_first { self.new.true_first ≡ self.old.true_first }
     {
         self.trail.start_at(turn);
@@ -101,9 +106,11 @@ impl Search {
         requires search { IsSearch self.old assumed.now }
         requires literals { AreLiterals self.old.trail.vars assumed.now }
         requires consistent { IsConsistent assumed.now }
+        requires touched { AreTouched self.old.trail.touched (inputs_of self.old.log) }
         ensures ends { IfOk result (λ answer. Ends self.new assumed.now purse.new.left answer) }
         ensures paid { IsHonestlyPaid self.old.log self.new.log purse.old.left purse.new.left }
         ensures vars { self.new.trail.vars ≡ self.old.trail.vars }
+        ensures touched { self.new.trail.touched ≡ self.old.trail.touched }
         ensures true_first { self.new.true_first ≡ self.old.true_first }
     {
         loop {
@@ -123,9 +130,11 @@ impl Search {
         requires search { IsSearch self.old assumed.now }
         requires literals { AreLiterals self.old.trail.vars assumed.now }
         requires consistent { IsConsistent assumed.now }
+        requires touched { AreTouched self.old.trail.touched (inputs_of self.old.log) }
         ensures round { IfOk result (λ answer. IsRound self.old self.new assumed.now purse.old.left purse.new.left answer) }
         ensures paid { IsHonestlyPaid self.old.log self.new.log purse.old.left purse.new.left }
         ensures vars { self.new.trail.vars ≡ self.old.trail.vars }
+        ensures touched { self.new.trail.touched ≡ self.old.trail.touched }
         ensures true_first { self.new.true_first ≡ self.old.true_first }
     {
         match self.spread(alloc, assumed)? {
@@ -143,6 +152,7 @@ impl Search {
         ensures grows { OnOk result (length self.old.trail.entries ≤ length self.new.trail.entries) }
         ensures paid { (left : ℕ) → IsHonestlyPaid self.old.log self.new.log left left }
         ensures vars { self.new.trail.vars ≡ self.old.trail.vars }
+        ensures touched { self.new.trail.touched ≡ self.old.trail.touched }
         ensures true_first { self.new.true_first ≡ self.old.true_first }
     {
         let told = propagate_by(&mut self.store, &mut self.trail, self.true_first);
@@ -162,6 +172,7 @@ fn propagate_by(store: &mut Store, trail: &mut Trail, true_first: bool) -> Propa
     ensures all_done { IsDone store.new trail.new result }
     ensures clauses { KeepsClauses store.old store.new }
     ensures vars { trail.new.vars ≡ trail.old.vars }
+    ensures touched { trail.new.touched ≡ trail.old.touched }
     ensures trail { IsTrail trail.new.vars trail.new.entries }
 {
     if true_first {

@@ -4,8 +4,10 @@
 //! added clause takes back as much of it as it asks for, and a search that assumes nothing goes on from there. Where a
 //! search wanted memory, the log is honest still, but the rest may be amid a step: the solver is broken then, and takes no
 //! further clause or search.
-ghost use Rattle.std.specs.Prelude.{◌≡◌, ◌<◌, ◌^◌, ◌++◌, ◌∷◌, [], true, false, IfOk, OnOk, OnErr, IsErr};
+ghost use Rattle.std.specs.Prelude.{◌≡◌, ℤ, ◌<◌, ◌^◌, ◌++◌, ◌∷◌, [], true, false, IfOk, OnOk, OnErr, IsErr};
 ghost use Rattle.sat_base.specs.Literals.{AreLiterals};
+ghost use Rattle.sat_base.specs.Members.{In};
+ghost use Rattle.trail_book.specs.Trail.{IsTouched};
 ghost use Rattle.lrat_steps.specs.Log.{Input};
 ghost use Rattle.lrat_steps.specs.Honest.{IsHonest};
 ghost use Rattle.cdcl_core.specs.Answers.{IsConsistent, IsHonestlyPaid, Tells, IsGreatest};
@@ -108,6 +110,7 @@ impl Solver {
         enter(&mut search.store, &mut search.trail, id, lits);
         search.assumed_levels = search.assumed_levels.min(search.trail.top());
         search.assumed_true = 0;
+        touch_all(&mut search.trail, lits);
         Ok(())
     }
 
@@ -170,5 +173,17 @@ impl Solver {
         ensures honest { IsHonest result }
     {
         self.search.log
+    }
+}
+
+// Has decisions be made on the variables of these literals.
+fn touch_all(trail: &mut Trail, lits: &[Lit])
+    requires { AreLiterals trail.old.vars lits.now }
+    ensures touched { (lit : ℤ) → In lit lits.now → IsTouched trail.new.touched lit }
+    ensures stay { (lit : ℤ) → IsTouched trail.old.touched lit → IsTouched trail.new.touched lit }
+    ensures rest { trail.new ≡ record trail.old { touched = trail.new.touched } }
+{
+    for lit in lits {
+        trail.touch(lit.var());
     }
 }

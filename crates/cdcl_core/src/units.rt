@@ -21,6 +21,7 @@ impl Search {
         ensures keeps { OnOk result (KeepsValues self.old self.new) }
         ensures paid { (left : ℕ) → IsHonestlyPaid self.old.log self.new.log left left }
         ensures vars { self.new.trail.vars ≡ self.old.trail.vars }
+        ensures touched { self.new.trail.touched ≡ self.old.trail.touched }
         ensures true_first { self.new.true_first ≡ self.old.true_first }
     {
         let len = self.trail.len();
@@ -39,6 +40,7 @@ impl Search {
         ensures keeps { OnOk result (KeepsValues self.old self.new) }
         ensures paid { (left : ℕ) → IsHonestlyPaid self.old.log self.new.log left left }
         ensures vars { self.new.trail.vars ≡ self.old.trail.vars }
+        ensures touched { self.new.trail.touched ≡ self.old.trail.touched }
         ensures true_first { self.new.true_first ≡ self.old.true_first }
     {
         let entry = self.trail.entry(place);

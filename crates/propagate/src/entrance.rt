@@ -62,6 +62,7 @@ pub fn enter(store: &mut Store, trail: &mut Trail, id: u64, lits: &[Lit])
     ensures loose { IsLooseBelow trail.old.entries (top trail.new.entries) lits.now }
     ensures stays { StaysWhereOpen trail.old.entries trail.new.entries lits.now }
     ensures vars { trail.new.vars ≡ trail.old.vars }
+    ensures touched { trail.new.touched ≡ trail.old.touched }
     ensures trail { IsTrail trail.new.vars trail.new.entries }
 {
     match reopen(store, trail, lits) {
@@ -84,6 +85,7 @@ fn reopen(store: &mut Store, trail: &mut Trail, lits: &[Lit]) -> Option<Lit>
     ensures unparked { IsUnparked store.old → IsUnparked store.new }
     ensures stays { StaysWhereOpen trail.old.entries trail.new.entries lits.now }
     ensures vars { trail.new.vars ≡ trail.old.vars }
+    ensures touched { trail.new.touched ≡ trail.old.touched }
     ensures trail { IsTrail trail.new.vars trail.new.entries }
 {
     let _vars = trail.vars(); // It is a trail, also where nothing is taken back.
@@ -113,6 +115,7 @@ fn below(store: &mut Store, trail: &mut Trail, lits: &[Lit], last: Lit) -> Optio
     ensures unparked { IsUnparked store.old → IsUnparked store.new }
     ensures stays { StaysWhereOpen trail.old.entries trail.new.entries lits.now }
     ensures vars { trail.new.vars ≡ trail.old.vars }
+    ensures touched { trail.new.touched ≡ trail.old.touched }
     ensures trail { IsTrail trail.new.vars trail.new.entries }
 {
     let level = level_of(trail, last.negated());
@@ -139,6 +142,7 @@ fn enter_open(store: &mut Store, trail: &mut Trail, id: u64, lits: &[Lit], first
     ensures loose { IsLooseBelow trail.old.entries (top trail.new.entries) lits.now }
     ensures stays { StaysWhereOpen trail.old.entries trail.new.entries lits.now }
     ensures vars { trail.new.vars ≡ trail.old.vars }
+    ensures touched { trail.new.touched ≡ trail.old.touched }
     ensures trail { IsTrail trail.new.vars trail.new.entries }
 {
     let _vars = trail.vars(); // It is a trail, also where nothing is forced.
@@ -164,6 +168,7 @@ fn enter_forcing(store: &mut Store, trail: &mut Trail, id: u64, lits: &[Lit], fi
     ensures loose { IsLooseBelow trail.old.entries (top trail.new.entries) lits.now }
     ensures stays { StaysWhereOpen trail.old.entries trail.new.entries lits.now }
     ensures vars { trail.new.vars ≡ trail.old.vars }
+    ensures touched { trail.new.touched ≡ trail.old.touched }
     ensures trail { IsTrail trail.new.vars trail.new.entries }
 {
     match last_false(trail, lits, Some(first)) {
@@ -189,6 +194,7 @@ fn force(store: &mut Store, trail: &mut Trail, lit: Lit, level: u32, id: u64)
     ensures watched { store.new.watched ≡ store.old.watched }
     ensures unparked { IsUnparked store.old → IsUnparked store.new }
     ensures vars { trail.new.vars ≡ trail.old.vars }
+    ensures touched { trail.new.touched ≡ trail.old.touched }
     ensures trail { IsTrail trail.new.vars trail.new.entries }
 {
     let _vars = trail.vars(); // It is a trail, also where nothing is forced.

@@ -28,6 +28,7 @@ pub fn back_to(store: &mut Store, trail: &mut Trail, level: u32)
     ensures unparked { IsUnparked store.old → IsUnparked store.new }
     ensures entries { trail.new.entries ≡ keep level trail.old.entries }
     ensures vars { trail.new.vars ≡ trail.old.vars }
+    ensures touched { trail.new.touched ≡ trail.old.touched }
     ensures done { trail.new.done ≡ min trail.old.done (length trail.new.entries) }
     ensures ranking { trail.new.ranking ≡ trail.old.ranking }
     ensures held { trail.new.held ≡ trail.old.held }

@@ -47,6 +47,7 @@ pub fn propagate(store: &mut Store, trail: &mut Trail) -> Propagated
     ensures all_done { IsDone store.new trail.new result }
     ensures clauses { KeepsClauses store.old store.new }
     ensures vars { trail.new.vars ≡ trail.old.vars }
+    ensures touched { trail.new.touched ≡ trail.old.touched }
     ensures trail { IsTrail trail.new.vars trail.new.entries }
     ensures unparked { IsUnparked store.old → IsUnparked store.new }
 {
@@ -62,6 +63,7 @@ pub fn propagate_parking(store: &mut Store, trail: &mut Trail) -> Propagated
     ensures all_done { IsDone store.new trail.new result }
     ensures clauses { KeepsClauses store.old store.new }
     ensures vars { trail.new.vars ≡ trail.old.vars }
+    ensures touched { trail.new.touched ≡ trail.old.touched }
     ensures trail { IsTrail trail.new.vars trail.new.entries }
 {
     propagate_by(store, trail, true)
@@ -76,6 +78,7 @@ fn propagate_by(store: &mut Store, trail: &mut Trail, parks: bool) -> Propagated
     ensures all_done { IsDone store.new trail.new result }
     ensures clauses { KeepsClauses store.old store.new }
     ensures vars { trail.new.vars ≡ trail.old.vars }
+    ensures touched { trail.new.touched ≡ trail.old.touched }
     ensures trail { IsTrail trail.new.vars trail.new.entries }
     ensures unasked { parks ≡ false → store.new.parks ≡ store.old.parks }
 {
@@ -109,6 +112,7 @@ fn visit_all(store: &mut Store, trail: &mut Trail, falsified: Lit, parks: bool) 
     ensures unasked { parks ≡ false → store.new.parks ≡ store.old.parks }
     ensures done { trail.new.done ≡ trail.old.done }
     ensures vars { trail.new.vars ≡ trail.old.vars }
+    ensures touched { trail.new.touched ≡ trail.old.touched }
     ensures trail { IsTrail trail.new.vars trail.new.entries }
 {
     let _vars = trail.vars(); // It is a trail, also where nothing is visited.
@@ -154,6 +158,7 @@ fn step(
     ensures unasked { parks ≡ false → store.new.parks ≡ store.old.parks }
     ensures done { trail.new.done ≡ trail.old.done }
     ensures vars { trail.new.vars ≡ trail.old.vars }
+    ensures touched { trail.new.touched ≡ trail.old.touched }
     ensures trail { IsTrail trail.new.vars trail.new.entries }
 {
     let _vars = trail.vars(); // No literal is both true and false.

@@ -1,8 +1,8 @@
 -- Heaps, by the keys at their places, and tables of places.
-use Rattle.std.proofs.Common.{◌≡◌, ◌≢◌, ℕ, zero, suc, ◌+◌, ◌-◌, ◌*◌, ◌/◌, ◌<◌, ◌≤◌, List, length, set, get_or, refl, sym, ◌∙◌, ap, subst, inl, inr, arith, length-set, get_or-set_same, get_or-set_other}
+use Rattle.std.proofs.Common.{◌≡◌, ◌≢◌, ◌⊎◌, ℕ, zero, suc, ◌+◌, ◌-◌, ◌*◌, ◌/◌, ◌<◌, ◌≤◌, List, length, set, get_or, refl, sym, ◌∙◌, ap, subst, inl, inr, arith, length-set, get_or-set_same, get_or-set_other}
 use Rattle.std.specs.Prelude.{slice_index}
 use Rattle.std.proofs.lemmas.Bool.{cases_eq}
-use Rattle.trail_book.specs.Heap.{Heap, Holds, IsBelow, AreOrdered, MayRise, Keeps, IsSwapped, IsRaised, ArePlaces, key, IsHeap}
+use Rattle.trail_book.specs.Heap.{Heap, Holds, AdmitsSame, IsBelow, AreOrdered, MayRise, Keeps, IsSwapped, IsRaised, ArePlaces, key, IsHeap}
 
 -- the keys of two places changed
 pub record AreExchanged (old new : ℕ → ℕ) (one other : ℕ) : Type 0 where
@@ -140,26 +140,96 @@ pub first_is_greatest : (rank : ℕ → ℕ) (heap : Heap) → IsHeap rank heap 
 first_is_greatest rank heap m all item h =
     subst (λ (n : ℕ). rank n ≤ rank (slice_index heap.items 0)) h.2 (top_is_greatest (key rank heap) heap.sorted m h.0 (omega (arith, h.1, all)))
 
--- what is held stays so where two places within the heap change their items
-pub swap_keeps : (old new : Heap) (one other : ℕ) → one < old.count → other < old.count → new.count ≡ old.count → length new.items ≡ length old.items
-    → IsSwapped old.items new.items one other → Keeps old new
-swap_keeps old new one other a b same size s = record {
+-- an item stands before a place
+abbrev pub StandsBefore : ℕ → List ℕ → ℕ → Type 0
+StandsBefore bound items item = (place : ℕ) × (place < bound) × (slice_index items place ≡ item)
+
+-- it still does where two places before it change their items
+swap_before : (bound : ℕ) (old new : List ℕ) (one other : ℕ) → one < bound → other < bound → IsSwapped old new one other
+    → (item : ℕ) → StandsBefore bound old item → StandsBefore bound new item
+swap_before bound old new one other a b s item h = elim (cases_eq h.0 one) [
+  | inl e ↦ (other, b, s.there ∙ ap (slice_index old) (sym e) ∙ h.2)
+  | inr not_one ↦ elim (cases_eq h.0 other) [
+    | inl e ↦ (one, a, s.here ∙ ap (slice_index old) (sym e) ∙ h.2)
+    | inr not_other ↦ (h.0, h.1, s.others h.0 not_one not_other ∙ h.2)
+  ]
+]
+
+swap_back : (old new : List ℕ) (one other : ℕ) → IsSwapped old new one other → IsSwapped new old one other
+swap_back old new one other s = record { here = sym s.there; there = sym s.here; others = λ place c d. sym (s.others place c d) }
+
+-- it does where its place says so, and the other way round
+pub stands_before : (items places : List ℕ) (bound item : ℕ) → ArePlaces items places → item < length items → slice_index places item < bound
+    → StandsBefore bound items item
+stands_before items places bound item t within low = (slice_index places item, low, t.item_at item within)
+
+pub place_before : (items places : List ℕ) (bound item : ℕ) → ArePlaces items places → bound ≤ length items → StandsBefore bound items item
+    → slice_index places item < bound
+place_before items places bound item t most h =
+    let back : slice_index places item ≡ h.0 = ap (slice_index places) (sym h.2) ∙ t.place_of h.0 (omega (arith, h.1, most)) in
+    omega (arith, back, h.1)
+
+-- an item that stands at a place or behind it changes places with the one there: it and no other stands before besides
+module _ (bound : ℕ) (old new : List ℕ) (one item : ℕ) (behind : bound ≤ one) (s : IsSwapped old new one bound) where
+  pub more_before : (other : ℕ) → StandsBefore bound old other → StandsBefore (bound + 1) new other
+  more_before other h =
+      (h.0, omega (arith, h.1), s.others h.0 (λ e. absurd (omega (arith, e, h.1, behind))) (λ e. absurd (omega (arith, e, h.1))) ∙ h.2)
+
+  pub item_before : slice_index old one ≡ item → StandsBefore (bound + 1) new item
+  item_before is = (bound, omega arith, s.there ∙ is)
+
+  pub only_before : slice_index old one ≡ item → (other : ℕ) → StandsBefore (bound + 1) new other → (other ≡ item) ⊎ StandsBefore bound old other
+  only_before is other h = elim (cases_eq h.0 bound) [
+    | inl e ↦ inl (sym h.2 ∙ ap (slice_index new) e ∙ s.there ∙ is)
+    | inr less ↦ inr (h.0, omega (arith, h.1, less), sym (s.others h.0 (λ e. absurd (omega (arith, e, behind, h.1, less))) less) ∙ h.2)
+  ]
+
+-- what is in order stays so where both places are behind it
+pub order_behind : (rank : ℕ → ℕ) (sorted : ℕ) (old new : List ℕ) (one other : ℕ) → sorted ≤ one → sorted ≤ other → IsSwapped old new one other
+    → AreOrdered 0 (λ p. rank (slice_index old p)) sorted → AreOrdered 0 (λ p. rank (slice_index new p)) sorted
+order_behind rank sorted old new one other a b s m = λ h l z c within.
+    omega (
+      arith,
+      m h l z c within,
+      ap rank (s.others l (λ e. absurd (omega (arith, e, within, a))) (λ e. absurd (omega (arith, e, within, b)))),
+      ap rank (s.others h (λ e. absurd (omega (arith, e, within, a, c.0))) (λ e. absurd (omega (arith, e, within, b, c.0)))),
+    )
+
+-- what may be held stays so where two places of it change their items
+pub swap_admits : (old new : Heap) (one other : ℕ) → one < old.admitted → other < old.admitted → new.admitted ≡ old.admitted
+    → IsSwapped old.items new.items one other → AdmitsSame old new
+swap_admits old new one other a b same s = λ item. (
+  λ h. swap_before old.admitted new.items old.items one other a b (swap_back old.items new.items one other s) item
+      (subst (λ (n : ℕ). StandsBefore n new.items item) same h),
+  λ h. subst (λ (n : ℕ). StandsBefore n new.items item) (sym same) (swap_before old.admitted old.items new.items one other a b s item h),
+)
+
+-- and what is held, where both are within the heap
+pub swap_keeps : (old new : Heap) (one other : ℕ) → one < old.count → other < old.count → old.count ≤ old.admitted → new.count ≡ old.count
+    → new.admitted ≡ old.admitted → length new.items ≡ length old.items → IsSwapped old.items new.items one other → Keeps old new
+swap_keeps old new one other a b within same may size s = record {
   count = same;
   size = size;
-  holds = λ item h. elim (cases_eq h.0 one) [
-    | inl e ↦ (other, omega (arith, b, same), s.there ∙ ap (slice_index old.items) (sym e) ∙ h.2)
-    | inr not_one ↦ elim (cases_eq h.0 other) [
-      | inl e ↦ (one, omega (arith, a, same), s.here ∙ ap (slice_index old.items) (sym e) ∙ h.2)
-      | inr not_other ↦ (h.0, omega (arith, h.1, same), s.others h.0 not_one not_other ∙ h.2)
-    ]
-  ];
+  holds = λ item h. subst (λ (n : ℕ). StandsBefore n new.items item) (sym same) (swap_before old.count old.items new.items one other a b s item h);
+  admits = swap_admits old new one other (omega (arith, a, within)) (omega (arith, b, within)) may s;
 }
 
+pub admits_all : (heap : Heap) → AdmitsSame heap heap
+admits_all heap = λ item. (λ h. h, λ h. h)
+
+pub admits_join : (a b c : Heap) → AdmitsSame a b → AdmitsSame b c → AdmitsSame a c
+admits_join a b c m n = λ item. (λ h. (m item).0 ((n item).0 h), λ h. (n item).1 ((m item).1 h))
+
 pub keeps_all : (heap : Heap) → Keeps heap heap
-keeps_all heap = record { count = refl; size = refl; holds = λ item h. h }
+keeps_all heap = record { count = refl; size = refl; holds = λ item h. h; admits = admits_all heap }
 
 pub keeps_more : (a b c : Heap) → Keeps a b → Keeps b c → Keeps a c
-keeps_more a b c m n = record { count = n.count ∙ m.count; size = n.size ∙ m.size; holds = λ item h. n.holds item (m.holds item h) }
+keeps_more a b c m n = record {
+  count = n.count ∙ m.count;
+  size = n.size ∙ m.size;
+  holds = λ item h. n.holds item (m.holds item h);
+  admits = admits_join a b c m.admits n.admits;
+}
 
 -- Two items of a table change places.
 abbrev pub exchange : List ℕ → ℕ → ℕ → List ℕ

@@ -122,13 +122,13 @@ unset_literal trues (negsuc m) index same u =
     let v : IsUnset trues (pos (suc m)) = subst (λ (k : ℕ). IsUnset trues (pos k)) (sym same) u in
     record { not_true = λ i. v.not_false i; not_false = λ i. v.not_true i }
 
--- where no variable waits, each has a value
-pub all_have_values : (vars : ℕ) (values : List Value) (trues : List ℤ) → AreValues vars values trues
-    → ((index : ℕ) → index < vars → slice_index_or values index Unset ≢ Unset) → (l : ℤ) → IsLiteral vars l → HasValue trues l
-all_have_values vars values trues are none l is_lit =
+-- where a value is not unset, the variable's literals have one
+pub has_value : (vars : ℕ) (values : List Value) (trues : List ℤ) → AreValues vars values trues → (l : ℤ) → IsLiteral vars l
+    → slice_index_or values (var_of l - 1) Unset ≢ Unset → HasValue trues l
+has_value vars values trues are l is_lit set =
     let index = var_of l - 1 in
     let within : index < vars = omega (arith, is_lit.not_zero, is_lit.in_range) in
-    value_of_var trues l index (omega (arith, is_lit.not_zero)) (is_set trues (pos (index + 1)) (slice_index_or values index Unset) (none index within) (are index within))
+    value_of_var trues l index (omega (arith, is_lit.not_zero)) (is_set trues (pos (index + 1)) (slice_index_or values index Unset) set (are index within))
 
 -- the order does not depend on the increment
 pub heap_grown : (r : Ranking) (heap : Heap) → IsHeap (rank r) heap → IsHeap (rank (grown r)) heap

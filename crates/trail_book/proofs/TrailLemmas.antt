@@ -2,13 +2,13 @@
 use Rattle.std.proofs.Common.{◌≡◌, ◌⊎◌, ℕ, zero, suc, ◌+◌, ◌-◌, ◌<◌, ◌≤◌, Bool, true, false, List, [], ◌∷◌, ◌++◌, length, map, drop, Option, Some, None, refl, sym, ◌∙◌, ap, subst, inl, inr, arith, eqb}
 use Rattle.std.specs.Prelude.{ℤ, pos, negsuc, neg_ℤ, nat_le, ◌==◌, if◌then◌else◌}
 use Rattle.std.specs.List.{list_any}
-use Rattle.std.proofs.lemmas.Bool.{eq-eqb, ne_eqb, eqb-true, or_cases, cond-true, cond-false, cases_eq, false≢true}
+use Rattle.std.proofs.lemmas.Bool.{eq-eqb, ne_eqb, cond-true, cond-false, cases_eq}
 use Rattle.std.proofs.lemmas.Bool.Decides.{leb_tells}
 use Rattle.std.proofs.lemmas.List.{length-map}
 use Rattle.std.proofs.Math.IntN.{neg_ℤ-neg_ℤ}
 use Rattle.sat_base.specs.Literals.{var_of, IsLiteral}
 use Rattle.sat_base.specs.Members.{In}
-use Rattle.sat_base.specs.Units.{IsUnset, HasValue}
+use Rattle.sat_base.specs.Units.{IsUnset}
 use Rattle.sat_base.proofs.Members.{In-append_right, In-map, In-from_map}
 use Rattle.trail_book.specs.declared.entry.Entry.{Entry}
 use Rattle.trail_book.specs.Trail.{trues, level_after, top, keep, oldest, IsTrail, with_unit}
@@ -196,32 +196,6 @@ free-sum vars (e ∷ es) t =
 
 pub trail_room : (vars : ℕ) (es : List Entry) → IsTrail vars es → length es ≤ vars
 trail_room vars es t = omega (arith, free-sum vars es t)
-
-free-some : (n v : ℕ) (es : List Entry) → 0 < v → v ≤ n → has_var es v ≡ false → 0 < free n es
-free-some zero v es low high none = absurd (omega (arith, low, high))
-free-some (suc n) v es low high none = elim (cases_eq v (suc n)) [
-  | inl same ↦ let here : has_var es (suc n) ≡ false = subst (λ (k : ℕ). has_var es k ≡ false) same none in rw (here) (omega arith)
-  | inr other ↦ both (has_var es (suc n)) (free-some n v es low (omega (arith, other, high)) none)
-]
-  where
-    both : (b : Bool) → 0 < free n es → 0 < one_if_free b (free n es)
-    both true h = h
-    both false h = omega arith
-
-has_var-value : (es : List Entry) (l : ℤ) → has_var es (var_of l) ≡ true → HasValue (trues es) l
-has_var-value [] l h = absurd (false≢true h)
-has_var-value (e ∷ es) l h = elim (or_cases (eqb (var_of e.lit) (var_of l)) (has_var es (var_of l)) h) [
-  | inl here ↦ elim (same_var e.lit l (eqb-true (var_of e.lit) (var_of l) here)) [ inl same ↦ inl (inl (sym same)) | inr other ↦ inr (inl (sym other)) ]
-  | inr later ↦ elim (has_var-value es l later) [ inl i ↦ inl (inr i) | inr i ↦ inr (inr i) ]
-]
-
--- where there are as many entries as variables, each variable has a value
-pub trail_full : (vars : ℕ) (es : List Entry) → IsTrail vars es → length es ≡ vars → (l : ℤ) → IsLiteral vars l → HasValue (trues es) l
-trail_full vars es t all l is = by (has_var es (var_of l)) refl
-  where
-    by : (b : Bool) → has_var es (var_of l) ≡ b → HasValue (trues es) l
-    by true h = has_var-value es l h
-    by false h = absurd (omega (arith, free-sum vars es t, free-some vars (var_of l) es is.not_zero is.in_range h, all))
 
 -- A unit step changes neither the literals of the entries nor their reasons.
 pub with_unit-lit : (v id : ℕ) (e : Entry) → (with_unit v id e).lit ≡ e.lit

@@ -1,15 +1,15 @@
 -- Variables that wait for a decision, and the literals as they were last held, as variables get and lose their values.
-use Rattle.std.proofs.Common.{◌≡◌, ◌≢◌, ℕ, ◌+◌, ◌-◌, ◌<◌, zero, suc, List, [], ◌∷◌, ◌++◌, append_assoc, replicate, length, set, refl, sym, ◌∙◌, ap, subst, inl, inr, arith, length-set, get_or-set_same, get_or-set_other}
+use Rattle.std.proofs.Common.{◌≡◌, ◌≢◌, ◌⊎◌, ℕ, ◌+◌, ◌-◌, ◌<◌, zero, suc, Bool, true, false, List, [], ◌∷◌, ◌++◌, append_assoc, replicate, length, set, refl, sym, ◌∙◌, ap, subst, inl, inr, arith, get_or-set_same, get_or-set_other}
 use Rattle.std.specs.Prelude.{ℤ, pos, negsuc, slice_index_or}
-use Rattle.std.proofs.lemmas.Bool.{cases_eq}
+use Rattle.std.proofs.lemmas.Bool.{cases_eq, false≢true}
 use Rattle.std.proofs.lemmas.List.{get_or-replicate}
 use Rattle.sat_base.specs.Literals.{var_of, IsLiteral}
 use Rattle.sat_base.specs.Units.{IsUnset, IsValue}
 use Rattle.trail_book.specs.declared.value.Value.{Value}
 use Rattle.trail_book.specs.declared.value.Value.TheVariants.{Unset}
 use Rattle.trail_book.specs.Values.{value_by, truth_of, AreValues}
-use Rattle.trail_book.specs.Heap.{Heap, Holds}
-use Rattle.trail_book.specs.Tables.{AreWaiting, AreOfVars, holding}
+use Rattle.trail_book.specs.Heap.{Heap, Holds, Admits, AdmitsSame}
+use Rattle.trail_book.specs.Tables.{AreAdmitted, AreWaiting, AreOfVars, holding}
 use Rattle.trail_book.specs.declared.entry.Entry.{Entry}
 use Rattle.trail_book.specs.Trail.{trues, IsTrail, positive_from}
 use Rattle.trail_book.proofs.PlaceLemmas.{unset_differs}
@@ -19,39 +19,86 @@ by_is_set (pos n) = λ same. cc
 by_is_set (negsuc n) = λ same. cc
 
 -- with one value more
-pub waiting_push : (values : List Value) (heap : Heap) (lit : ℤ) (index : ℕ) → index < length values → AreWaiting values heap
-    → AreWaiting (set values index (value_by lit)) heap
-waiting_push values heap lit index within waits = λ i h gone.
-    let len : length (set values index (value_by lit)) ≡ length values = length-set values index (value_by lit) in
+pub waiting_push : (values : List Value) (touched : List Bool) (heap : Heap) (lit : ℤ) (index : ℕ) → index < length values
+    → AreWaiting values touched heap → AreWaiting (set values index (value_by lit)) touched heap
+waiting_push values touched heap lit index within waits = λ i t gone.
     elim (cases_eq i index) [
       | inl same ↦
           absurd (by_is_set lit
           (sym (get_or-set_same values index (value_by lit) Unset within) ∙ ap (λ (k : ℕ). slice_index_or (set values index (value_by lit)) k Unset) (sym same) ∙ gone))
-      | inr other ↦ waits i (omega (arith, h, len)) (sym (get_or-set_other values index i (value_by lit) Unset other) ∙ gone)
+      | inr other ↦ waits i t (sym (get_or-set_other values index i (value_by lit) Unset other) ∙ gone)
     ]
 
--- with one value less, whose variable the heap takes in
-pub waiting_undo : (values : List Value) (old new : Heap) (index : ℕ) → index < length values → Holds new index
-    → ((item : ℕ) → Holds old item → Holds new item) → AreWaiting values old → AreWaiting (set values index Unset) new
-waiting_undo values old new index within taken more waits = λ i h gone.
-    let len : length (set values index Unset) ≡ length values = length-set values index Unset in
+-- with one value less, whose variable the heap takes in if it admits it
+pub waiting_undo : (values : List Value) (touched : List Bool) (old new : Heap) (index : ℕ) → (Admits old index → Holds new index)
+    → ((item : ℕ) → Holds old item → Holds new item) → AreAdmitted touched old → AreWaiting values touched old
+    → AreWaiting (set values index Unset) touched new
+waiting_undo values touched old new index taken more may waits = λ i t gone.
     elim (cases_eq i index) [
-      | inl same ↦ subst (Holds new) (sym same) taken
-      | inr other ↦ more i (waits i (omega (arith, h, len)) (sym (get_or-set_other values index i Unset Unset other) ∙ gone))
+      | inl same ↦ subst (Holds new) (sym same) (taken (subst (Admits old) same ((may i).1 t)))
+      | inr other ↦ more i (waits i t (sym (get_or-set_other values index i Unset Unset other) ∙ gone))
     ]
 
 -- the heap lets one go that has a value
-pub waiting_drop : (values : List Value) (old new : Heap) (index : ℕ) → slice_index_or values index Unset ≢ Unset
-    → ((item : ℕ) → Holds old item → item ≢ index → Holds new item) → AreWaiting values old → AreWaiting values new
-waiting_drop values old new index has less waits = λ i h gone.
-    less i (waits i h gone) (λ same. has (ap (λ (k : ℕ). slice_index_or values k Unset) (sym same) ∙ gone))
+pub waiting_drop : (values : List Value) (touched : List Bool) (old new : Heap) (index : ℕ) → slice_index_or values index Unset ≢ Unset
+    → ((item : ℕ) → Holds old item → item ≢ index → Holds new item) → AreWaiting values touched old → AreWaiting values touched new
+waiting_drop values touched old new index has less waits = λ i t gone.
+    less i (waits i t gone) (λ same. has (ap (λ (k : ℕ). slice_index_or values k Unset) (sym same) ∙ gone))
 
 -- another heap that holds the same and more
-pub waiting_more : (values : List Value) (old new : Heap) → ((item : ℕ) → Holds old item → Holds new item) → AreWaiting values old → AreWaiting values new
-waiting_more values old new more waits = λ i h gone. more i (waits i h gone)
+pub waiting_more : (values : List Value) (touched : List Bool) (old new : Heap) → ((item : ℕ) → Holds old item → Holds new item)
+    → AreWaiting values touched old → AreWaiting values touched new
+waiting_more values touched old new more waits = λ i t gone. more i (waits i t gone)
 
-pub waiting_all : (values : List Value) (heap : Heap) (vars : ℕ) → length values ≡ vars → ((item : ℕ) → item < vars → Holds heap item) → AreWaiting values heap
-waiting_all values heap vars len all = λ i h gone. all i (omega (arith, h, len))
+-- a heap that holds all that it may hold
+pub waiting_all : (values : List Value) (touched : List Bool) (old new : Heap) → ((item : ℕ) → Admits old item → Holds new item)
+    → AreAdmitted touched old → AreWaiting values touched new
+waiting_all values touched old new all may = λ i t gone. all i ((may i).1 t)
+
+-- a variable is touched, and the heap holds it
+pub waiting_touch : (values : List Value) (touched : List Bool) (old new : Heap) (index : ℕ) → Holds new index
+    → ((item : ℕ) → Holds old item → Holds new item) → AreWaiting values touched old → AreWaiting values (set touched index true) new
+waiting_touch values touched old new index taken more waits = λ i t gone.
+    elim (cases_eq i index) [
+      | inl same ↦ subst (Holds new) (sym same) taken
+      | inr other ↦ more i (waits i (sym (get_or-set_other touched index i true false other) ∙ t) gone)
+    ]
+
+-- and admits it besides
+pub admitted_touch : (touched : List Bool) (old new : Heap) (index : ℕ) → index < length touched → Admits new index
+    → ((item : ℕ) → Admits old item → Admits new item) → ((item : ℕ) → Admits new item → (item ≡ index) ⊎ Admits old item)
+    → AreAdmitted touched old → AreAdmitted (set touched index true) new
+admitted_touch touched old new index within taken more only may =
+    λ i. (λ has. elim (cases_eq i index) [ inl same ↦ here i same | inr other ↦ there i other (only i has) ], λ t. back i t)
+  where
+    here : (i : ℕ) → i ≡ index → slice_index_or (set touched index true) i false ≡ true
+    here i same = ap (λ (k : ℕ). slice_index_or (set touched index true) k false) same ∙ get_or-set_same touched index true false within
+
+    there : (i : ℕ) → i ≢ index → (i ≡ index) ⊎ Admits old i → slice_index_or (set touched index true) i false ≡ true
+    there i other (inl same) = absurd (other same)
+    there i other (inr before) = get_or-set_other touched index i true false other ∙ (may i).0 before
+
+    back : (i : ℕ) → slice_index_or (set touched index true) i false ≡ true → Admits new i
+    back i t = elim (cases_eq i index) [
+      | inl same ↦ subst (Admits new) (sym same) taken
+      | inr other ↦ more i ((may i).1 (sym (get_or-set_other touched index i true false other) ∙ t))
+    ]
+
+-- another heap that admits the same
+pub admitted_same : (touched : List Bool) (old new : Heap) → AdmitsSame old new → AreAdmitted touched old → AreAdmitted touched new
+admitted_same touched old new same may = λ i. (λ has. (may i).0 ((same i).0 has), λ t. (same i).1 ((may i).1 t))
+
+-- at first no variable is touched
+pub admitted_new : (vars : ℕ) (touched : List Bool) (heap : Heap) → heap.admitted ≡ 0 → touched ≡ replicate vars false → AreAdmitted touched heap
+admitted_new vars touched heap none is = λ i. (λ has. absurd (omega (arith, has.1, none)), λ t. absurd (false≢true (sym (not_touched i) ∙ t)))
+  where
+    replicated : (n i : ℕ) → slice_index_or (replicate n false) i false ≡ false
+    replicated zero i = refl
+    replicated (suc n) zero = refl
+    replicated (suc n) (suc i) = replicated n i
+
+    not_touched : (i : ℕ) → slice_index_or touched i false ≡ false
+    not_touched i = ap (λ (bs : List Bool). slice_index_or bs i false) is ∙ replicated vars i
 
 -- the literal of a variable takes the place of the one before
 pub held_note : (vars : ℕ) (held : List ℤ) (lit : ℤ) → IsLiteral vars lit → length held ≡ vars → AreOfVars vars held

@@ -1,10 +1,13 @@
 -- A binary heap, the greatest item first (Williams 1964), of numbered items that have a rank. All items stand in one list.
--- The heap holds the first ones, of these the first are in order, and the others wait to be put in order.
-use Rattle.std.specs.Prelude.{◌≡◌, ◌≢◌, ℕ, ◌+◌, ◌*◌, ◌<◌, ◌≤◌, ◌^◌, List, length, slice_index}
+-- The heap admits the first ones, of these it holds the first, of these the first are in order, and the others wait to be
+-- put in order.
+use Rattle.std.specs.Prelude.{◌≡◌, ◌≢◌, ◌↔◌, ℕ, ◌+◌, ◌*◌, ◌<◌, ◌≤◌, ◌^◌, List, length, slice_index}
 use Rattle.trail_book.specs.declared.heap.Heap.TheInside.{Inside}
 
 pub record Heap : Type 0 where
   pub items : List ℕ
+  -- how many it may hold
+  pub admitted : ℕ
   -- how many it holds
   pub count : ℕ
   -- how many of those are in order
@@ -13,6 +16,14 @@ pub record Heap : Type 0 where
 -- the heap holds an item
 abbrev pub Holds : Heap → ℕ → Type 0
 Holds heap item = (place : ℕ) × (place < heap.count) × (slice_index heap.items place ≡ item)
+
+-- the heap may hold an item
+abbrev pub Admits : Heap → ℕ → Type 0
+Admits heap item = (place : ℕ) × (place < heap.admitted) × (slice_index heap.items place ≡ item)
+
+-- it may hold the same items
+abbrev pub AdmitsSame : Heap → Heap → Type 0
+AdmitsSame old new = (item : ℕ) → Admits new item ↔ Admits old item
 
 -- each place has two below it
 abbrev pub IsBelow : ℕ → ℕ → Type 0
@@ -41,6 +52,7 @@ pub record Keeps (old new : Heap) : Type 0 where
   pub count : new.count ≡ old.count
   pub size : length new.items ≡ length old.items
   pub holds : (item : ℕ) → Holds old item → Holds new item
+  pub admits : AdmitsSame old new
 
 -- two places changed their items, and the others did not
 pub record IsSwapped (old new : List ℕ) (one other : ℕ) : Type 0 where
@@ -55,7 +67,7 @@ pub record IsRaised (old new : ℕ → ℕ) (item : ℕ) : Type 0 where
 
 -- what callers see of the tables
 abbrev pub heap_of : Inside → Heap
-heap_of inside = record { items = inside.items.items; count = inside.count; sorted = inside.sorted }
+heap_of inside = record { items = inside.items.items; admitted = inside.admitted; count = inside.count; sorted = inside.sorted }
 
 -- each item stands at its place, and at no other
 pub record ArePlaces (items places : List ℕ) : Type 0 where
@@ -68,5 +80,6 @@ pub record ArePlaces (items places : List ℕ) : Type 0 where
 pub record IsTable (inside : Inside) : Type 0 where
   pub places : ArePlaces inside.items.items inside.places.items
   pub sorted : inside.sorted ≤ inside.count
-  pub count : inside.count ≤ length inside.items.items
+  pub count : inside.count ≤ inside.admitted
+  pub admitted : inside.admitted ≤ length inside.items.items
   pub small : length inside.items.items < 2 ^ 31

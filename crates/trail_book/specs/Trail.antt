@@ -1,5 +1,5 @@
 -- The trail: the literals that are true, the newest first, each with what made it true (MiniSat: Eén and Sörensson 2003).
-use Rattle.std.specs.Prelude.{◌≡◌, ℕ, ◌+◌, ◌-◌, ◌<◌, List, [], ◌∷◌, length, map, drop, ℤ, pos, zero, suc, Option, Some, None, ◌==◌, nat_le, if◌then◌else◌}
+use Rattle.std.specs.Prelude.{◌≡◌, ℕ, ◌+◌, ◌-◌, ◌<◌, Bool, true, false, List, [], ◌∷◌, length, map, drop, replicate, ℤ, pos, zero, suc, Option, Some, None, ◌==◌, nat_le, if◌then◌else◌, slice_index_or}
 use Rattle.sat_base.specs.Literals.{var_of, IsLiteral}
 use Rattle.sat_base.specs.Units.{IsUnset}
 use Rattle.trail_book.specs.declared.entry.Entry.{Entry}
@@ -16,15 +16,21 @@ pub record Trail : Type 0 where
   pub ranking : Ranking
   -- the literal of each variable that was last true, that of variable 1 first
   pub held : List ℤ
+  -- whether decisions are made on a variable, that of variable 1 first
+  pub touched : List Bool
 
 -- at first, literals are positive
 abbrev pub positive_from : ℕ → ℕ → List ℤ
 positive_from first zero = []
 positive_from first (suc count) = pos first ∷ positive_from (first + 1) count
 
--- no literal was ever true
+-- no literal was ever true, and no variable is touched
 abbrev pub new_trail : ℕ → Trail
-new_trail vars = record { vars = vars; entries = []; done = 0; ranking = unranked vars; held = positive_from 1 vars }
+new_trail vars = record { vars = vars; entries = []; done = 0; ranking = unranked vars; held = positive_from 1 vars; touched = replicate vars false }
+
+-- the variable of the literal is touched
+abbrev pub IsTouched : List Bool → ℤ → Type 0
+IsTouched touched lit = slice_index_or touched (var_of lit - 1) false ≡ true
 
 -- the literals that are true
 abbrev pub trues : List Entry → List ℤ
@@ -65,10 +71,10 @@ pub record IsPlace (es : List Entry) (var place : ℕ) : Type 0 where
 abbrev pub with_unit : ℕ → ℕ → Entry → Entry
 with_unit var id e = if var_of e.lit == var then record { lit = e.lit; reason = e.reason; unit = Some id } else e
 
--- no variable without value comes before that of this literal
+-- no touched variable without value comes before that of this literal
 abbrev pub IsFirst : Trail → ℤ → Type 0
 IsFirst trail lit =
-    (other : ℤ) → IsLiteral trail.vars other → IsUnset (trues trail.entries) other → ComesFirst trail.ranking (var_of lit - 1) (var_of other - 1)
+    (other : ℤ) → IsLiteral trail.vars other → IsTouched trail.touched other → IsUnset (trues trail.entries) other → ComesFirst trail.ranking (var_of lit - 1) (var_of other - 1)
 
 -- the same, maybe with another order of decisions
 abbrev pub IsReordered : Trail → Trail → Type 0

@@ -5,11 +5,14 @@
 //! list has the place of each. So an item is found by index, moved by changes of two places, and all memory is taken at
 //! the start. Variables are named by their index in the tables, from 0.
 //!
+//! At first the heap may hold no variable. Those that it admits stand before the others in the list, held or not, so that
+//! all of them are taken in at once, and those that it does not admit cost nothing.
+//!
 //! What is taken in waits behind the first `sorted`, which are in order, until order is asked for. Then either each moves up
 //! or, where many came, the whole is ordered from its last inner place to the top, which takes linear time (Floyd 1964).
-ghost use Rattle.std.specs.Prelude.{◌≡◌, ◌≢◌, ℕ, ◌+◌, ◌*◌, ◌<◌, ◌≤◌, ◌^◌, length, true, false, IfOk, IfSome, IfNone, slice_index};
+ghost use Rattle.std.specs.Prelude.{◌≡◌, ◌≢◌, ◌⊎◌, ℕ, ◌+◌, ◌*◌, ◌<◌, ◌≤◌, ◌^◌, length, true, false, IfOk, IfSome, IfNone, slice_index};
 ghost use Rattle.trail_book.specs.Order.{Ranking, rank};
-ghost use Rattle.trail_book.specs.Heap.{Holds, IsBelow, key, AreOrdered, IsHeap, MayRise, Keeps, IsSwapped, IsRaised};
+ghost use Rattle.trail_book.specs.Heap.{Holds, Admits, AdmitsSame, IsBelow, key, AreOrdered, IsHeap, MayRise, Keeps, IsSwapped, IsRaised};
 
 use crate::order::Ranking;
 use std::alloc::{AllocError, Global};
@@ -23,6 +26,8 @@ pub(crate) struct Heap {
     items: Vec<u32>,
     // By item.
     places: Vec<u32>,
+    // So many of the items, the first ones, may be held.
+    admitted: u32,
     count: u32,
     // So many of the items that are held, the first ones, are in order.
     sorted: u32,
@@ -41,17 +46,18 @@ impl Model for Heap {
 }
 
 impl Heap {
-    /// A heap that holds so many items.
+    /// A heap of so many items, of which it admits none.
     pub fn new(alloc: Global, size: u32) -> Result<Heap, AllocError>
         requires { size < 2 ^ 31 }
         ensures size { IfOk result (λ heap. length heap.items ≡ size) }
         ensures sorted { IfOk result (λ heap. heap.sorted ≡ 0) }
-        ensures holds { IfOk result (λ heap. (item : ℕ) → item < size → Holds heap item) }
+        ensures admitted { IfOk result (λ heap. heap.admitted ≡ 0) }
     {
         Ok(Heap {
             items: numbers(alloc, size)?,
             places: numbers(alloc, size)?,
-            count: size,
+            admitted: 0,
+            count: 0,
             sorted: 0,
         })
     }
@@ -59,6 +65,7 @@ impl Heap {
     /// The first item, which is that of greatest rank where all are in order.
     pub fn first(&self) -> Option<u32>
         ensures some { IfSome result (λ item. (item ≡ slice_index self.now.items 0) × (0 < self.now.count) × (item < length self.now.items)) }
+        ensures admitted { IfSome result (Admits self.now) }
         ensures none { IfNone result (self.now.count ≡ 0) }
     {
         if self.count == 0 {
@@ -79,6 +86,7 @@ impl Heap {
         ensures sorted { self.new.sorted ≡ self.new.count }
         ensures count { self.new.count + 1 ≡ self.old.count }
         ensures holds { (item : ℕ) → Holds self.old item → item ≢ slice_index self.old.items 0 → Holds self.new item }
+        ensures admits { AdmitsSame self.old self.new }
     {
         let last = self.count - 1;
         self.swap(0, last);
@@ -87,20 +95,44 @@ impl Heap {
         self.sink(ranking, 0);
     }
 
-    /// Takes an item in, if the heap does not hold it.
+    /// Lets the heap hold an item from now on, which it did not admit before.
+    pub fn admit(&mut self, item: u32)
+        requires item { item < length self.old.items }
+        requires fresh { ¬ Admits self.old item }
+        ensures size { length self.new.items ≡ length self.old.items }
+        ensures heap { (rank : ℕ → ℕ) → IsHeap rank self.old → IsHeap rank self.new }
+        ensures holds { (other : ℕ) → Holds self.old other → Holds self.new other }
+        ensures item { Admits self.new item }
+        ensures others { (other : ℕ) → Admits self.old other → Admits self.new other }
+        ensures only { (other : ℕ) → Admits self.new other → (other ≡ item) ⊎ Admits self.old other }
+    {
+        let place = self.places[item as usize];
+        self.swap(place, self.admitted);
+        self.admitted += 1;
+    }
+
+    /// Takes an item in, if the heap admits it and does not hold it.
     pub fn insert(&mut self, item: u32)
         requires item { item < length self.old.items }
         ensures size { length self.new.items ≡ length self.old.items }
         ensures heap { (rank : ℕ → ℕ) → IsHeap rank self.old → IsHeap rank self.new }
-        ensures item { Holds self.new item }
+        ensures item { Admits self.old item → Holds self.new item }
         ensures holds { (other : ℕ) → Holds self.old other → Holds self.new other }
+        ensures admits { AdmitsSame self.old self.new }
     {
         let place = self.places[item as usize];
-        if place < self.count {
+        if place < self.count || place >= self.admitted {
             return;
         }
         self.swap(place, self.count);
         self.count += 1;
+    }
+
+    /// How many items the heap may hold.
+    pub fn admitted(&self) -> u32
+        ensures { result ≡ self.now.admitted }
+    {
+        self.admitted
     }
 
     /// How many items the heap holds.
@@ -122,6 +154,7 @@ impl Heap {
         requires { place < self.now.count }
         ensures item { result ≡ slice_index self.now.items place }
         ensures within { result < length self.now.items }
+        ensures admitted { Admits self.now result }
     {
         self.items[place as usize]
     }
@@ -135,6 +168,7 @@ impl Heap {
         ensures sorted { self.new.sorted ≡ self.old.sorted }
         ensures count { self.new.count + 1 ≡ self.old.count }
         ensures holds { (item : ℕ) → Holds self.old item → item ≢ slice_index self.old.items place → Holds self.new item }
+        ensures admits { AdmitsSame self.old self.new }
     {
         let last = self.count - 1;
         self.swap(place, last);
@@ -155,13 +189,14 @@ impl Heap {
         }
     }
 
-    /// Takes all items in, of which none counts as being in order.
+    /// Takes in all items that the heap admits, of which none counts as being in order.
     pub fn fill(&mut self)
         ensures size { length self.new.items ≡ length self.old.items }
         ensures sorted { self.new.sorted ≡ 0 }
-        ensures holds { (item : ℕ) → item < length self.new.items → Holds self.new item }
+        ensures holds { (item : ℕ) → Admits self.old item → Holds self.new item }
+        ensures admits { AdmitsSame self.old self.new }
     {
-        self.count = self.size();
+        self.count = self.admitted;
         self.sorted = 0;
     }
 
@@ -219,7 +254,7 @@ impl Heap {
         ensures small { result < 2 ^ 31 }
         ensures room { self.now.count ≤ result }
         ensures sorted { self.now.sorted ≤ self.now.count }
-        ensures all { (item : ℕ) → item < result → (place : ℕ) × (place < result) × (slice_index self.now.items place ≡ item) }
+        ensures admitted { self.now.count ≤ self.now.admitted }
     {
         self.items.len() as u32
     }
@@ -240,6 +275,7 @@ impl Heap {
         requires one { one < length self.old.items }
         requires other { other < length self.old.items }
         ensures size { length self.new.items ≡ length self.old.items }
+        ensures admitted { self.new.admitted ≡ self.old.admitted }
         ensures count { self.new.count ≡ self.old.count }
         ensures sorted { self.new.sorted ≡ self.old.sorted }
         ensures swapped { IsSwapped self.old.items self.new.items one other }

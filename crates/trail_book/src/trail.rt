@@ -6,15 +6,17 @@
 //! and backtracking takes slots from the end while theirs is too high. Room for one slot a variable is taken at the
 //! start, and no variable stands twice, so nothing that comes later can want memory.
 //!
-//! Each variable without value waits in a heap, the first in the order of decisions at its top. A variable that gets a
-//! value stays there until it comes to the top, since most lose their value again before that. One that loses its value is
-//! taken in without order. Only a decision asks for order, and what has a value by then is let go before.
+//! No decision is made on a variable until it is touched. Each touched variable without value waits in a heap, the first in
+//! the order of decisions at its top. A variable that gets a value stays there until it comes to the top, since most lose
+//! their value again before that. One that loses its value is taken in without order. Only a decision asks for order, and
+//! what has a value by then is let go before. A variable that is not touched costs a decision nothing: the heap does not
+//! admit it.
 //!
 //! Where there are at most 64 variables, the true literals are kept as a set besides, in two words.
 //!
 //! What was last true is noted where a value is taken back, and not where it comes: for a variable with a value that is
 //! the literal on the trail.
-ghost use Rattle.std.specs.Prelude.{◌≡◌, ℕ, ◌+◌, ◌-◌, ◌<◌, ◌≤◌, ◌^◌, ◌∷◌, [], length, map, drop, ℤ, pos, true, IfOk, Some, None, IfSome, IfNone, neg_ℤ, min, slice_index_or, slice_set};
+ghost use Rattle.std.specs.Prelude.{◌≡◌, ℕ, ◌+◌, ◌-◌, ◌<◌, ◌≤◌, ◌^◌, ◌∷◌, [], length, map, drop, ℤ, pos, true, false, IfOk, Some, None, IfSome, IfNone, neg_ℤ, min, slice_index_or, slice_set};
 ghost use Rattle.sat_base.specs.Literals.{var_of, IsLiteral};
 ghost use Rattle.sat_base.specs.Members.{In};
 ghost use Rattle.sat_base.specs.Units.{IsUnset, HasValue, IsValue};
@@ -22,7 +24,7 @@ ghost use Rattle.lit_words.specs.Words.{AreWordsOf};
 ghost use Rattle.trail_book.specs.declared.entry.Entry.{Entry};
 ghost use Rattle.trail_book.specs.Slots.{entry_of};
 ghost use Rattle.trail_book.specs.Order.{IsPositive, activity_of, bumped, halved, grown, turned};
-ghost use Rattle.trail_book.specs.Trail.{trues, top, keep, oldest, IsTrail, IsPlace, with_unit, positive_from, new_trail, IsFirst, IsReordered};
+ghost use Rattle.trail_book.specs.Trail.{trues, top, keep, oldest, IsTrail, IsPlace, with_unit, positive_from, new_trail, IsTouched, IsFirst, IsReordered};
 
 use crate::entry::Entry;
 use crate::heap::Heap;
@@ -48,8 +50,10 @@ pub struct Trail {
     done: u32,
     // By variable: the literal that was last taken back, at first the positive one.
     held: Vec<Lit>,
+    // By variable: whether it is touched.
+    touched: Vec<bool>,
     ranking: Ranking,
-    // Each variable without value is in it, and maybe others.
+    // It admits the touched variables. Each of them that has no value is in it, and maybe others.
     heap: Heap,
     // Where there are at most 64 variables: the literals that are true.
     words: LitWords,
@@ -68,7 +72,7 @@ impl Model for Trail {
 }
 
 impl Trail {
-    /// No literal is true. All memory that the trail will ever need is taken here.
+    /// No literal is true, and no variable is touched. All memory that the trail will ever need is taken here.
     pub fn new(alloc: Global, vars: u32) -> Result<Trail, AllocError>
         requires { vars < 2 ^ 31 }
         ensures { IfOk result (λ trail. trail ≡ new_trail vars) }
@@ -79,6 +83,7 @@ impl Trail {
             values: vec![in alloc; Value::Unset; vars as usize]?,
             places: vec![in alloc; 0u32; vars as usize]?,
             held: positive(alloc, vars)?,
+            touched: vec![in alloc; false; vars as usize]?,
             ranking: Ranking::new(alloc, vars)?,
             heap: Heap::new(alloc, vars)?,
             words: LitWords::new(),
@@ -208,6 +213,29 @@ impl Trail {
         id(self.slots[self.place(var) as usize].unit)
     }
 
+    /// Has decisions be made on a variable from now on: a clause has come in which it stands, say.
+    pub fn touch(&mut self, var: u32)
+        requires { IsLiteral self.old.vars (pos var) }
+        ensures var { IsTouched self.new.touched (pos var) }
+        ensures rest { self.new ≡ record self.old { touched = slice_set self.old.touched (var - 1) true } }
+    {
+        let index = var - 1;
+        if self.touched[index as usize] {
+            return;
+        }
+        self.touched[index as usize] = true;
+        self.heap.admit(index);
+        self.heap.insert(index);
+    }
+
+    /// Whether decisions are made on a variable.
+    pub fn is_touched(&self, var: u32) -> bool
+        requires { IsLiteral self.now.vars (pos var) }
+        ensures { result ≡ slice_index_or self.now.touched (var - 1) false }
+    {
+        self.touched[(var - 1) as usize]
+    }
+
     /// Makes a literal true by a clause. It stands at the current level.
     pub fn assign(&mut self, lit: Lit, reason: u64)
         requires unset { IsUnset (trues self.old.entries) lit }
@@ -218,6 +246,7 @@ impl Trail {
         ensures done { self.new.done ≡ self.old.done }
         ensures ranking { self.new.ranking ≡ self.old.ranking }
         ensures held { self.new.held ≡ slice_set self.old.held (var_of lit - 1) lit }
+        ensures touched { self.new.touched ≡ self.old.touched }
         ensures trail { IsTrail self.new.vars self.new.entries }
     {
         let level = self.top();
@@ -238,6 +267,7 @@ impl Trail {
         ensures done { self.new.done ≡ self.old.done }
         ensures ranking { self.new.ranking ≡ self.old.ranking }
         ensures held { self.new.held ≡ slice_set self.old.held (var_of lit - 1) lit }
+        ensures touched { self.new.touched ≡ self.old.touched }
         ensures trail { IsTrail self.new.vars self.new.entries }
     {
         let _vars = self.vars(); // A trail has no more levels than variables.
@@ -259,6 +289,7 @@ impl Trail {
         ensures done { self.new.done ≡ self.old.done }
         ensures ranking { self.new.ranking ≡ self.old.ranking }
         ensures held { self.new.held ≡ self.old.held }
+        ensures touched { self.new.touched ≡ self.old.touched }
     {
         let place = self.place(var) as usize;
         self.slots[place].unit = id;
@@ -271,6 +302,7 @@ impl Trail {
         ensures done { self.new.done ≡ min self.old.done (length self.new.entries) }
         ensures ranking { self.new.ranking ≡ self.old.ranking }
         ensures held { self.new.held ≡ self.old.held }
+        ensures touched { self.new.touched ≡ self.old.touched }
         ensures trail { IsTrail self.new.vars self.new.entries }
     {
         let _vars = self.vars(); // This is a trail, also where nothing is above the level.
@@ -287,6 +319,7 @@ impl Trail {
         ensures done { self.new.done ≡ min self.old.done (length self.old.entries) }
         ensures ranking { self.new.ranking ≡ self.old.ranking }
         ensures held { self.new.held ≡ self.old.held }
+        ensures touched { self.new.touched ≡ self.old.touched }
     {
         self.done = self.done.min(self.len());
     }
@@ -334,13 +367,14 @@ impl Trail {
         }
     }
 
-    /// A literal that has no value, for the next decision. Its variable is the first in the order of decisions, and it is
-    /// as it was last held.
+    /// A literal that has no value, for the next decision. Its variable is the first of the touched ones in the order of
+    /// decisions, and it is as it was last held.
     pub fn pick(&mut self) -> Option<Lit>
         ensures some { IfSome result (λ lit. IsUnset (trues self.old.entries) lit × IsLiteral self.old.vars lit) }
+        ensures touched { IfSome result (IsTouched self.old.touched) }
         ensures first { IfSome result (λ lit. IsFirst self.old lit) }
         ensures held { IfSome result (λ lit. lit ≡ slice_index_or self.old.held (var_of lit - 1) (pos 0)) }
-        ensures none { IfNone result ((lit : ℤ) → IsLiteral self.old.vars lit → HasValue (trues self.old.entries) lit) }
+        ensures none { IfNone result ((lit : ℤ) → IsLiteral self.old.vars lit → IsTouched self.old.touched lit → HasValue (trues self.old.entries) lit) }
         ensures same { self.new ≡ self.old }
     {
         let index = self.first_unset()?;
@@ -350,9 +384,10 @@ impl Trail {
     /// The same, but positive.
     pub fn pick_true(&mut self) -> Option<Lit>
         ensures some { IfSome result (λ lit. IsUnset (trues self.old.entries) lit × IsLiteral self.old.vars lit) }
+        ensures touched { IfSome result (IsTouched self.old.touched) }
         ensures first { IfSome result (λ lit. IsFirst self.old lit) }
         ensures positive { IfSome result (λ lit. IsPositive lit) }
-        ensures none { IfNone result ((lit : ℤ) → IsLiteral self.old.vars lit → HasValue (trues self.old.entries) lit) }
+        ensures none { IfNone result ((lit : ℤ) → IsLiteral self.old.vars lit → IsTouched self.old.touched lit → HasValue (trues self.old.entries) lit) }
         ensures same { self.new ≡ self.old }
     {
         let _vars = self.vars(); // So each variable's number is that of a literal.
@@ -360,11 +395,17 @@ impl Trail {
         Some(Lit::new((index + 1) as i32))
     }
 
-    // Whether each variable has a value.
-    fn is_full(&self) -> bool
-        ensures { result ≡ true → (lit : ℤ) → IsLiteral self.now.vars lit → HasValue (trues self.now.entries) lit }
+    /// Whether each touched variable has a value. It costs what waits in the heap, up to a variable that has none.
+    pub fn is_full(&self) -> bool
+        ensures yes { result ≡ true → (lit : ℤ) → IsLiteral self.now.vars lit → IsTouched self.now.touched lit → HasValue (trues self.now.entries) lit }
+        ensures no { result ≡ false → (lit : ℤ) × IsLiteral self.now.vars lit × IsTouched self.now.touched lit × IsUnset (trues self.now.entries) lit }
     {
-        self.len() == self.vars()
+        for place in 0..self.heap.count() {
+            if self.values[self.heap.at(place) as usize] == Value::Unset {
+                return false;
+            }
+        }
+        true
     }
 
     // Lets variables that have a value go from the heap, of those that are not in order there.
@@ -382,15 +423,17 @@ impl Trail {
         }
     }
 
-    // The index of the variable without value that comes first. Those that are taken off the heap have a value.
+    // The index of the touched variable without value that comes first. Those that are taken off the heap have a value.
     fn first_unset(&mut self) -> Option<u32>
         ensures some { IfSome result (λ index. IsUnset (trues self.old.entries) (pos (index + 1)) × (index < self.old.vars)) }
+        ensures touched { IfSome result (λ index. IsTouched self.old.touched (pos (index + 1))) }
         ensures first { IfSome result (λ index. IsFirst self.old (pos (index + 1))) }
-        ensures none { IfNone result ((lit : ℤ) → IsLiteral self.old.vars lit → HasValue (trues self.old.entries) lit) }
+        ensures none { IfNone result ((lit : ℤ) → IsLiteral self.old.vars lit → IsTouched self.old.touched lit → HasValue (trues self.old.entries) lit) }
         ensures same { self.new ≡ self.old }
     {
         let _vars = self.ranking.vars(); // The circle begins within the variables.
-        if self.is_full() {
+        // Fewer values leave a touched variable without one, and so need no walk.
+        if self.len() >= self.heap.admitted() && self.is_full() {
             return None;
         }
         self.let_go();
@@ -414,6 +457,7 @@ impl Trail {
         ensures done { self.new.done ≡ self.old.done }
         ensures ranking { self.new.ranking ≡ self.old.ranking }
         ensures held { self.new.held ≡ slice_set self.old.held (var_of slot.lit - 1) slot.lit }
+        ensures touched { self.new.touched ≡ self.old.touched }
         ensures trail { IsTrail self.new.vars self.new.entries }
     {
         let index = (slot.lit.var() - 1) as usize;
@@ -431,6 +475,7 @@ impl Trail {
         ensures done { self.new.done ≡ self.old.done }
         ensures ranking { self.new.ranking ≡ self.old.ranking }
         ensures held { self.new.held ≡ self.old.held }
+        ensures touched { self.new.touched ≡ self.old.touched }
         ensures trail { IsTrail self.new.vars self.new.entries }
     {
         let slot = self.slots.take_last();

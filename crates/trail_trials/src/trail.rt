@@ -2,6 +2,7 @@
 //!
 //! ```text
 //! trail 4                    a new trail over four variables
+//! touch 2 3                  decisions are made on 2 and 3 from now on
 //! decide 2                   2 is true at a new level
 //! assign -3 7                -3 is true by clause 7
 //! unit 3 11                  the value of 3 has unit step 11
@@ -11,6 +12,7 @@
 //! rounds 2000 4 1 3 2        so often, and tells whether an activity ever fell
 //! decide_all                 decides what is picked, until nothing is left
 //! pick, pick_true            the literal to be decided next
+//! full                       whether each touched variable has a value
 //! show                       the level, and which literals are true, the oldest first
 //! reasons                    the clauses that forced them
 //! len, top, done, newest     how many there are, the level, how many were propagated, the last one
@@ -77,6 +79,7 @@ fn on_trail(
 ) -> Result<bool, AllocError> {
     match step.word(0) {
         "open" => open(alloc, trail, step, out),
+        "touch" => touch(alloc, trail, step),
         "bump" => bump(alloc, trail, step),
         "rounds" => rounds(alloc, trail, step, out),
         "decide_all" => decide_all(trail, out),
@@ -177,6 +180,27 @@ fn set_unit(trail: &mut Trail, step: &Step<'_>) -> bool
     true
 }
 
+fn touch_all(trail: &mut Trail, vars: &[i128]) {
+    for number in vars {
+        let Ok(var) = u32::try_from(*number) else {
+            return;
+        };
+        if var > 0 && var <= trail.vars() {
+            trail.touch(var);
+        }
+    }
+}
+
+fn touch(alloc: Global, trail: &mut Trail, step: &Step<'_>) -> Result<bool, AllocError> {
+    match step.numbers(alloc, 1)? {
+        Some(vars) => {
+            touch_all(trail, &vars);
+            Ok(true)
+        }
+        None => Ok(false),
+    }
+}
+
 // Bumps the variables in their order, and after each lets later bumps count more.
 fn bump_all(trail: &mut Trail, vars: &[i128]) {
     for number in vars {
@@ -261,6 +285,7 @@ pub fn read(trail: &Trail, step: &Step<'_>, out: &mut String) -> Result<bool, Al
         "len" => tell_number(out, "len", u64::from(trail.len())),
         "top" => tell_number(out, "top", u64::from(trail.top())),
         "done" => tell_number(out, "done", u64::from(trail.done())),
+        "full" => tell(out, if trail.is_full() { "full" } else { "not full" }),
         "show" => tell_trail(trail, out),
         "reasons" => tell_reasons(trail, out),
         "newest" => tell_lit(out, "newest", newest(trail)),

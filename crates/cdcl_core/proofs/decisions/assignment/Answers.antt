@@ -1,7 +1,9 @@
-use Rattle.std.proofs.Common.{◌≡◌, ◌-◌, ℕ, List, true, set, subst, sym, ap, ◌∙◌, arith}
-use Rattle.std.specs.Prelude.{Bool}
+use Rattle.std.proofs.Common.{◌≡◌, ◌⊎◌, ◌+◌, ◌-◌, ℕ, List, true, false, set, subst, sym, ap, ◌∙◌, arith}
+use Rattle.std.specs.Prelude.{Bool, pos, slice_index_or}
 use Rattle.sat_base.specs.Literals.{literal_true, var_of}
-use Rattle.cdcl_core.proofs.AssignLemmas.{placed, values_step}
+use Rattle.sat_base.specs.Units.{HasValue}
+use Rattle.trail_book.specs.Trail.{trues, oldest}
+use Rattle.cdcl_core.proofs.AssignLemmas.{placed, values_step, others_step}
 use Rattle.cdcl_core.proofs.decisions.assignment.Goals as goal
 
 pub set-requires-clause-in_range : goal.set-requires-clause-in_range
@@ -24,4 +26,7 @@ loop-place-preserved c =
       values = λ l i.
           subst (λ (xs : List Bool). literal_true xs l ≡ true) (sym is)
           (values_step trail.vars c.loop-place.place trail.entries lit assign b c.vars.ensures.trail c.at-lit.ensures inv.len c.is_positive.ensures.0 c.is_positive.ensures.1 inv.values l i);
+      others = λ index h.
+          subst (λ (xs : List Bool). HasValue (trues (oldest (c.loop-place.place + 1) trail.entries)) (pos (index + 1)) ⊎ (slice_index_or xs index false ≡ c.args.other)) (sym is)
+          (others_step trail.vars c.loop-place.place trail.entries lit assign b c.args.other (placed trail.vars c.loop-place.place trail.entries lit c.vars.ensures.trail c.at-lit.ensures).1.not_zero c.at-lit.ensures inv.others index h);
     }

@@ -34,7 +34,7 @@ loop-reached-preserved c =
 pub returns-in-Some-clause-next : goal.returns-in-Some-clause-next
 returns-in-Some-clause-next c =
     let picked = c.in-Some.ensures.some in
-    (subst (AllTrue (trues c.args.trail.now.entries)) (take_all c.loop-reached.reached c.args.assumed.now (omega arith)) c.loop-reached.invariant, picked.0, picked.1, c.in-Some.ensures.positive)
+    (subst (AllTrue (trues c.args.trail.now.entries)) (take_all c.loop-reached.reached c.args.assumed.now (omega arith)) c.loop-reached.invariant, picked.0, picked.1, c.in-Some.ensures.positive, c.in-Some.ensures.touched)
 
 pub returns-in-None-choice-clause-next : goal.returns-in-None-choice-clause-next
 returns-in-None-choice-clause-next c =

@@ -12,6 +12,7 @@ loop-id-preserved-then-may_go c = record {
   stale = c.in_ok-forget_one.ensures.stale;
   paid = λ left. paid_join c.args.search.now.log c.loop-id.search.log c.forget_one.new.search.log left left left (c.loop-id.invariant.paid left) (c.forget_one.ensures.paid left);
   vars = c.forget_one.ensures.vars ∙ c.loop-id.invariant.vars;
+  touched = c.forget_one.ensures.touched ∙ c.loop-id.invariant.touched;
   true_first = c.forget_one.ensures.true_first ∙ c.loop-id.invariant.true_first;
   levels = c.forget_one.ensures.levels ∙ c.loop-id.invariant.levels;
 }

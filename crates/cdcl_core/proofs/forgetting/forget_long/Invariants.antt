@@ -10,6 +10,7 @@ invariant-loop-id l =
       stale : IsStaleAtRoot l.search;
       paid : (left : ℕ) → IsHonestlyPaid l.fn.search.log l.search.log left left;
       vars : l.search.trail.vars ≡ l.fn.search.trail.vars;
+      touched : l.search.trail.touched ≡ l.fn.search.trail.touched;
       true_first : l.search.true_first ≡ l.fn.search.true_first;
       levels : l.search.assumed_levels ≡ l.fn.search.assumed_levels;
     }

@@ -30,6 +30,7 @@ loop-trail-init c =
       grows = grows-refl s.clauses t.entries;
       clauses = keeps_same s;
       vars = refl;
+      touched = refl;
       trail = c.vars-vars.ensures.trail;
       unasked = λ none. refl;
     }
@@ -78,6 +79,7 @@ loop-trail-preserved c =
       grows = subst (λ (x : Trail). Grows s.clauses c.args.trail.now.entries x.entries) (sym e) (grows-trans s.clauses c.args.trail.now.entries c.loop-trail.trail.entries t.entries i.grows grows);
       clauses = keeps_trans s c.loop-trail.store c.visit_all.new.store i.clauses v.clauses;
       vars = ap (λ (x : Trail). x.vars) e ∙ v.vars ∙ i.vars;
+      touched = ap (λ (x : Trail). x.touched) e ∙ v.touched ∙ i.touched;
       trail = subst (λ (x : Trail). IsTrail x.vars x.entries) (sym e) v.trail;
       unasked = λ none. v.unasked none ∙ i.unasked none;
     }

@@ -12,6 +12,7 @@ invariant-loop-trail l =
       grows : Grows l.fn.store.clauses l.fn.trail.entries l.trail.entries;
       clauses : KeepsClauses l.fn.store l.store;
       vars : l.trail.vars ≡ l.fn.trail.vars;
+      touched : l.trail.touched ≡ l.fn.trail.touched;
       trail : IsTrail l.trail.vars l.trail.entries;
       unasked : l.parks ≡ false → l.store.parks ≡ l.fn.store.parks;
     }

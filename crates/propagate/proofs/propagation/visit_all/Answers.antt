@@ -23,6 +23,7 @@ loop-cursor-init c =
       clauses = keeps_same s;
       done = refl;
       vars = refl;
+      touched = refl;
       trail = c.vars-vars.ensures.trail;
       unasked = λ none. refl;
     }
@@ -51,6 +52,7 @@ loop-cursor-preserved c =
       clauses = keeps_trans s c.loop-cursor.store c.step.new.store i.clauses e.clauses;
       done = e.done ∙ i.done;
       vars = e.vars ∙ i.vars;
+      touched = e.touched ∙ i.touched;
       trail = e.trail;
       unasked = λ none. e.unasked none ∙ i.unasked none;
     }

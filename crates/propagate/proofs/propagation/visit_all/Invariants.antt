@@ -16,6 +16,7 @@ invariant-loop-cursor l =
       clauses : KeepsClauses l.fn.store l.store;
       done : l.trail.done ≡ l.fn.trail.done;
       vars : l.trail.vars ≡ l.fn.trail.vars;
+      touched : l.trail.touched ≡ l.fn.trail.touched;
       trail : IsTrail l.trail.vars l.trail.entries;
       unasked : l.parks ≡ false → l.store.parks ≡ l.fn.store.parks;
     }

@@ -16,6 +16,7 @@ loop-place-preserved c =
       keeps = keeps-join c.args.self.now c.loop-place.self c.log_unit.new.self inv.keeps step.keeps;
       paid = λ left. paid_join c.args.self.now.log c.loop-place.self.log c.log_unit.new.self.log left left left (inv.paid left) (step.paid left);
       vars = step.vars ∙ inv.vars;
+      touched = step.touched ∙ inv.touched;
       true_first = c.log_unit.ensures.true_first ∙ inv.true_first;
       len = inv.len ∙ sym (same_length c.loop-place.self.trail.entries c.log_unit.new.self.trail.entries step.keeps.trues_are);
     }

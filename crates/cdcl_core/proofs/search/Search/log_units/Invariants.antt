@@ -9,6 +9,7 @@ invariant-loop-place l = record {
   keeps : KeepsValues l.fn.self l.self;
   paid : (left : ℕ) → IsHonestlyPaid l.fn.self.log l.self.log left left;
   vars : l.self.trail.vars ≡ l.fn.self.trail.vars;
+  touched : l.self.trail.touched ≡ l.fn.self.trail.touched;
   true_first : l.self.true_first ≡ l.fn.self.true_first;
   len : l.len ≡ length l.self.trail.entries;
 }

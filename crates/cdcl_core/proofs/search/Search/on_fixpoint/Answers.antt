@@ -1,7 +1,8 @@
-use Rattle.std.proofs.Common.{◌≡◌, ◌≤◌, ◌∷◌, ◌+◌, ℕ, None, refl, subst, sym, ap, ◌∙◌, inr, arith, length}
-use Rattle.std.specs.Prelude.{neg_ℤ}
+use Rattle.std.proofs.Common.{◌≡◌, ◌⊎◌, ◌<◌, ◌≤◌, ◌∷◌, ◌+◌, ℕ, false, None, refl, subst, sym, ap, ◌∙◌, inr, arith, length}
+use Rattle.std.specs.Prelude.{pos, neg_ℤ, slice_index_or}
 use Rattle.sat_base.specs.Members.{In}
 use Rattle.sat_base.specs.Literals.{IsLiteral}
+use Rattle.sat_base.specs.Units.{HasValue}
 use Rattle.trail_book.specs.Trail.{Trail, trues, top}
 use Rattle.propagate.specs.Watches.{IsKept}
 use Rattle.propagate.proofs.KeptLemmas.{kept_decide}
@@ -11,7 +12,7 @@ use Rattle.lrat_steps.specs.Log.{inputs_of}
 use Rattle.cdcl_core.specs.Answers.{IsModel}
 use Rattle.cdcl_core.proofs.StateLemmas.{literal_at, state_is, assumed_state, chosen_state, model_of, failed_levels, failed_reason, all_levels_assumed}
 use Rattle.cdcl_core.specs.Answers.{IsGreatestModel}
-use Rattle.cdcl_core.proofs.GreatestLemmas.{greatest_of}
+use Rattle.cdcl_core.proofs.GreatestLemmas.{greatest_of, true_others}
 use Rattle.cdcl_core.proofs.PositiveLemmas.{positive_recount}
 use Rattle.cdcl_core.proofs.search.Search.on_fixpoint.Goals as goal
 
@@ -112,7 +113,7 @@ returns-in-Choose-clause-round c =
       progress = inr (refl, omega (arith, len));
     }
 
--- each variable has a value, and each clause is loose, so that one of its literals is true
+-- each variable of a clause has a value, and each clause is loose, so that one of its literals is true
 pub returns-in_ok-assign-in-Full-clause-round : goal.returns-in_ok-assign-in-Full-clause-round
 returns-in_ok-assign-in-Full-clause-round c =
     let s = c.args.self.now in
@@ -122,6 +123,8 @@ returns-in_ok-assign-in-Full-clause-round c =
     let a = c.in_ok-assign-in-Full.assign in
     let values = c.in_ok-assign-in-Full.ensures in
     let total : length a ≡ s.trail.vars = values.len ∙ ap (λ (t : Trail). t.vars) same in
+    let others : (index : ℕ) → index < s.trail.vars → HasValue (trues s.trail.entries) (pos (index + 1)) ⊎ (slice_index_or a index false ≡ s.true_first) =
+    subst (λ (t : Trail). (index : ℕ) → index < t.vars → HasValue (trues t.entries) (pos (index + 1)) ⊎ (slice_index_or a index false ≡ s.true_first)) same values.others in
     λ left. record {
       search = record {
         vars = c.requires.search.vars ∙ ap (λ (t : Trail). t.vars) (sym same);
@@ -132,10 +135,10 @@ returns-in_ok-assign-in-Full-clause-round c =
       };
       says =
           subst (λ (t : Trail). IsModel t.vars (inputs_of s.log) assumed a) (sym same)
-          (model_of s.trail.vars s.store.clauses s.log s.trail.entries assumed s.assumed_levels a c.requires.search.state c.requires.fixpoint h.0 h.1 total
+          (model_of s.trail.vars s.trail.touched s.store.clauses s.log s.trail.entries assumed s.assumed_levels a c.requires.search.state c.requires.fixpoint h.0 c.requires.touched h.1 total
           (λ l i. values.values l (subst (λ (t : Trail). In l (trues t.entries)) (sym same) i)));
       greatest = λ asked none.
           subst (λ (t : Trail). IsGreatestModel t.vars (inputs_of s.log) a) (sym same)
-          (greatest_of s.trail.vars s.store.clauses s.log s.trail.entries assumed s.assumed_levels a c.requires.search.state (c.requires.search.positive asked) none h.1
+          (greatest_of s.trail.vars s.store.clauses s.log s.trail.entries assumed s.assumed_levels a c.requires.search.state (c.requires.search.positive asked) none (true_others s.trail.vars s.trail.entries a s.true_first asked others)
           (λ l i. values.values l (subst (λ (t : Trail). In l (trues t.entries)) (sym same) i)));
     }

@@ -1,6 +1,14 @@
-use Rattle.cdcl_core.proofs.StateLemmas.{paid_join}
+use Rattle.lrat_steps.specs.Log.{inputs_of}
+use Rattle.cdcl_core.proofs.StateLemmas.{paid_join, touched_is}
 use Rattle.cdcl_core.proofs.RoundLemmas.{round_at, round_grown_ok}
 use Rattle.cdcl_core.proofs.search.Search.round.Goals as goal
+
+-- propagation brings no input, and touches nothing
+pub on_fixpoint-requires-clause-touched : goal.on_fixpoint-requires-clause-touched
+on_fixpoint-requires-clause-touched c =
+    let s = c.args.self.now in
+    let now = c.spread.new.self in
+    touched_is s.trail.touched now.trail.touched (inputs_of s.log) (inputs_of now.log) c.spread.ensures.touched (c.spread.ensures.paid 0).paid.inputs c.requires.touched
 
 pub returns-in-Conflict-clause-paid : goal.returns-in-Conflict-clause-paid
 returns-in-Conflict-clause-paid c =

@@ -2,9 +2,10 @@ use Rattle.std.proofs.Common.{◌∙◌, List, ap, sym, subst, take}
 use Rattle.sat_base.specs.Units.{AllTrue}
 use Rattle.trail_book.specs.Trail.{Trail, trues}
 use Rattle.propagate.proofs.KeptLemmas.{kept_same}
-use Rattle.lrat_steps.specs.Log.{LogStep}
+use Rattle.lrat_steps.specs.Log.{LogStep, inputs_of}
 use Rattle.cdcl_core.specs.Answers.{IsHonestlyPaid}
 use Rattle.cdcl_core.specs.State.{IsState, ArePositive}
+use Rattle.cdcl_core.proofs.StateLemmas.{touched_is}
 use Rattle.cdcl_core.proofs.search.Search.run.Goals as goal
 
 -- only the order of decisions is another
@@ -23,6 +24,14 @@ resume-requires-clause-ready c =
         positive = λ asked. subst (λ (t : Trail). ArePositive s.assumed_levels t.entries) (sym is) (r.positive asked);
       };
     }
+
+-- what is left of the trail touches as much
+pub search-requires-clause-touched : goal.search-requires-clause-touched
+search-requires-clause-touched c =
+    let s = c.args.self.now in
+    let now = c.resume.new.self in
+    touched_is s.trail.touched now.trail.touched (inputs_of s.log) (inputs_of now.log) (c.resume.ensures.touched ∙ ap (λ (t : Trail). t.touched) c.start_at.ensures) (ap inputs_of c.resume.ensures.log)
+    c.requires.touched
 
 pub returns-clause-ready : goal.returns-clause-ready
 returns-clause-ready c = record { assumed = c.args.assumed.now; search = c.in_ok-answer.ensures.ends.search }

@@ -1,7 +1,16 @@
 use Rattle.std.proofs.Common.{◌∙◌}
 use Rattle.cdcl_core.proofs.RoundLemmas.{smaller, goes_on}
-use Rattle.cdcl_core.proofs.StateLemmas.{paid_join}
+use Rattle.lrat_steps.specs.Log.{inputs_of}
+use Rattle.cdcl_core.proofs.StateLemmas.{paid_join, touched_is}
 use Rattle.cdcl_core.proofs.search.Search.search.Goals as goal
+
+-- the rounds before brought no input, and touched nothing
+pub round-requires-clause-touched : goal.round-requires-clause-touched
+round-requires-clause-touched c =
+    let s = c.args.self.now in
+    let now = c.loop-answer.self in
+    let inv = c.loop-answer.invariant in
+    touched_is s.trail.touched now.trail.touched (inputs_of s.log) (inputs_of now.log) inv.touched inv.paid.paid.inputs c.requires.touched
 
 pub loop-answer-smaller : goal.loop-answer-smaller
 loop-answer-smaller c =
@@ -20,6 +29,9 @@ returns-in-Some-clause-paid c =
 pub returns-in-Some-clause-vars : goal.returns-in-Some-clause-vars
 returns-in-Some-clause-vars c = c.round.ensures.vars ∙ c.loop-answer.invariant.vars
 
+pub returns-in-Some-clause-touched : goal.returns-in-Some-clause-touched
+returns-in-Some-clause-touched c = c.round.ensures.touched ∙ c.loop-answer.invariant.touched
+
 pub returns-in-Some-clause-true_first : goal.returns-in-Some-clause-true_first
 returns-in-Some-clause-true_first c = c.round.ensures.true_first ∙ c.loop-answer.invariant.true_first
 
@@ -29,6 +41,9 @@ returns-in_err-answer-clause-paid c =
 
 pub returns-in_err-answer-clause-vars : goal.returns-in_err-answer-clause-vars
 returns-in_err-answer-clause-vars c = c.round.ensures.vars ∙ c.loop-answer.invariant.vars
+
+pub returns-in_err-answer-clause-touched : goal.returns-in_err-answer-clause-touched
+returns-in_err-answer-clause-touched c = c.round.ensures.touched ∙ c.loop-answer.invariant.touched
 
 pub returns-in_err-answer-clause-true_first : goal.returns-in_err-answer-clause-true_first
 returns-in_err-answer-clause-true_first c = c.round.ensures.true_first ∙ c.loop-answer.invariant.true_first

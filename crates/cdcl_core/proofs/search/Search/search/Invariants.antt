@@ -8,6 +8,7 @@ invariant-loop-answer l = record {
   search : IsSearch l.self l.assumed;
   paid : IsHonestlyPaid l.fn.self.log l.self.log l.fn.purse.left l.purse.left;
   vars : l.self.trail.vars ≡ l.fn.self.trail.vars;
+  touched : l.self.trail.touched ≡ l.fn.self.trail.touched;
   true_first : l.self.true_first ≡ l.fn.self.true_first;
 }
 

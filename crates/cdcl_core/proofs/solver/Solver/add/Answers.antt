@@ -1,16 +1,17 @@
-use Rattle.std.proofs.Common.{◌≡◌, ◌∷◌, [], ◌++◌, true, ℕ, List, min, subst, sym, refl, ap, ◌∙◌}
+use Rattle.std.proofs.Common.{◌≡◌, ◌∷◌, [], ◌++◌, true, Bool, ℕ, List, min, subst, sym, refl, ap, ◌∙◌}
 use Rattle.sat_base.specs.Literals.{AreLiterals}
 use Rattle.sat_base.specs.Database.{StoredClause}
-use Rattle.trail_book.specs.Trail.{top, keep, IsTrail}
+use Rattle.trail_book.specs.Trail.{Trail, top, keep, IsTrail, IsTouched}
 use Rattle.propagate.specs.Propagation.{Grows}
-use Rattle.propagate.proofs.KeptLemmas.{kept_links}
+use Rattle.propagate.proofs.KeptLemmas.{kept_links, kept_same}
 use Rattle.propagate.proofs.NewLemmas.{new_clause, new_kept}
-use Rattle.lrat_steps.specs.Log.{Input}
+use Rattle.lrat_steps.specs.Log.{Input, inputs_of}
 use Rattle.lrat_steps.specs.Honest.{IsHonest}
 use Rattle.lrat_steps.proofs.LogLemmas.{honest-input}
 use Rattle.cdcl_core.specs.Solver.{Solver}
-use Rattle.cdcl_core.proofs.StateLemmas.{state_is}
-use Rattle.cdcl_core.proofs.ReadyLemmas.{added_state, added_positive}
+use Rattle.cdcl_core.specs.State.{ArePositive}
+use Rattle.cdcl_core.proofs.StateLemmas.{state_is, touched_is}
+use Rattle.cdcl_core.proofs.ReadyLemmas.{added_state, added_positive, added_touched}
 use Rattle.cdcl_core.proofs.solver.Solver.add.Goals as goal
 
 pub add_step-requires : goal.add_step-requires
@@ -39,6 +40,7 @@ invariant_of-self c =
     let e = c.in_err-id.ensures in
     record {
       honest = subst IsHonest (sym e.log_err) c.self.invariant.honest;
+      touched = touched_is s.trail.touched s.trail.touched (inputs_of s.log) (inputs_of c.add_step.new.log) refl (ap inputs_of e.log_err) c.self.invariant.touched;
       ready = λ b.
           let ready = c.self.invariant.ready b in
           let r = ready.search in
@@ -65,8 +67,14 @@ invariant_of-self-2 c =
     let e = c.enter.ensures in
     let es = s.trail.entries in
     let new = c.enter.new.trail in
+    let last = c.touch_all.new.trail in
+    let rest = c.touch_all.ensures.rest in
+    let entries : last.entries ≡ new.entries = ap (λ (t : Trail). t.entries) rest in
+    let vars : last.vars ≡ new.vars = ap (λ (t : Trail). t.vars) rest in
     record {
       honest = subst IsHonest (sym logged) (honest-input s.log lits c.self.invariant.honest);
+      touched = added_touched s.trail.touched last.touched s.log c.add_step.new.log lits logged c.self.invariant.touched
+          (λ l t. c.touch_all.ensures.stay l (subst (λ (bs : List Bool). IsTouched bs l) (sym e.touched) t)) c.touch_all.ensures.touched;
       ready = λ b.
           let ready = c.self.invariant.ready b in
           let r = ready.search in
@@ -78,14 +86,14 @@ invariant_of-self-2 c =
           record {
             assumed = ready.assumed;
             search = record {
-              vars = e.kept.vars;
-              kept = e.kept;
-              state = state_is s.trail.vars new.vars left db c.enter.new.store.clauses (s.log ++ Input lits ∷ []) c.add_step.new.log new.entries new.entries ready.assumed e.vars (e.clauses ∙ stored) logged refl state;
+              vars = e.kept.vars ∙ sym vars;
+              kept = kept_same c.enter.new.store new last 0 entries vars (ap (λ (t : Trail). t.done) rest) e.kept;
+              state = state_is s.trail.vars last.vars left db c.enter.new.store.clauses (s.log ++ Input lits ∷ []) c.add_step.new.log new.entries last.entries ready.assumed (vars ∙ e.vars) (e.clauses ∙ stored) logged entries state;
               reached = λ l i. absurd i;
-              positive = λ asked. added_positive s.trail.vars s.store.clauses s.log es new.entries lits ready.assumed s.assumed_levels left grows left_is (r.positive asked);
+              positive = λ asked. subst (ArePositive left) (sym entries) (added_positive s.trail.vars s.store.clauses s.log es new.entries lits ready.assumed s.assumed_levels left grows left_is (r.positive asked));
             };
           };
     }
 
 pub returns-clause-ok : goal.returns-clause-ok
-returns-clause-ok c = rw (← c.self.view_is, c.enter.ensures.vars, c.in_ok-id.ensures.logged) refl
+returns-clause-ok c = rw (← c.self.view_is, ap (λ (t : Trail). t.vars) c.touch_all.ensures.rest, c.enter.ensures.vars, c.in_ok-id.ensures.logged) refl

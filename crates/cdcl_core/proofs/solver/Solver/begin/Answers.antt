@@ -1,8 +1,10 @@
 use Rattle.std.proofs.Common.{◌≡◌, ◌∙◌, [], refl, ap, sym, subst}
 use Rattle.trail_book.specs.Trail.{Trail}
+use Rattle.lrat_steps.specs.Log.{inputs_of}
 use Rattle.lrat_steps.specs.Honest.{IsHonest}
 use Rattle.propagate.proofs.NewLemmas.{kept_first}
 use Rattle.cdcl_core.proofs.RootLemmas.{root_first, root_is}
+use Rattle.cdcl_core.proofs.StateLemmas.{touched_is}
 use Rattle.cdcl_core.proofs.ReadyLemmas.{search_root_free}
 use Rattle.cdcl_core.proofs.solver.Solver.begin.Goals as goal
 
@@ -17,6 +19,7 @@ invariant_of-result c =
     let done : trail.done ≡ 0 = ap (λ (t : Trail). t.done) c.in_ok-trail.ensures in
     record {
       honest = subst IsHonest (sym c.new-4.ensures) tt;
+      touched = touched_is trail.touched trail.touched [] (inputs_of c.new-4.result) refl (ap inputs_of c.new-4.ensures) (λ c i. absurd i);
       ready = λ b. record {
         assumed = [];
         search = search_root_free (record { log = c.new-4.result; store = store; trail = trail; rooted = 0; assumed_levels = 0; assumed_true = 0; conflicts = 0; walked = 0; true_first = c.args.true_first; plan = c.in_ok-plan.plan })

@@ -24,5 +24,6 @@ loop-at-preserved c =
       size = inv.size ∙ sym c.swap.ensures.size;
       room = omega (arith, inv.room, c.swap.ensures.sorted, c.swap.ensures.size);
       held = omega (arith, inv.held, c.swap.ensures.sorted, c.swap.ensures.count);
-      keeps = keeps_more c.args.self.now old new inv.keeps (swap_keeps old new at high (omega (arith, inv.within, inv.held)) (omega (arith, higher, inv.held)) c.swap.ensures.count c.swap.ensures.size c.swap.ensures.swapped);
+      free = omega (arith, inv.free, c.swap.ensures.count, c.swap.ensures.admitted);
+      keeps = keeps_more c.args.self.now old new inv.keeps (swap_keeps old new at high (omega (arith, inv.within, inv.held)) (omega (arith, higher, inv.held)) inv.free c.swap.ensures.count c.swap.ensures.admitted c.swap.ensures.size c.swap.ensures.swapped);
     }

@@ -26,5 +26,6 @@ loop-low-preserved c =
       size = inv.size ∙ sym c.swap.ensures.size;
       room = omega (arith, inv.room, c.swap.ensures.sorted, c.swap.ensures.size);
       held = omega (arith, inv.held, c.swap.ensures.sorted, c.swap.ensures.count);
-      keeps = keeps_more c.args.self.now old new inv.keeps (swap_keeps old new low at (omega (arith, within, inv.held)) (omega (arith, upper, inv.held)) c.swap.ensures.count c.swap.ensures.size c.swap.ensures.swapped);
+      free = omega (arith, inv.free, c.swap.ensures.count, c.swap.ensures.admitted);
+      keeps = keeps_more c.args.self.now old new inv.keeps (swap_keeps old new low at (omega (arith, within, inv.held)) (omega (arith, upper, inv.held)) inv.free c.swap.ensures.count c.swap.ensures.admitted c.swap.ensures.size c.swap.ensures.swapped);
     }

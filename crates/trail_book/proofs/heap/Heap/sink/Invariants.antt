@@ -13,6 +13,7 @@ invariant-loop-low l = record {
   size : length l.ranking.activities ≡ length l.self.items;
   room : l.self.sorted ≤ length l.self.items;
   held : l.self.sorted ≤ l.self.count;
+  free : l.self.count ≤ l.self.admitted;
   keeps : Keeps l.fn.self l.self;
 }
 

@@ -19,6 +19,7 @@ invariant_of-self c =
     record {
       places = rw (item, next) t;
       sorted = c.self.invariant.sorted;
-      count = omega (arith, len, c.self.invariant.count);
+      count = c.self.invariant.count;
+      admitted = omega (arith, len, c.self.invariant.admitted);
       small = omega (arith, len, c.self.invariant.small);
     }

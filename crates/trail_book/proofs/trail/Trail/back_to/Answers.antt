@@ -5,7 +5,7 @@ use Rattle.trail_book.proofs.trail.Trail.back_to.Goals as goal
 
 -- at first nothing is taken back
 pub loop-self-init : goal.loop-self-init
-loop-self-init c = (refl, refl, c.vars-vars.ensures.trail, refl, refl, refl)
+loop-self-init c = (refl, refl, c.vars-vars.ensures.trail, refl, refl, refl, refl)
 
 -- where nothing is above the level, all is kept
 pub returns-clause-entries : goal.returns-clause-entries

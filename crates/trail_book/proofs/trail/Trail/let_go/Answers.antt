@@ -3,7 +3,7 @@ use Rattle.std.specs.Prelude.{slice_index_or}
 use Rattle.std.proofs.lemmas.List.{get_or_read}
 use Rattle.trail_book.specs.declared.value.Value.TheVariants.{Unset}
 use Rattle.trail_book.specs.Order.{rank}
-use Rattle.trail_book.proofs.WaitLemmas.{waiting_drop}
+use Rattle.trail_book.proofs.WaitLemmas.{admitted_same, waiting_drop}
 use Rattle.trail_book.proofs.trail.Trail.let_go.Goals as goal
 
 -- the one that goes has a value
@@ -24,6 +24,7 @@ loop-place-preserved c =
         one_value_each = inv.one_value_each;
         one_place_each = inv.one_place_each;
         one_held_each = inv.one_held_each;
+        one_touched_each = inv.one_touched_each;
         small = inv.small;
         room = inv.room;
         of_vars = inv.of_vars;
@@ -31,7 +32,8 @@ loop-place-preserved c =
         sized = gone.size ∙ inv.sized;
         heap = gone.heap (rank a.ranking) inv.heap;
         words = inv.words;
-        waiting = waiting_drop a.values.items a.heap c.drop_at.new.self index has (λ item held apart. gone.holds item held (λ same. apart (same ∙ sym c.at-item.ensures.item))) inv.waiting;
+        admitted = admitted_same a.touched.items a.heap c.drop_at.new.self gone.admits inv.admitted;
+        waiting = waiting_drop a.values.items a.touched.items a.heap c.drop_at.new.self index has (λ item held apart. gone.holds item held (λ same. apart (same ∙ sym c.at-item.ensures.item))) inv.waiting;
       };
       same = c.loop-place.invariant.same;
       held = omega (arith, gone.count, c.loop-place.invariant.held);

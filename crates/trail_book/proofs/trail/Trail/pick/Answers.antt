@@ -4,6 +4,7 @@ use Rattle.std.proofs.lemmas.List.{get_or_read}
 use Rattle.sat_base.specs.Literals.{var_of}
 use Rattle.sat_base.specs.Units.{IsUnset}
 use Rattle.trail_book.specs.Trail.{Trail, trues}
+use Rattle.trail_book.specs.Order.{ComesFirst}
 use Rattle.trail_book.specs.Tables.{trail_of}
 use Rattle.trail_book.proofs.OrderLemmas.{unset_literal}
 use Rattle.trail_book.proofs.WaitLemmas.{holding_unset}
@@ -38,3 +39,17 @@ returns-clause-some c =
     let read : c.index.result.now ≡ slice_index_or a.held.items index (pos 0) = get_or_read a.held.items index c.index.result.now within c.index.ensures (pos 0) in
     let of_var : var_of c.index.result.now ≡ index + 1 = omega (arith, ap var_of read, inv.of_vars index below) in
     (unset_literal (trues c.args.self.now.entries) c.index.result.now index of_var some.0, record { not_zero = omega (arith, of_var); in_range = omega (arith, of_var, some.1) })
+
+-- no touched variable without value comes before the one that was picked
+pub returns-clause-first : goal.returns-clause-first
+returns-clause-first c = λ other is_lit touched unset.
+    let a = c.self.inside in
+    let inv = c.self.invariant in
+    let index = c.in_ok-index.index in
+    let is : trail_of a ≡ c.args.self.now = c.self.view_is ∙ c.first_unset.ensures.same in
+    let below : index < a.vars = subst (λ (t : Trail). index < t.vars) (sym is) c.in_ok-index.ensures.some.1 in
+    let within : index < length a.held.items = omega (arith, below, inv.one_held_each) in
+    let read : c.index.result.now ≡ slice_index_or a.held.items index (pos 0) = get_or_read a.held.items index c.index.result.now within c.index.ensures (pos 0) in
+    let of_var : var_of c.index.result.now ≡ index + 1 = omega (arith, ap var_of read, inv.of_vars index below) in
+    let here : index + 1 - 1 ≡ var_of c.index.result.now - 1 = omega (arith, of_var) in
+    subst (λ (n : ℕ). ComesFirst c.args.self.now.ranking n (var_of other - 1)) here (c.in_ok-index.ensures.first other is_lit touched unset)

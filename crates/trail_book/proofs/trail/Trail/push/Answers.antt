@@ -59,10 +59,12 @@ invariant_of-self c =
       small = inv.small;
       room = omega (arith, inv.room, c.push_reserved.ensures.capacity);
       one_held_each = inv.one_held_each;
+      one_touched_each = inv.one_touched_each;
       of_vars = inv.of_vars;
       ranked = inv.ranked;
       sized = inv.sized;
       heap = inv.heap;
       words = λ few. subst (λ (ss : List Slot). AreWordsOf c.note_true.new.words (trues (entries_of ss))) (sym seen) (words_with a.words c.note_true.new.words (trues (entries_of (reverse old))) slot.lit (c.note_true.ensures few) (inv.words few));
-      waiting = subst (λ (vs : List Value). AreWaiting vs a.heap) values (waiting_push a.values.items a.heap slot.lit (var_of slot.lit - 1) within inv.waiting);
+      admitted = inv.admitted;
+      waiting = subst (λ (vs : List Value). AreWaiting vs a.touched.items a.heap) values (waiting_push a.values.items a.touched.items a.heap slot.lit (var_of slot.lit - 1) within inv.waiting);
     }

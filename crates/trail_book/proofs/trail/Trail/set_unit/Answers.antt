@@ -34,11 +34,13 @@ invariant_of-self c =
       small = c.self.invariant.small;
       room = c.self.invariant.room;
       one_held_each = c.self.invariant.one_held_each;
+      one_touched_each = c.self.invariant.one_touched_each;
       of_vars = c.self.invariant.of_vars;
       ranked = c.self.invariant.ranked;
       sized = c.self.invariant.sized;
       heap = c.self.invariant.heap;
       words = λ few. subst (AreWordsOf c.self.inside.words) (sym trues_are) (c.self.invariant.words few);
+      admitted = c.self.invariant.admitted;
       waiting = c.self.invariant.waiting;
     }
 

@@ -1,4 +1,4 @@
-use Rattle.std.proofs.Common.{◌≡◌, ◌<◌, ◌-◌, ◌∷◌, ◌∙◌, ℕ, List, length, set, arith, ap, subst, sym, length-set}
+use Rattle.std.proofs.Common.{◌≡◌, ◌-◌, ◌∷◌, ◌∙◌, ℕ, List, set, arith, ap, subst, sym, length-set}
 use Rattle.std.specs.Prelude.{reverse}
 use Rattle.sat_base.specs.Literals.{var_of}
 use Rattle.trail_book.specs.declared.slot.Slot.{Slot}
@@ -10,7 +10,7 @@ use Rattle.trail_book.specs.Order.{rank}
 use Rattle.trail_book.specs.Tables.{AreOfVars, holding}
 use Rattle.trail_book.proofs.SlotLemmas.{push_seen}
 use Rattle.trail_book.proofs.ValueLemmas.{values_undo}
-use Rattle.trail_book.proofs.WaitLemmas.{waiting_undo, held_note, holding_note}
+use Rattle.trail_book.proofs.WaitLemmas.{admitted_same, waiting_undo, held_note, holding_note}
 use Rattle.lit_words.specs.Words.{AreWordsOf}
 use Rattle.trail_book.proofs.SetLemmas.{words_without}
 use Rattle.trail_book.proofs.trail.Trail.undo.Goals as goal
@@ -25,8 +25,6 @@ invariant_of-self c =
     let seen : reverse a.slots.items ≡ slot ∷ reverse low = ap reverse c.take_last-slot.ensures.items ∙ push_seen low slot in
     let trail = subst (λ (ss : List Slot). IsTrail a.vars (entries_of ss)) seen inv.trail in
     let index : c.var-index.result - 1 ≡ var_of slot.lit - 1 = omega (arith, c.var-index.ensures.same) in
-    let within : c.var-index.result - 1 < length a.values.items =
-    omega (arith, inv.one_value_each, trail.1.not_zero, trail.1.in_range, c.var-index.ensures.same) in
     record {
       trail = trail.2;
       slots = (subst (AreKept a.places.items) seen inv.slots).1;
@@ -37,6 +35,7 @@ invariant_of-self c =
       one_place_each = inv.one_place_each;
       small = inv.small;
       room = omega (arith, inv.room, c.take_last-slot.ensures.capacity);
+      one_touched_each = inv.one_touched_each;
       one_held_each = length-set a.held.items (c.var-index.result - 1) slot.lit ∙ inv.one_held_each;
       of_vars = subst (λ (i : ℕ). AreOfVars a.vars (set a.held.items i slot.lit)) (sym index) (held_note a.vars a.held.items slot.lit trail.1 inv.one_held_each inv.of_vars);
       ranked = inv.ranked;
@@ -44,7 +43,8 @@ invariant_of-self c =
       heap = c.insert.ensures.heap (rank a.ranking) inv.heap;
       words = λ few. words_without a.words c.note_unset.new.words (trues (entries_of (reverse low))) slot.lit trail.0 (c.note_unset.ensures few)
           (subst (λ (ss : List Slot). AreWordsOf a.words (trues (entries_of ss))) seen (inv.words few));
-      waiting = waiting_undo a.values.items a.heap c.insert.new.self (c.var-index.result - 1) within c.insert.ensures.item c.insert.ensures.holds inv.waiting;
+      admitted = admitted_same a.touched.items a.heap c.insert.new.self c.insert.ensures.admits inv.admitted;
+      waiting = waiting_undo a.values.items a.touched.items a.heap c.insert.new.self (c.var-index.result - 1) c.insert.ensures.item c.insert.ensures.holds inv.admitted inv.waiting;
     }
 
 -- it counted as held already
