@@ -3,8 +3,9 @@
 
     bench/mutate_evidence.py --gmus PROGRAM [--mutations 5000] [--problems 12] [--seed 1]
 
-The texts are the stored evidence of examples/ and evidence about small random problems, which is made here by trying every
-set of groups. Each is changed once to three times: a number, a word, a byte, a line or a block of lines. Both have to say the same: yes
+The texts are the stored evidence of examples/ and evidence about small random problems, of both versions, which is made here
+by trying every set of groups. Each is changed once to three times: a number, a reference, a word, a byte, a line or a block of
+lines. Both have to say the same: yes
 with the same report, or no at the same line with the same number. Equal arguments give equal texts. Ends with 1 where they
 differ, and keeps the text. Needs Python 3.9.
 """
@@ -90,8 +91,9 @@ def witness(problem, groups, number):
     return numbers("w", number, *sorted(satisfying(problem, groups)), 0)
 
 
-def evidence(problem):
-    """The text of all minimal conflicts and corrections, with a closing part."""
+def evidence(problem, chance, version):
+    """The text of all minimal conflicts and corrections, with a closing part. In version 2 most refutations that an earlier
+    conflict serves name one, by chance."""
     everything = set(range(1, problem.groups + 1))
     sat = {}
     for count in range(problem.groups + 1):
@@ -101,7 +103,7 @@ def evidence(problem):
     def holds(groups):
         return sat[tuple(sorted(groups))]
 
-    lines = [numbers("p gmev 1", problem.vars, len(problem.clauses), problem.groups)]
+    lines = [numbers("p gmev", version, problem.vars, len(problem.clauses), problem.groups)]
     blocks = []
     for groups in sat:
         chosen = set(groups)
@@ -113,7 +115,12 @@ def evidence(problem):
         if holds(rest) and not any(holds(rest | {group}) for group in chosen):
             lines += [numbers("m", *groups, 0), witness(problem, rest, 0)]
             for group in groups:
-                lines += refutation(problem, rest | {group}, group)
+                serve = [number for number, block in enumerate(blocks, 1)
+                         if all(lit < 0 and (-lit == group or -lit not in chosen) for lit in block)]
+                if version == 2 and serve and chance.random() < 0.8:
+                    lines.append(numbers("t", group, chance.choice(serve)))
+                else:
+                    lines += refutation(problem, rest | {group}, group)
             blocks.append(list(groups))
     closing = Derivation(blocks)
     goal = closing.derive([], [])
@@ -134,7 +141,7 @@ def random_problem(chance):
 
 # ---- changes
 
-WORDS = [b"0", b"1", b"2", b"5", b"-1", b"-0", b"00", b"01", b"", b"u", b"m", b"w", b"d", b"r", b"x", b"e", b"complete", b"partial",
+WORDS = [b"0", b"1", b"2", b"5", b"-1", b"-0", b"00", b"01", b"", b"u", b"m", b"w", b"d", b"r", b"t", b"x", b"e", b"complete", b"partial",
          b"+1", b"1x", b"9223372036854775807", b"9223372036854775808", b"18446744073709551615", b"18446744073709551616", b"p", b"gmev"]
 
 
@@ -203,6 +210,32 @@ def change_line(chance, text):
     return text[:chance.randrange(len(text) + 1)]
 
 
+def change_reference(chance, text):
+    """A reference names another record or another group, stands where none may, or gives way to one in another form."""
+    lines = text.split(b"\n")
+    places = [at for at, line in enumerate(lines) if line[:2] == b"t "]
+    if not places:
+        return change_number(chance, text)
+    at = chance.choice(places)
+    words = lines[at].split(b" ")
+    records = sum(line[:2] in (b"u ", b"m ") for line in lines)
+    how = chance.randrange(6)
+    if how < 3:
+        words[-1] = str(chance.randint(0, records + 2)).encode()
+    elif how == 3:
+        words[-1] = chance.choice([b"9223372036854775807", b"9223372036854775808", b"0", b"-1", b"01"])
+    elif how == 4:
+        words[1 % len(words)] = str(chance.randint(0, 6)).encode()
+    else:
+        # a step before it, it behind a step's goal, or the line elsewhere
+        other = chance.choice([line for line in lines if line[:2] in (b"d ", b"r ")] or [b"d 9 0 1 0"])
+        block = chance.choice([[other, lines[at]], [lines[at], other], [lines[at], lines[at]]])
+        place = chance.choice([at, at, chance.randrange(len(lines))])
+        return b"\n".join(lines[:place] + block + lines[place + (place == at):])
+    lines[at] = b" ".join(words)
+    return b"\n".join(lines)
+
+
 def close_partly(chance, text):
     """The closing part gives way to the word that there is none, and perhaps something stands behind it."""
     lines = text.split(b"\n")
@@ -213,7 +246,8 @@ def close_partly(chance, text):
 def changed(chance, whole):
     text = whole
     for _ in range(chance.choice([1, 1, 1, 1, 2, 3])):
-        text = chance.choices([change_number, change_word, change_byte, change_line, close_partly], [16, 4, 2, 4, 1])[0](chance, text)
+        text = chance.choices([change_number, change_reference, change_word, change_byte, change_line, close_partly],
+                              [16, 8, 4, 2, 4, 1])[0](chance, text)
     return text if text != whole else changed(chance, whole)
 
 
@@ -248,14 +282,16 @@ def main():
     chance = random.Random(given.seed)
     with tempfile.TemporaryDirectory() as folder:
         texts = []
-        with open(os.path.join(TOP, "examples", "first.evidence"), "rb") as stored:
-            texts.append((os.path.join(TOP, "examples", "first.gcnf"), stored.read()))
+        for name in ["first.evidence", "first_short.evidence"]:
+            with open(os.path.join(TOP, "examples", name), "rb") as stored:
+                texts.append((os.path.join(TOP, "examples", "first.gcnf"), stored.read()))
         for number in range(given.problems):
             file = os.path.join(folder, f"{number}.gcnf")
             with open(file, "w") as out:
                 out.write(random_problem(chance))
             with open(file) as made:
-                texts.append((file, evidence(check_evidence.Problem(made.read()))))
+                problem = check_evidence.Problem(made.read())
+            texts += [(file, evidence(problem, chance, version)) for version in [1, 2]]
         problems = {}
         for file, text in texts:
             with open(file) as made:

@@ -18,7 +18,7 @@ NUMBER = re.compile(rb"0|[1-9][0-9]*")
 MAX_BYTES, MAX_ID, MAX_COUNT = 2 ** 31, 2 ** 63 - 1, 2 ** 64 - 1
 NUMBERS = {"BadLine": 1, "BadNumber": 2, "Truncated": 3, "OtherProblem": 4, "TrailingText": 5, "TooLong": 6,
            "UnknownHint": 10, "NotUnit": 11, "NotFalse": 12, "HintsLeft": 13, "IdNotRising": 14, "BadLiteral": 15,
-           "UnknownClause": 16, "NotRefuting": 17, "WitnessFails": 18, "RepeatedSet": 19}
+           "UnknownClause": 16, "NotRefuting": 17, "WitnessFails": 18, "RepeatedSet": 19, "UnknownRecord": 20, "NotInside": 21}
 
 
 class Refused(Exception):
@@ -133,6 +133,13 @@ class Proof:
         self.steps, self.goal, self.line = [], None, None
 
 
+class Reference:
+    """The number of an earlier record, with its line."""
+
+    def __init__(self, line, number):
+        self.line, self.number = line, number
+
+
 class Reader:
     """The text: its head, and then record by record. What is read has its lines' numbers with it."""
 
@@ -140,7 +147,7 @@ class Reader:
         if len(text) > MAX_BYTES:
             raise Refused(0, "TooLong")
         *self.lines, self.rest = text.split(b"\n")
-        self.problem, self.at = problem, 0
+        self.problem, self.at, self.version = problem, 0, None
 
     def line(self):
         """The next line, and its first word."""
@@ -155,7 +162,7 @@ class Reader:
         if first != b"p":
             line.refuse("BadLine")
         line.word(b"gmev")
-        line.number_in(1, 1)
+        self.version = line.number_in(1, 2)
         counts = [line.number_in(0, MAX_COUNT) for _ in range(3)]
         line.end()
         if counts != [self.problem.vars, len(self.problem.clauses), self.problem.groups]:
@@ -177,6 +184,16 @@ class Reader:
         line.end()
         return proof
 
+    def refutation(self, variables, group):
+        """What refutes a group of a correction: a proof, or in version 2 a reference."""
+        line, first = self.line()
+        if self.version == 1 or first != b"t":
+            return self.proof(variables, b"r", group, (line, first))
+        line.number_in(group, group)
+        reference = Reference(line.number, line.number_in(1, MAX_ID))
+        line.end()
+        return reference
+
     def witness(self, group):
         line, first = self.line()
         if first != b"w":
@@ -187,7 +204,7 @@ class Reader:
         return line.number, set(trues)
 
     def piece(self):
-        """A record: its kind, line and set, its witnesses, and its proofs; or the end: what closes it, or None."""
+        """A record: its kind, line and set, its witnesses, and its refutations; or the end: what closes it, or None."""
         line, first = self.line()
         variables = self.problem.vars + self.problem.groups
         if first in (b"u", b"m"):
@@ -197,7 +214,7 @@ class Reader:
                 proofs = [self.proof(variables, b"r", 0)]
                 return "u", line.number, groups, [self.witness(group) for group in groups], proofs
             witnesses = [self.witness(0)]
-            return "m", line.number, groups, witnesses, [self.proof(variables, b"r", group) for group in groups]
+            return "m", line.number, groups, witnesses, [self.refutation(variables, group) for group in groups]
         if first == b"e":
             closing, due = None, b"partial"
         else:
@@ -246,8 +263,17 @@ def check_proof(inputs, proof, may_have):
         raise Refused(proof.line, "NotRefuting")
 
 
-def check_record(problem, inputs, kind, groups, witnesses, proofs):
-    """Checks a record's lines in their order."""
+def check_reference(records, groups, group, reference):
+    """The earlier record is a conflict whose groups are outside the correction, or this one."""
+    if reference.number > len(records):
+        raise Refused(reference.line, "UnknownRecord")
+    kind, named = records[reference.number - 1]
+    if kind != "u" or any(other in groups and other != group for other in named):
+        raise Refused(reference.line, "NotInside")
+
+
+def check_record(problem, inputs, records, kind, groups, witnesses, proofs):
+    """Checks a record's lines in their order, behind these earlier records, each a kind and a set."""
     def left_out(kept):
         return {-(problem.vars + group) for group in kept}
 
@@ -263,14 +289,17 @@ def check_record(problem, inputs, kind, groups, witnesses, proofs):
         outside = set(range(1, problem.groups + 1)) - set(groups)
         check_witnesses([outside])
         for group, proof in zip(groups, proofs):
-            check_proof(inputs, proof, left_out(outside | {group}))
+            if isinstance(proof, Reference):
+                check_reference(records, groups, group, proof)
+            else:
+                check_proof(inputs, proof, left_out(outside | {group}))
 
 
 def check(problem, text):
     """Whether the evidence is complete, and its sets by kind; or the first refusal."""
     reader, inputs = Reader(problem, text), problem.selector_form()
     reader.head()
-    sets, blocks = {"u": [], "m": []}, []
+    sets, blocks, records = {"u": [], "m": []}, [], []
     seen = set()
     while True:
         kind, line, groups, witnesses, proofs = reader.piece()
@@ -281,7 +310,8 @@ def check(problem, text):
         if (kind, *groups) in seen:
             raise Refused(line, "RepeatedSet")
         seen.add((kind, *groups))
-        check_record(problem, inputs, kind, groups, witnesses, proofs)
+        check_record(problem, inputs, records, kind, groups, witnesses, proofs)
+        records.append((kind, groups))
         sets[kind].append(groups)
         blocks.append([-group for group in groups] if kind == "u" else groups)
 

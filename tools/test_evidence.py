@@ -21,6 +21,8 @@ def stored(name):
 FIRST = stored("first.gcnf").decode()
 LINES = stored("first.evidence").decode().split("\n")[:-1]
 REPORT = stored("first.report").decode()
+# the same records, where corrections name earlier conflicts
+SHORT = stored("first_short.evidence").decode().split("\n")[:-1]
 # an unsatisfiable background, an empty clause in a group, and no clauses at all
 CLASH = "p gcnf 1 2 1\n{0} 1 0\n{0} -1 0\n"
 EMPTY = "p gcnf 0 1 1\n{1} 0\n"
@@ -71,6 +73,34 @@ class Accepted(unittest.TestCase):
         self.assertEqual(answer(FIRST, with_lines(3, 4, "d 9223372036854775807 -3 -4 0 1 2 0", "r 0 9223372036854775807")), REPORT)
 
 
+class References(unittest.TestCase):
+    def rows(self, rows):
+        for first, last, lines, wanted in rows:
+            text = "\n".join(SHORT[:first - 1] + lines + SHORT[last:]) + "\n"
+            self.assertEqual(answer(FIRST, text), wanted, lines)
+
+    def test_stored_evidence_gives_the_stored_report(self):
+        self.rows([(1, 0, [], REPORT), (18, 18, ["d 5 -3 -4 0 1 2 0", "r 2 5"], REPORT)])
+
+    def test_the_number_is_that_of_an_earlier_record(self):
+        self.rows([(15, 15, [line], (15, name)) for line, name in [
+            ("t 1 3", "UnknownRecord"), ("t 1 4", "UnknownRecord"), ("t 1 9223372036854775807", "UnknownRecord"),
+            ("t 1 9223372036854775808", "BadNumber"), ("t 1 0", "BadNumber"), ("t 2 1", "BadNumber"), ("t 1", "BadLine"),
+            ("t 1 1 0", "BadLine"), ("t 1 ", "BadNumber")]])
+
+    def test_it_is_a_conflict_without_other_groups_of_the_correction(self):
+        self.rows([(15, 15, ["t 1 2"], REPORT), (19, 19, ["t 3 1"], (19, "NotInside")), (23, 23, ["t 4 3"], (23, "NotInside"))])
+
+    def test_it_stands_in_place_of_a_derivation(self):
+        self.rows([
+            (1, 1, ["p gmev 1 2 4 4"], (15, "BadLine")), (18, 18, ["d 5 -3 -4 0 1 2 0", "t 2 1"], (19, "BadLine")),
+            (9, 9, ["t 0 1"], (9, "BadLine")), (24, 24, ["t 0 1"], (24, "BadLine")), (14, 14, ["t 1 1"], (14, "BadLine"))])
+
+    def test_lines_are_checked_in_order(self):
+        self.rows([(17, 18, ["w 0 1 2 0", "t 2 9"], (17, "WitnessFails")), (18, 19, ["t 2 9", "t 3 9"], (18, "UnknownRecord")),
+                   (18, 19, ["t 2 9", "t 4 1"], (19, "BadNumber"))])
+
+
 class Texts(unittest.TestCase):
     def rows(self, rows):
         for text, line, name in rows:
@@ -80,7 +110,8 @@ class Texts(unittest.TestCase):
         tail = "\ne partial\n"
         self.rows([
             ("", 1, "Truncated"), ("p gmev 1 2 4 4", 1, "Truncated"), ("q", 1, "Truncated"), ("q\n", 1, "BadLine"), ("\n", 1, "BadLine"),
-            ("p gmew 1 2 4 4" + tail, 1, "BadLine"), ("p gmev 2 2 4 4" + tail, 1, "BadNumber"), ("p gmev x 2 4 4" + tail, 1, "BadNumber"),
+            ("p gmew 1 2 4 4" + tail, 1, "BadLine"), ("p gmev 3 2 4 4" + tail, 1, "BadNumber"), ("p gmev 0 2 4 4" + tail, 1, "BadNumber"),
+            ("p gmev x 2 4 4" + tail, 1, "BadNumber"),
             ("p gmev 1 2 4" + tail, 1, "BadLine"), ("p gmev 1 2 4 4 4" + tail, 1, "BadLine"), ("p gmev 1 02 4 4" + tail, 1, "BadNumber"),
             ("p gmev 1  2 4 4" + tail, 1, "BadNumber"), ("p  gmev 1 2 4 4" + tail, 1, "BadLine"), (" p gmev 1 2 4 4" + tail, 1, "BadLine"),
             ("p gmev 1 2 4 4 " + tail, 1, "BadLine"), ("p gmev 1 2 4 4\r" + tail, 1, "BadNumber"), ("p gmev 1 18446744073709551616 4 4" + tail, 1, "BadNumber"),

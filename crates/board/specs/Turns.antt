@@ -2,7 +2,7 @@
 use Rattle.std.specs.Prelude.{◌≡◌, ℕ, List}
 use Rattle.gm_base.specs.Sets.{IsSubset, all_groups}
 use Rattle.gm_base.specs.Problem.{Problem}
-use Rattle.evidence_rec.specs.Records.{kind_of, set_of, IsAccepted}
+use Rattle.evidence_rec.specs.Records.{kind_of, set_of, IsAcceptedAlone}
 use Rattle.map_core.specs.declared.entry.Call.{Call}
 use Rattle.map_core.specs.declared.entry.Call.TheVariants as call
 use Rattle.map_core.specs.declared.entry.Reply.{Reply}
@@ -27,7 +27,7 @@ used_of (op.Retire used) = used
 abbrev pub AreArguments : Problem → Op → Type 0
 AreArguments p (op.Take used) = Unit {0}
 AreArguments p (op.Refill used asked) = IsSubset asked (all_groups p.groups)
-AreArguments p (op.Post used finding) = IsAccepted p finding
+AreArguments p (op.Post used finding) = IsAcceptedAlone p finding
 AreArguments p (op.Retire used) = Unit {0}
 
 -- the worker may make the call: by the opening, its number, and its own entries

@@ -4,7 +4,7 @@
 //! core's call, and passes the core on.
 ghost use Rattle.std.specs.Prelude.{◌≡◌, [], IfOk};
 ghost use Rattle.gm_base.specs.Sets.{IsSubset, all_groups};
-ghost use Rattle.evidence_rec.specs.Records.{kind_of, set_of, IsAccepted};
+ghost use Rattle.evidence_rec.specs.Records.{kind_of, set_of, IsAcceptedAlone};
 ghost use Rattle.turn_lock.specs.Seats.{AreNew, AreAll};
 ghost use Rattle.map_core.specs.Sound.{IsOpening};
 ghost use Rattle.map_core.specs.Opens.{opening_of};
@@ -80,7 +80,7 @@ impl<M: MapEngine> Board<M> {
     /// Keeps a record, where no record of its kind and set is held.
     pub fn post<R: Wait>(&self, rt: &R, seat: &mut Seat, used: u64, finding: Record) -> Posted
         requires may { MayCall self.now seat.old used }
-        requires accepted { IsAccepted self.now.opening.problem finding }
+        requires accepted { IsAcceptedAlone self.now.opening.problem finding }
         ensures call { IsCall self.now.opening seat.old (Post (kind_of finding) (set_of finding)) used (post_reply result) seat.new }
         ensures worker { worker_of seat.new.mine ≡ worker_after (worker_of seat.old.mine) used (post_reply result) }
     {

@@ -1,5 +1,5 @@
 -- What an explored set is, and that nothing minimal is missing once each set is explored.
-use Rattle.std.proofs.Common.{◌≡◌, ◌≢◌, ◌⊎◌, ℕ, ◌+◌, Bool, true, false, not, ◌&&◌, List, [], ◌∷◌, map, refl, sym, ◌∙◌, ap, subst, inl, inr, eqb}
+use Rattle.std.proofs.Common.{◌≡◌, ◌≢◌, ◌⊎◌, ℕ, ◌+◌, Bool, true, false, not, ◌&&◌, List, [], ◌∷◌, ◌++◌, map, refl, sym, ◌∙◌, ap, subst, inl, inr, eqb}
 use Rattle.std.specs.List.{list_all, AllByRecursion}
 use Rattle.std.specs.Cmp.Lexicographic.{bytes_decides}
 use Rattle.std.proofs.lemmas.Bool.{false≢true, true≢false, or_right, and_parts, and_from, eqb-true, cases_Bool, false_from_ne_true}
@@ -19,10 +19,10 @@ use Rattle.gm_base.proofs.SatLemmas.{Sat-subset}
 use Rattle.gm_base.proofs.ExploredLemmas.{AreWithin, all_explored-no_model}
 use Rattle.evidence_rec.specs.declared.record.Record.{Record}
 use Rattle.evidence_rec.specs.declared.record.Record.TheVariants.{Conflict, Correction}
-use Rattle.evidence_rec.specs.Records.{kind_of, set_of, found_of, founds, IsAccepted}
+use Rattle.evidence_rec.specs.Records.{kind_of, set_of, found_of, founds, AllAcceptedBehind, AllAccepted, IsRight}
 use Rattle.evidence_rec.specs.Seeding.{shows_all_explored}
 use Rattle.evidence_rec.specs.Held.{is_held, same_kind, same_set, and_also, Decides, HoldsAll}
-use Rattle.evidence_rec.proofs.VerdictLemmas.{minimal-from_accepts}
+use Rattle.evidence_rec.proofs.AcceptedLemmas.{accepted-right}
 use Rattle.evidence_rec.proofs.BlockLemmas.{block_clause-literal}
 
 -- a set that a conflict explores holds it, so it can't be satisfied
@@ -50,19 +50,19 @@ sat_outside p correction s h within e = Sat-subset p s (complement p.groups corr
         ∙ and_from (not (has correction g)) (has (all_groups p.groups) g) (ap not (not_in_both s correction g e inside))
         (within g inside)
 
--- a set that an accepted record explores is decided by it
-decides_at : (p : Problem) (r : Record) (s : List ℕ) → IsProblem p → IsAccepted p r → IsSubset s (all_groups p.groups)
+-- a set that a right record explores is decided by it
+decides_at : (p : Problem) (r : Record) (s : List ℕ) → IsRight p r → IsSubset s (all_groups p.groups)
     → explores (found_of r) s ≡ true → Decides p (kind_of r) s
-decides_at p (Conflict set proof ws) s ok h within e =
-    unsat_above p set s (minimal-from_accepts p (Conflict set proof ws) ok h.accepts) e
-decides_at p (Correction set w proofs) s ok h within e =
-    sat_outside p set s (minimal-from_accepts p (Correction set w proofs) ok h.accepts) within e
+decides_at p (Conflict set proof ws) s h within e =
+    unsat_above p set s h.minimal e
+decides_at p (Correction set w proofs) s h within e =
+    sat_outside p set s h.minimal within e
 
-pub decides_all : (p : Problem) (s : List ℕ) → IsProblem p → IsSubset s (all_groups p.groups) → (rs : List Record)
-    → AllByRecursion (IsAccepted p) rs
+pub decides_all : (p : Problem) (s : List ℕ) → IsSubset s (all_groups p.groups) → (rs : List Record)
+    → AllByRecursion (IsRight p) rs
     → AllByRecursion (λ (r : Record). explores (found_of r) s ≡ true → Decides p (kind_of r) s) rs
-decides_all p s ok within [] h = tt
-decides_all p s ok within (r ∷ rs) h = (decides_at p r s ok h.0 within, decides_all p s ok within rs h.1)
+decides_all p s within [] h = tt
+decides_all p s within (r ∷ rs) h = (decides_at p r s h.0 within, decides_all p s within rs h.1)
 
 -- a group of the one list that the other lacks
 lacks : (large small : List ℕ) → list_all (has small) large ≡ false
@@ -85,11 +85,11 @@ same_or_proper small large a b sub =
       | inr not_all ↦ inr (sub, lacks large small not_all)
     ]
 
-accepted_at : (p : Problem) (rs : List Record) (r : Record) → AllByRecursion (IsAccepted p) rs → In r rs
-    → IsAccepted p r
-accepted_at p [] r h i = absurd i
-accepted_at p (q ∷ qs) r h (inl e) = subst (IsAccepted p) (sym e) h.0
-accepted_at p (q ∷ qs) r h (inr i) = accepted_at p qs r h.1 i
+right_at : (p : Problem) (rs : List Record) (r : Record) → AllByRecursion (IsRight p) rs → In r rs
+    → IsRight p r
+right_at p [] r h i = absurd i
+right_at p (q ∷ qs) r h (inl e) = subst (IsRight p) (sym e) h.0
+right_at p (q ∷ qs) r h (inr i) = right_at p qs r h.1 i
 
 -- some record explores an explored set
 explorer : (rs : List Record) (set : List ℕ) → is_explored (founds rs) set ≡ true
@@ -129,57 +129,56 @@ held-at rs kind set h =
     (r, i, same_kind-true (kind_of r) kind parts.0, (bytes_decides (set_of r) set).0 parts.1)
 
 -- a held conflict is minimal
-pub conflict-held : (p : Problem) (rs : List Record) (set : List ℕ) → IsProblem p → AllByRecursion (IsAccepted p) rs
+pub conflict-held : (p : Problem) (rs : List Record) (set : List ℕ) → AllByRecursion (IsRight p) rs
     → is_held rs OfConflict set ≡ true → IsConflict p set
-conflict-held p rs set ok accepted held =
+conflict-held p rs set right held =
     let (r, i, k, s) = held-at rs OfConflict set held in
-    subst (IsConflict p) s (one r (accepted_at p rs r accepted i) k)
+    subst (IsConflict p) s (one r (right_at p rs r right i) k)
   where
-    one : (r : Record) → IsAccepted p r → kind_of r ≡ OfConflict → IsConflict p (set_of r)
-    one (Conflict groups proof ws) h k = minimal-from_accepts p (Conflict groups proof ws) ok h.accepts
+    one : (r : Record) → IsRight p r → kind_of r ≡ OfConflict → IsConflict p (set_of r)
+    one (Conflict groups proof ws) h k = h.minimal
     one (Correction groups w proofs) h k = absurd (cc)
 
 -- a held correction is minimal
-pub correction-held : (p : Problem) (rs : List Record) (set : List ℕ) → IsProblem p → AllByRecursion (IsAccepted p) rs
+pub correction-held : (p : Problem) (rs : List Record) (set : List ℕ) → AllByRecursion (IsRight p) rs
     → is_held rs OfCorrection set ≡ true → IsCorrection p set
-correction-held p rs set ok accepted held =
+correction-held p rs set right held =
     let (r, i, k, s) = held-at rs OfCorrection set held in
-    subst (IsCorrection p) s (one r (accepted_at p rs r accepted i) k)
+    subst (IsCorrection p) s (one r (right_at p rs r right i) k)
   where
-    one : (r : Record) → IsAccepted p r → kind_of r ≡ OfCorrection → IsCorrection p (set_of r)
+    one : (r : Record) → IsRight p r → kind_of r ≡ OfCorrection → IsCorrection p (set_of r)
     one (Conflict groups proof ws) h k = absurd (cc)
-    one (Correction groups w proofs) h k = minimal-from_accepts p (Correction groups w proofs) ok h.accepts
+    one (Correction groups w proofs) h k = h.minimal
 
 -- a minimal conflict that is explored is held: no correction explores it, and of the conflicts only itself does
-explored_conflict : (p : Problem) (rs : List Record) (set : List ℕ) → IsProblem p → AllByRecursion (IsAccepted p) rs
+explored_conflict : (p : Problem) (rs : List Record) (set : List ℕ) → AllByRecursion (IsRight p) rs
     → IsGroupSet set
     → IsSubset set (all_groups p.groups) → IsConflict p set → is_explored (founds rs) set ≡ true
     → is_held rs OfConflict set ≡ true
-explored_conflict p rs set ok accepted is_set within conflict e =
+explored_conflict p rs set right is_set within conflict e =
     let (r, i, x) = explorer rs set e in
-    let (k, s) = one r (accepted_at p rs r accepted i) x in
+    let (k, s) = one r (right_at p rs r right i) x in
     held-from rs r OfConflict set i k s
   where
-    one : (r : Record) → IsAccepted p r → explores (found_of r) set ≡ true → (kind_of r ≡ OfConflict) × (set_of r ≡ set)
+    one : (r : Record) → IsRight p r → explores (found_of r) set ≡ true → (kind_of r ≡ OfConflict) × (set_of r ≡ set)
     one (Conflict part proof ws) h x =
-        let minimal = minimal-from_accepts p (Conflict part proof ws) ok h.accepts in
+        let minimal = h.minimal in
         let same : part ≡ set =
-        elim (same_or_proper part set h.accepts.is_set is_set (IsSubset-from_all part set x)) [
+        elim (same_or_proper part set h.is_set is_set (IsSubset-from_all part set x)) [
           | inl same ↦ same
           | inr proper ↦ absurd (minimal.unsat (conflict.minimal part proper))
         ] in
         (refl, same)
     one (Correction part w proofs) h x =
-        absurd (conflict.unsat (decides_at p (Correction part w proofs) set ok h within x))
+        absurd (conflict.unsat (decides_at p (Correction part w proofs) set h within x))
 
 -- a minimal correction whose complement is explored is held: no conflict explores the complement, and of the
 -- corrections only itself does
-explored_correction : (p : Problem) (rs : List Record) (set : List ℕ) → IsProblem p
-    → AllByRecursion (IsAccepted p) rs → IsGroupSet set
+explored_correction : (p : Problem) (rs : List Record) (set : List ℕ) → AllByRecursion (IsRight p) rs → IsGroupSet set
     → IsCorrection p set → is_explored (founds rs) (complement p.groups set) ≡ true → is_held rs OfCorrection set ≡ true
-explored_correction p rs set ok accepted is_set correction e =
+explored_correction p rs set right is_set correction e =
     let (r, i, x) = explorer rs (complement p.groups set) e in
-    let (k, s) = one r (accepted_at p rs r accepted i) x in
+    let (k, s) = one r (right_at p rs r right i) x in
     held-from rs r OfCorrection set i k s
   where
     rest : List ℕ
@@ -198,27 +197,27 @@ explored_correction p rs set ok accepted is_set correction e =
               absurd (false≢true (sym (not_in_both rest part g none outside) ∙ h))
         ]
 
-    one : (r : Record) → IsAccepted p r → explores (found_of r) rest ≡ true
+    one : (r : Record) → IsRight p r → explores (found_of r) rest ≡ true
         → (kind_of r ≡ OfCorrection) × (set_of r ≡ set)
     one (Conflict part proof ws) h x =
-        absurd (unsat_above p part rest (minimal-from_accepts p (Conflict part proof ws) ok h.accepts) x correction.sat)
+        absurd (unsat_above p part rest h.minimal x correction.sat)
     one (Correction part w proofs) h x =
-        let minimal = minimal-from_accepts p (Correction part w proofs) ok h.accepts in
+        let minimal = h.minimal in
         let same : part ≡ set =
-        elim (same_or_proper part set h.accepts.is_set is_set (inside part h.within x)) [
+        elim (same_or_proper part set h.is_set is_set (inside part h.within x)) [
           | inl same ↦ same
           | inr proper ↦ absurd (correction.minimal part proper minimal.sat)
         ] in
         (refl, same)
 
 -- where each set is explored, each minimal conflict and each minimal correction is held
-pub all_held : (p : Problem) (rs : List Record) (set : List ℕ) → IsProblem p → AllByRecursion (IsAccepted p) rs
+pub all_held : (p : Problem) (rs : List Record) (set : List ℕ) → AllByRecursion (IsRight p) rs
     → AllExplored p.groups (founds rs) → IsGroupSet set → IsSubset set (all_groups p.groups)
     → (IsConflict p set → is_held rs OfConflict set ≡ true) × (IsCorrection p set → is_held rs OfCorrection set ≡ true)
-all_held p rs set ok accepted all is_set within = (
-  λ conflict. explored_conflict p rs set ok accepted is_set within conflict (all.explored set is_set within),
+all_held p rs set right all is_set within = (
+  λ conflict. explored_conflict p rs set right is_set within conflict (all.explored set is_set within),
   λ correction.
-      explored_correction p rs set ok accepted is_set correction
+      explored_correction p rs set right is_set correction
       (all.explored rest (IsGroupSet-complement p.groups set rest refl) rest_within),
 )
   where
@@ -229,15 +228,13 @@ all_held p rs set ok accepted all is_set within = (
     rest_within g h =
         (and_parts (not (has set g)) (has (all_groups p.groups) g) (sym (has-complement p.groups set g) ∙ h)).1
 
--- where each set is explored, each accepted record's set is held under its kind
-pub held_at_end : (p : Problem) (rs : List Record) (r : Record) → IsProblem p → AllByRecursion (IsAccepted p) rs
-    → AllExplored p.groups (founds rs) → IsAccepted p r → is_held rs (kind_of r) (set_of r) ≡ true
-held_at_end p rs (Conflict set proof ws) ok accepted all h =
-    (all_held p rs set ok accepted all h.accepts.is_set h.within).0
-    (minimal-from_accepts p (Conflict set proof ws) ok h.accepts)
-held_at_end p rs (Correction set w proofs) ok accepted all h =
-    (all_held p rs set ok accepted all h.accepts.is_set h.within).1
-    (minimal-from_accepts p (Correction set w proofs) ok h.accepts)
+-- where each set is explored, each right record's set is held under its kind
+pub held_at_end : (p : Problem) (rs : List Record) (r : Record) → AllByRecursion (IsRight p) rs
+    → AllExplored p.groups (founds rs) → IsRight p r → is_held rs (kind_of r) (set_of r) ≡ true
+held_at_end p rs (Conflict set proof ws) right all h =
+    (all_held p rs set right all h.is_set h.within).0 h.minimal
+held_at_end p rs (Correction set w proofs) right all h =
+    (all_held p rs set right all h.is_set h.within).1 h.minimal
 
 -- in a model all block clauses are true, over the groups
 good_blocks : (groups : ℕ) (assign : List Bool) (found : List Found) (from : ℕ) → AreWithin groups found
@@ -260,20 +257,21 @@ all_explored-shown groups found d within shown =
     let (l, allowed, rest, over) = derives-sound groups assign (map block_clause found) d (λ l. false) (good_blocks groups assign found 1 within model) shown in
     false≢true allowed))
 
-within_of : (p : Problem) (rs : List Record) → AllByRecursion (IsAccepted p) rs → AreWithin p.groups (founds rs)
-within_of p [] all f i = absurd i
-within_of p (r ∷ rs) all f (inl e) = subst (λ (g : Found). IsSubset g.set (all_groups p.groups)) (sym e) all.0.within
-within_of p (r ∷ rs) all f (inr i) = within_of p rs all.1 f i
+within_of : (p : Problem) (earlier rs : List Record) → AllAcceptedBehind p earlier rs → AreWithin p.groups (founds rs)
+within_of p earlier [] all f i = absurd i
+within_of p earlier (r ∷ rs) all f (inl e) = subst (λ (g : Found). IsSubset g.set (all_groups p.groups)) (sym e) all.0.within
+within_of p earlier (r ∷ rs) all f (inr i) = within_of p (earlier ++ r ∷ []) rs all.1 f i
 
 -- a closing derivation over the block clauses of accepted records shows that each set is explored
-pub closing-explores : (p : Problem) (rs : List Record) (d : Derivation) → AllByRecursion (IsAccepted p) rs
+pub closing-explores : (p : Problem) (rs : List Record) (d : Derivation) → AllAccepted p rs
     → shows_all_explored p.groups (founds rs) d ≡ true → AllExplored p.groups (founds rs)
-closing-explores p rs d all shown = all_explored-shown p.groups (founds rs) d (within_of p rs all) shown
+closing-explores p rs d all shown = all_explored-shown p.groups (founds rs) d (within_of p [] rs all) shown
 
-pub explored-holds_all : (p : Problem) (rs : List Record) → IsProblem p → AllByRecursion (IsAccepted p) rs
+pub explored-holds_all : (p : Problem) (rs : List Record) → IsProblem p → AllAccepted p rs
     → AllExplored p.groups (founds rs) → HoldsAll p rs
 explored-holds_all p rs ok accepted all =
+    let right = accepted-right p rs ok accepted in
     record {
-      conflicts = λ set is_set within. (all_held p rs set ok accepted all is_set within).0;
-      corrections = λ set is_set within. (all_held p rs set ok accepted all is_set within).1;
+      conflicts = λ set is_set within. (all_held p rs set right all is_set within).0;
+      corrections = λ set is_set within. (all_held p rs set right all is_set within).1;
     }

@@ -12,8 +12,8 @@ use Rattle.gm_base.specs.declared.kind.Kind.TheVariants as kinds
 use Rattle.gm_base.proofs.TestLemmas.{IsConflict-from_test, test-from_IsConflict, IsCorrection-from_test, test-from_IsCorrection}
 use Rattle.evidence_rec.specs.declared.record.Record.{Record}
 use Rattle.evidence_rec.specs.declared.record.Record.TheVariants.{Conflict, Correction}
-use Rattle.evidence_rec.specs.Records.{kind_of, set_of, IsAccepted, IsMinimal}
-use Rattle.evidence_rec.proofs.VerdictLemmas.{minimal-from_accepts}
+use Rattle.evidence_rec.specs.Records.{kind_of, set_of, AllAccepted, IsRight, IsMinimal}
+use Rattle.evidence_rec.proofs.AcceptedLemmas.{accepted-right}
 use Rattle.evidence_rec.specs.Held.{is_held, same_set, AreNew, conflicts_in, corrections_in, HoldsAll, AreExactlyAll}
 use Rattle.evidence_rec.proofs.SetListLemmas.{same-refl, same-is, IsDistinct, SameSets, IsDistinct-push, distinct-filter, distinct-filter_subsets, In-filter, filter-In, In-subsets, subsets-In, SameSets-from_distinct, filter-all, IsPermutation-same}
 
@@ -132,29 +132,27 @@ distinct-sets_in kind records new = distinct-behind kind [] records new (none ki
     none kinds.Conflict s = omega arith
     none kinds.Correction s = omega arith
 
--- the set of an accepted record is among all minimal sets of its kind
-among : (p : Problem) (r : Record) → IsProblem p → IsAccepted p r → In (set_of r) (minimal_sets (kind_of r) p)
+-- the set of a right record is among all minimal sets of its kind
+among : (p : Problem) (r : Record) → IsRight p r → In (set_of r) (minimal_sets (kind_of r) p)
 unfolding conflicts corrections
-among p (Conflict set proof witnesses) ok h =
-    let minimal = minimal-from_accepts p (Conflict set proof witnesses) ok h.accepts in
-    In-filter (is_conflict p) set (subsets p.groups) (In-subsets p.groups set h.accepts.is_set h.within) (test-from_IsConflict p set h.accepts.is_set minimal)
-among p (Correction set witness proofs) ok h =
-    let minimal = minimal-from_accepts p (Correction set witness proofs) ok h.accepts in
-    In-filter (is_correction p) set (subsets p.groups) (In-subsets p.groups set h.accepts.is_set h.within) (test-from_IsCorrection p set h.accepts.is_set minimal)
+among p (Conflict set proof witnesses) h =
+    In-filter (is_conflict p) set (subsets p.groups) (In-subsets p.groups set h.is_set h.within) (test-from_IsConflict p set h.is_set h.minimal)
+among p (Correction set witness proofs) h =
+    In-filter (is_correction p) set (subsets p.groups) (In-subsets p.groups set h.is_set h.within) (test-from_IsCorrection p set h.is_set h.minimal)
 
-pub In-minimal_sets : (p : Problem) (kind : Kind) (records : List Record) (s : List ℕ) → IsProblem p
-    → AllByRecursion (IsAccepted p) records
+pub In-minimal_sets : (p : Problem) (kind : Kind) (records : List Record) (s : List ℕ)
+    → AllByRecursion (IsRight p) records
     → In s (sets_in kind records) → In s (minimal_sets kind p)
-In-minimal_sets p kinds.Conflict [] s ok all i = absurd i
-In-minimal_sets p kinds.Correction [] s ok all i = absurd i
-In-minimal_sets p kinds.Conflict (Conflict set proof witnesses ∷ rs) s ok all (inl e) =
-    subst (λ t. In t (conflicts p)) (sym e) (among p (Conflict set proof witnesses) ok all.0)
-In-minimal_sets p kinds.Conflict (Conflict set proof witnesses ∷ rs) s ok all (inr i) = In-minimal_sets p kinds.Conflict rs s ok all.1 i
-In-minimal_sets p kinds.Conflict (Correction set witness proofs ∷ rs) s ok all i = In-minimal_sets p kinds.Conflict rs s ok all.1 i
-In-minimal_sets p kinds.Correction (Conflict set proof witnesses ∷ rs) s ok all i = In-minimal_sets p kinds.Correction rs s ok all.1 i
-In-minimal_sets p kinds.Correction (Correction set witness proofs ∷ rs) s ok all (inl e) =
-    subst (λ t. In t (corrections p)) (sym e) (among p (Correction set witness proofs) ok all.0)
-In-minimal_sets p kinds.Correction (Correction set witness proofs ∷ rs) s ok all (inr i) = In-minimal_sets p kinds.Correction rs s ok all.1 i
+In-minimal_sets p kinds.Conflict [] s all i = absurd i
+In-minimal_sets p kinds.Correction [] s all i = absurd i
+In-minimal_sets p kinds.Conflict (Conflict set proof witnesses ∷ rs) s all (inl e) =
+    subst (λ t. In t (conflicts p)) (sym e) (among p (Conflict set proof witnesses) all.0)
+In-minimal_sets p kinds.Conflict (Conflict set proof witnesses ∷ rs) s all (inr i) = In-minimal_sets p kinds.Conflict rs s all.1 i
+In-minimal_sets p kinds.Conflict (Correction set witness proofs ∷ rs) s all i = In-minimal_sets p kinds.Conflict rs s all.1 i
+In-minimal_sets p kinds.Correction (Conflict set proof witnesses ∷ rs) s all i = In-minimal_sets p kinds.Correction rs s all.1 i
+In-minimal_sets p kinds.Correction (Correction set witness proofs ∷ rs) s all (inl e) =
+    subst (λ t. In t (corrections p)) (sym e) (among p (Correction set witness proofs) all.0)
+In-minimal_sets p kinds.Correction (Correction set witness proofs ∷ rs) s all (inr i) = In-minimal_sets p kinds.Correction rs s all.1 i
 
 distinct-minimal_sets : (kind : Kind) (p : Problem) → IsDistinct (minimal_sets kind p)
 unfolding conflicts corrections
@@ -163,12 +161,13 @@ distinct-minimal_sets kinds.Correction p = distinct-filter_subsets (is_correctio
 
 -- the sets of distinct accepted records are the minimal ones that are held
 pub SameSets-held : (p : Problem) (kind : Kind) (records : List Record) → IsProblem p
-    → AllByRecursion (IsAccepted p) records → AreNew [] records
+    → AllAccepted p records → AreNew [] records
     → SameSets (sets_in kind records) (filter (is_held records kind) (minimal_sets kind p))
 SameSets-held p kind records ok all new =
+    let right = accepted-right p records ok all in
     SameSets-from_distinct (sets_in kind records) (filter (is_held records kind) (minimal_sets kind p)) (distinct-sets_in kind records new)
     (distinct-filter (is_held records kind) (minimal_sets kind p) (distinct-minimal_sets kind p))
-    (λ s i. In-filter (is_held records kind) s (minimal_sets kind p) (In-minimal_sets p kind records s ok all i) (In-held kind records s i))
+    (λ s i. In-filter (is_held records kind) s (minimal_sets kind p) (In-minimal_sets p kind records s right i) (In-held kind records s i))
     (λ s i. held-In kind records s (filter-In (is_held records kind) s (minimal_sets kind p) i).1)
 
 -- where all minimal sets are held, none is missing
@@ -193,7 +192,7 @@ all_corrections p records all =
     all.corrections s ok within (IsCorrection-from_test p s ok t))
 
 -- and then the sets of the records are exactly all minimal ones
-pub held-exactly_all : (p : Problem) (records : List Record) → IsProblem p → AllByRecursion (IsAccepted p) records
+pub held-exactly_all : (p : Problem) (records : List Record) → IsProblem p → AllAccepted p records
     → AreNew [] records → HoldsAll p records → AreExactlyAll p records
 held-exactly_all p records ok accepted new all =
     record {
@@ -205,8 +204,10 @@ held-exactly_all p records ok accepted new all =
           (subst (SameSets (corrections_in records)) (all_corrections p records all) (SameSets-held p kinds.Correction records ok accepted new));
     }
 
+all-minimal : (p : Problem) (records : List Record) → AllByRecursion (IsRight p) records → AllByRecursion (IsMinimal p) records
+all-minimal p [] all = tt
+all-minimal p (r ∷ rs) all = (all.0.minimal, all-minimal p rs all.1)
+
 -- accepted records are of minimal sets
-pub all-minimal : (p : Problem) (records : List Record) → IsProblem p → AllByRecursion (IsAccepted p) records
-    → AllByRecursion (IsMinimal p) records
-all-minimal p [] ok all = tt
-all-minimal p (r ∷ rs) ok all = (minimal-from_accepts p r ok all.0.accepts, all-minimal p rs ok all.1)
+pub accepted-minimal : (p : Problem) (records : List Record) → IsProblem p → AllAccepted p records → AllByRecursion (IsMinimal p) records
+accepted-minimal p records ok all = all-minimal p records (accepted-right p records ok all)

@@ -1,3 +1,4 @@
+pub mod AcceptedLemmas
 pub mod VerdictLemmas
 pub mod LeftOutLemmas
 pub mod LineLemmas

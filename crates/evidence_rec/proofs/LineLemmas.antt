@@ -4,15 +4,16 @@ use Rattle.std.specs.Prelude.{ℤ, slice_get}
 use Rattle.std.specs.Option.{option_or}
 use Rattle.std.proofs.lemmas.List.{append-nil, drop_more, take_more, map-append}
 use Rattle.std.proofs.lemmas.Option.{slice_get_within, get_or_from_slice_get}
-use Rattle.gm_base.specs.Sets.{without, complement}
+use Rattle.gm_base.specs.Sets.{without}
 use Rattle.gm_base.specs.Problem.{Problem}
-use Rattle.sat_base.specs.Derivation.{Step, Derivation}
+use Rattle.sat_base.specs.Derivation.{Step}
 use Rattle.lrat_check.specs.declared.why.Why.{Why}
 use Rattle.lrat_check.specs.Refusal.{step_refusal}
 use Rattle.lrat_check.specs.State.{State}
-use Rattle.evidence_rec.specs.Basis.{refuted_set}
+use Rattle.evidence_rec.specs.declared.record.Record.{Record}
+use Rattle.evidence_rec.specs.declared.record.Refutation.{Refutation}
 use Rattle.evidence_rec.proofs.VerdictLemmas.{or-stops, or-goes}
-use Rattle.evidence_rec.specs.Refusals.{at_line, steps_refusal, refutation_refusal, witness_refusal, witnesses_refusal, refutations_refusal}
+use Rattle.evidence_rec.specs.Refusals.{at_line, steps_refusal, witness_refusal, witnesses_refusal, group_refusal, steps_in, refutations_refusal}
 
 -- The witness at a place of a conflict, where those before it are not refused.
 module _ (p : Problem) (set groups : List ℕ) (ws : List (List Bool)) (line at part : ℕ) (w : List Bool) (others : List ℕ) (says : Option (ℕ × Why))
@@ -38,30 +39,29 @@ module _ (p : Problem) (set groups : List ℕ) (ws : List (List Bool)) (line at 
   pub witnesses-go : says ≡ None → witnesses_refusal p set line set ws ≡ witnesses_refusal p set (line + (at + 1)) (drop (at + 1) set) (drop (at + 1) ws)
   witnesses-go none = parted ∙ or-goes says (witnesses_refusal p set (line + (at + 1)) (drop (at + 1) set) (drop (at + 1) ws)) none
 
--- The proof at a place of a correction, where those before it are not refused.
-module _ (p : Problem) (set groups : List ℕ) (ds : List Derivation) (first line at : ℕ) (d : Derivation) (says : Option (ℕ × Why))
-    (is_set : groups ≡ set) (lt : at < length groups) (is : slice_get ds at ≡ Some d)
-    (said : says ≡ refutation_refusal p (refuted_set p.groups set (Some (get_or groups at 0))) line d)
-    (so_far : refutations_refusal p set first set ds ≡ refutations_refusal p set line (drop at set) (drop at ds)) where
-  shared : refutations_refusal p set first set ds ≡ option_or says (refutations_refusal p set (line + length d.steps + 1) (drop (at + 1) set) (drop (at + 1) ds))
+-- The refutation at a place of a correction, where those before it are not refused.
+module _ (p : Problem) (earlier : List Record) (set groups : List ℕ) (rs : List Refutation) (first line at : ℕ) (r : Refutation) (says : Option (ℕ × Why))
+    (is_set : groups ≡ set) (lt : at < length groups) (is : slice_get rs at ≡ Some r)
+    (said : says ≡ group_refusal p earlier set (get_or groups at 0) line r)
+    (so_far : refutations_refusal p earlier set first set rs ≡ refutations_refusal p earlier set line (drop at set) (drop at rs)) where
+  shared : refutations_refusal p earlier set first set rs ≡ option_or says (refutations_refusal p earlier set (line + steps_in r + 1) (drop (at + 1) set) (drop (at + 1) rs))
   shared =
       let within : at < length set = subst (λ (gs : List ℕ). at < length gs) is_set lt in
       so_far
-      ∙ ap₂ (λ (hs : List ℕ) (es : List Derivation). refutations_refusal p set line hs es) (drop_more set at 0 within) (drop_more ds at d (slice_get_within ds at d is))
-      ∙ ap (λ (e : Derivation). option_or (refutation_refusal p (complement p.groups (without set (get_or set at 0))) line e) (refutations_refusal p set (line + length e.steps + 1) (drop (at + 1) set) (drop (at + 1) ds)))
-      (get_or_from_slice_get ds at d d is)
-      ∙ ap (λ (gs : List ℕ). option_or (refutation_refusal p (complement p.groups (without set (get_or gs at 0))) line d) (refutations_refusal p set (line + length d.steps + 1) (drop (at + 1) set) (drop (at + 1) ds)))
-      (sym is_set)
-      ∙ ap (λ (v : Option (ℕ × Why)). option_or v (refutations_refusal p set (line + length d.steps + 1) (drop (at + 1) set) (drop (at + 1) ds))) (sym said)
+      ∙ ap₂ (λ (hs : List ℕ) (qs : List Refutation). refutations_refusal p earlier set line hs qs) (drop_more set at 0 within) (drop_more rs at r (slice_get_within rs at r is))
+      ∙ ap (λ (q : Refutation). option_or (group_refusal p earlier set (get_or set at 0) line q) (refutations_refusal p earlier set (line + steps_in q + 1) (drop (at + 1) set) (drop (at + 1) rs)))
+      (get_or_from_slice_get rs at r r is)
+      ∙ ap (λ (gs : List ℕ). option_or (group_refusal p earlier set (get_or gs at 0) line r) (refutations_refusal p earlier set (line + steps_in r + 1) (drop (at + 1) set) (drop (at + 1) rs))) (sym is_set)
+      ∙ ap (λ (v : Option (ℕ × Why)). option_or v (refutations_refusal p earlier set (line + steps_in r + 1) (drop (at + 1) set) (drop (at + 1) rs))) (sym said)
 
-  pub refutations-stop : says ≢ None → says ≡ refutations_refusal p set first set ds
-  refutations-stop some = sym (shared ∙ or-stops says (refutations_refusal p set (line + length d.steps + 1) (drop (at + 1) set) (drop (at + 1) ds)) some)
+  pub refutations-stop : says ≢ None → says ≡ refutations_refusal p earlier set first set rs
+  refutations-stop some = sym (shared ∙ or-stops says (refutations_refusal p earlier set (line + steps_in r + 1) (drop (at + 1) set) (drop (at + 1) rs)) some)
 
-  pub refutations-go : (next : ℕ) → next ≡ line + length d.steps + 1 → says ≡ None → refutations_refusal p set first set ds ≡ refutations_refusal p set next (drop (at + 1) set) (drop (at + 1) ds)
+  pub refutations-go : (next : ℕ) → next ≡ line + steps_in r + 1 → says ≡ None → refutations_refusal p earlier set first set rs ≡ refutations_refusal p earlier set next (drop (at + 1) set) (drop (at + 1) rs)
   refutations-go next up none =
       shared
-      ∙ or-goes says (refutations_refusal p set (line + length d.steps + 1) (drop (at + 1) set) (drop (at + 1) ds)) none
-      ∙ ap (λ (n : ℕ). refutations_refusal p set n (drop (at + 1) set) (drop (at + 1) ds)) (sym up)
+      ∙ or-goes says (refutations_refusal p earlier set (line + steps_in r + 1) (drop (at + 1) set) (drop (at + 1) rs)) none
+      ∙ ap (λ (n : ℕ). refutations_refusal p earlier set n (drop (at + 1) set) (drop (at + 1) rs)) (sym up)
 
 -- the first steps are taken: their clauses stand behind those of before, and the others are left to say
 pub record AreTaken (old now : State) (line : ℕ) (steps : List Step) (at : ℕ) : Type 0 where

@@ -9,18 +9,21 @@ use Rattle.gm_base.specs.Problem.{Problem, IsProblem}
 use Rattle.sat_base.specs.Derivation.{Step, Derivation, numbered, clause_of, all_known, is_step_clause, follows, steps_follow, is_derivation}
 use Rattle.gm_base.specs.Evidence.{selector_form, refutes, is_witness, each_passes}
 use Rattle.lrat_check.specs.declared.why.Why.{Why}
-use Rattle.lrat_check.specs.declared.why.Why.TheVariants.{UnknownClause, NotRefuting, WitnessFails}
+use Rattle.lrat_check.specs.declared.why.Why.TheVariants.{UnknownClause, NotRefuting, WitnessFails, UnknownRecord, NotInside}
 use Rattle.lrat_check.specs.Refusal.{last_id, step_refusal}
 use Rattle.lrat_check.proofs.RefusalLemmas as refusing
 use Rattle.lrat_check.proofs.KnownLemmas.{last_id-push, last_id-numbered}
-use Rattle.evidence_rec.specs.Refusals.{at_line, steps_refusal, leaves_out, goal_refusal, refutation_refusal, witness_refusal, witnesses_refusal, refutations_refusal, record_refusal}
-use Rattle.gm_base.proofs.EvidenceLemmas.{IsConflict-from_evidence, IsCorrection-from_evidence}
-use Rattle.evidence_rec.specs.Records.{found_of, IsShaped, Accepts, IsMinimal}
+use Rattle.evidence_rec.specs.Refusals.{at_line, steps_refusal, leaves_out, goal_refusal, refutation_refusal, witness_refusal, witnesses_refusal, reference_refusal, group_refusal, steps_in, refutations_refusal, record_refusal}
+use Rattle.std.specs.List.{AllByRecursion}
+use Rattle.evidence_rec.specs.Records.{found_of, numbered_record, is_inside, shows_refuted, IsShaped, Accepts, AllAccepted, IsMinimal}
+use Rattle.evidence_rec.proofs.AcceptedLemmas.{accepted-right, minimal-from_accepts}
 use Rattle.std.specs.declared.alloc.AllocError.{AllocError}
 use Rattle.evidence_rec.specs.Verdicts.{refusal_by, IsAccepted}
 use Rattle.evidence_rec.specs.declared.checking.Verdict.{Verdict}
 use Rattle.evidence_rec.specs.declared.record.Record.{Record}
 use Rattle.evidence_rec.specs.declared.record.Record.TheVariants as record_of
+use Rattle.evidence_rec.specs.declared.record.Refutation.{Refutation}
+use Rattle.evidence_rec.specs.declared.record.Refutation.TheVariants.{Steps, Earlier}
 
 -- neither of two refuses
 pub none-parts : {X : Type 0} (a b : Option X) → option_or a b ≡ None → (a ≡ None) × (b ≡ None)
@@ -119,56 +122,75 @@ witnesses-none p set line (g ∷ gs) (w ∷ ws) same =
     (is_witness p (without set g) w) (each_passes (λ g w. is_witness p (without set g) w) gs ws)
     (witness-none p (without set g) w line) (witnesses-none p set (line + 1) gs ws (omega arith))
 
-pub refutations-none : (p : Problem) (set : List ℕ) (line : ℕ) (gs : List ℕ) (ds : List Derivation) → length ds ≡ length gs
-    → (refutations_refusal p set line gs ds ≡ None) ↔ (each_passes (λ g d. refutes p (complement p.groups (without set g)) d) gs ds ≡ true)
-refutations-none p set line [] [] same = (λ h. refl, λ h. refl)
-refutations-none p set line [] (d ∷ ds) same = absurd (omega arith)
-refutations-none p set line (g ∷ gs) [] same = absurd (omega arith)
-refutations-none p set line (g ∷ gs) (d ∷ ds) same =
-    both (refutation_refusal p (complement p.groups (without set g)) line d) (refutations_refusal p set (line + length d.steps + 1) gs ds)
-    (refutes p (complement p.groups (without set g)) d) (each_passes (λ g d. refutes p (complement p.groups (without set g)) d) gs ds)
-    (refutation-none p (complement p.groups (without set g)) line d) (refutations-none p set (line + length d.steps + 1) gs ds (omega arith))
+reference-none : (earlier : List Record) (set : List ℕ) (g i : ℕ)
+    → (reference_refusal earlier set g i ≡ None) ↔ (option_map_or (is_inside set g) (numbered_record earlier i) false ≡ true)
+reference-none earlier set g i = by (numbered_record earlier i)
+  where
+    of : (b : Bool) → ((if b then None else Some NotInside) ≡ None) ↔ (b ≡ true)
+    of true = (λ h. refl, λ h. refl)
+    of false = (λ h. cc, λ h. cc)
+
+    by : (o : Option Record)
+        → (option_map_or (λ (r : Record). if is_inside set g r then None else Some NotInside) o (Some UnknownRecord) ≡ None)
+        ↔ (option_map_or (is_inside set g) o false ≡ true)
+    by None = (λ h. cc, λ h. cc)
+    by (Some r) = of (is_inside set g r)
+
+group-none : (p : Problem) (earlier : List Record) (set : List ℕ) (g line : ℕ) (r : Refutation)
+    → (group_refusal p earlier set g line r ≡ None) ↔ (shows_refuted p earlier set g r ≡ true)
+group-none p earlier set g line (Steps d) = refutation-none p (complement p.groups (without set g)) line d
+group-none p earlier set g line (Earlier i) =
+    at_line-none line (reference_refusal earlier set g i) (option_map_or (is_inside set g) (numbered_record earlier i) false) (reference-none earlier set g i)
+
+pub refutations-none : (p : Problem) (earlier : List Record) (set : List ℕ) (line : ℕ) (gs : List ℕ) (rs : List Refutation) → length rs ≡ length gs
+    → (refutations_refusal p earlier set line gs rs ≡ None) ↔ (each_passes (shows_refuted p earlier set) gs rs ≡ true)
+refutations-none p earlier set line [] [] same = (λ h. refl, λ h. refl)
+refutations-none p earlier set line [] (r ∷ rs) same = absurd (omega arith)
+refutations-none p earlier set line (g ∷ gs) [] same = absurd (omega arith)
+refutations-none p earlier set line (g ∷ gs) (r ∷ rs) same =
+    both (group_refusal p earlier set g line r) (refutations_refusal p earlier set (line + steps_in r + 1) gs rs)
+    (shows_refuted p earlier set g r) (each_passes (shows_refuted p earlier set) gs rs)
+    (group-none p earlier set g line r) (refutations-none p earlier set (line + steps_in r + 1) gs rs (omega arith))
 
 -- no line of a record is refused exactly where its evidence is accepted
-pub accepts-from_none : (p : Problem) (r : Record) → IsShaped p r → IsGroupSet (found_of r).set → record_refusal p r ≡ None → Accepts p r
-accepts-from_none p (record_of.Conflict set proof ws) shaped is_set h =
+pub accepts-from_none : (p : Problem) (earlier : List Record) (r : Record) → IsShaped p r → IsGroupSet (found_of r).set → record_refusal p earlier r ≡ None → Accepts p earlier r
+accepts-from_none p earlier (record_of.Conflict set proof ws) shaped is_set h =
     let parts = none-parts (refutation_refusal p set 1 proof) (witnesses_refusal p set (1 + length proof.steps + 1) set ws) h in
     record {
       is_set = is_set;
       refuted = (refutation-none p set 1 proof).0 parts.0;
       witnessed = (witnesses-none p set (1 + length proof.steps + 1) set ws shaped.0).0 parts.1;
     }
-accepts-from_none p (record_of.Correction set w ds) shaped is_set h =
-    let parts = none-parts (at_line 1 (witness_refusal p (complement p.groups set) w)) (refutations_refusal p set 2 set ds) h in
+accepts-from_none p earlier (record_of.Correction set w rs) shaped is_set h =
+    let parts = none-parts (at_line 1 (witness_refusal p (complement p.groups set) w)) (refutations_refusal p earlier set 2 set rs) h in
     record {
       is_set = is_set;
       witnessed = (witness-none p (complement p.groups set) w 1).0 parts.0;
-      refuted = (refutations-none p set 2 set ds shaped.1).0 parts.1;
+      refuted = (refutations-none p earlier set 2 set rs shaped.1).0 parts.1;
     }
 
-pub none-from_accepts : (p : Problem) (r : Record) → IsShaped p r → Accepts p r → record_refusal p r ≡ None
-none-from_accepts p (record_of.Conflict set proof ws) shaped h =
+pub none-from_accepts : (p : Problem) (earlier : List Record) (r : Record) → IsShaped p r → Accepts p earlier r → record_refusal p earlier r ≡ None
+none-from_accepts p earlier (record_of.Conflict set proof ws) shaped h =
     or-goes (refutation_refusal p set 1 proof) (witnesses_refusal p set (1 + length proof.steps + 1) set ws) ((refutation-none p set 1 proof).1 h.refuted)
     ∙ (witnesses-none p set (1 + length proof.steps + 1) set ws shaped.0).1 h.witnessed
-none-from_accepts p (record_of.Correction set w ds) shaped h =
-    or-goes (at_line 1 (witness_refusal p (complement p.groups set) w)) (refutations_refusal p set 2 set ds) ((witness-none p (complement p.groups set) w 1).1 h.witnessed)
-    ∙ (refutations-none p set 2 set ds shaped.1).1 h.refuted
-
-pub minimal-from_accepts : (p : Problem) (r : Record) → IsProblem p → Accepts p r → IsMinimal p r
-minimal-from_accepts p (record_of.Conflict set proof ws) ok h = IsConflict-from_evidence p set proof ws ok h
-minimal-from_accepts p (record_of.Correction set w ds) ok h = IsCorrection-from_evidence p set w ds ok h
+none-from_accepts p earlier (record_of.Correction set w rs) shaped h =
+    or-goes (at_line 1 (witness_refusal p (complement p.groups set) w)) (refutations_refusal p earlier set 2 set rs) ((witness-none p (complement p.groups set) w 1).1 h.witnessed)
+    ∙ (refutations-none p earlier set 2 set rs shaped.1).1 h.refuted
 
 -- what a check that ends says, where it says what is refused
-pub accepts-of : (p : Problem) (r s : Record) (answer : Result Verdict AllocError) → r ≡ s → IsShaped p r → IfOk answer (λ v. refusal_by v ≡ record_refusal p s)
-    → IfOk answer (λ v. IsAccepted v → IsGroupSet (found_of s).set) → IfOk answer (λ v. IsAccepted v ↔ Accepts p r)
-accepts-of p r s (Err e) same shaped says is_set = tt
-accepts-of p r s (Ok v) same shaped says is_set = (
+pub accepts-of : (p : Problem) (earlier : List Record) (r s : Record) (answer : Result Verdict AllocError) → r ≡ s → IsShaped p r
+    → IfOk answer (λ v. refusal_by v ≡ record_refusal p earlier s)
+    → IfOk answer (λ v. IsAccepted v → IsGroupSet (found_of s).set) → IfOk answer (λ v. IsAccepted v ↔ Accepts p earlier r)
+accepts-of p earlier r s (Err e) same shaped says is_set = tt
+accepts-of p earlier r s (Ok v) same shaped says is_set = (
   λ accepted.
-      accepts-from_none p r shaped (subst (λ (t : Record). IsGroupSet (found_of t).set) (sym same) (is_set accepted)) (ap (record_refusal p) same ∙ sym says ∙ accepted),
-  λ accepts. says ∙ sym (ap (record_refusal p) same) ∙ none-from_accepts p r shaped accepts,
+      accepts-from_none p earlier r shaped (subst (λ (t : Record). IsGroupSet (found_of t).set) (sym same) (is_set accepted))
+      (ap (record_refusal p earlier) same ∙ sym says ∙ accepted),
+  λ accepts. says ∙ sym (ap (record_refusal p earlier) same) ∙ none-from_accepts p earlier r shaped accepts,
 )
 
-pub minimal-of : (p : Problem) (r : Record) (answer : Result Verdict AllocError) → IsProblem p → IfOk answer (λ v. IsAccepted v ↔ Accepts p r)
-    → IfOk answer (λ v. IsAccepted v → IsMinimal p r)
-minimal-of p r (Err e) ok accepts = tt
-minimal-of p r (Ok v) ok accepts = λ accepted. minimal-from_accepts p r ok (accepts.0 accepted)
+pub minimal-of : (p : Problem) (earlier : List Record) (r : Record) (answer : Result Verdict AllocError) → IsProblem p
+    → IfOk answer (λ v. IsAccepted v ↔ Accepts p earlier r)
+    → AllAccepted p earlier → IfOk answer (λ v. IsAccepted v → IsMinimal p r)
+minimal-of p earlier r (Err e) ok accepts all = tt
+minimal-of p earlier r (Ok v) ok accepts all = λ accepted. minimal-from_accepts p earlier r ok (accepted-right p earlier ok all) (accepts.0 accepted)

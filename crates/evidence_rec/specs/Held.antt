@@ -1,6 +1,6 @@
 -- Which sets records hold, and what it is that they hold all (MARCO: Liffiton, Previti, Malik and Marques-Silva 2016).
 use Rattle.std.specs.Prelude.{◌≡◌, ℕ, Bool, true, false, List, [], ◌∷◌, ◌++◌}
-use Rattle.std.specs.List.{list_any, AllByRecursion}
+use Rattle.std.specs.List.{list_any}
 use Rattle.std.specs.List.Sorted.{IsPermutation}
 use Rattle.std.specs.Cmp.Lexicographic.{pointwise}
 use Rattle.std.specs.Bool.{nat_eq}
@@ -13,7 +13,7 @@ use Rattle.gm_base.specs.Explored.{AllExplored}
 use Rattle.sat_base.specs.Derivation.{Derivation}
 use Rattle.evidence_rec.specs.declared.record.Record.{Record}
 use Rattle.evidence_rec.specs.declared.record.Record.TheVariants as record_of
-use Rattle.evidence_rec.specs.Records.{kind_of, set_of, founds, IsAccepted}
+use Rattle.evidence_rec.specs.Records.{kind_of, set_of, founds, AllAccepted}
 use Rattle.evidence_rec.specs.Seeding.{shows_all_explored}
 
 abbrev pub same_kind : Kind → Kind → Bool
@@ -69,7 +69,7 @@ abbrev pub ExploredHoldsAll : Type 0
 ExploredHoldsAll =
     (p : Problem) (records : List Record)
     → IsProblem p
-    → AllByRecursion (IsAccepted p) records
+    → AllAccepted p records
     → AllExplored p.groups (founds records)
     → HoldsAll p records
 
@@ -77,7 +77,7 @@ ExploredHoldsAll =
 abbrev pub ClosingExploresAll : Type 0
 ClosingExploresAll =
     (p : Problem) (records : List Record) (d : Derivation)
-    → AllByRecursion (IsAccepted p) records
+    → AllAccepted p records
     → shows_all_explored p.groups (founds records) d ≡ true
     → AllExplored p.groups (founds records)
 
@@ -86,7 +86,7 @@ abbrev pub HeldAreExactlyAll : Type 0
 HeldAreExactlyAll =
     (p : Problem) (records : List Record)
     → IsProblem p
-    → AllByRecursion (IsAccepted p) records
+    → AllAccepted p records
     → AreNew [] records
     → HoldsAll p records
     → AreExactlyAll p records

@@ -2,6 +2,7 @@ pub mod Records
 pub mod Asking
 pub mod Seeding
 pub mod Verdicts
+pub mod Laws
 pub mod Refusals
 pub mod Basis
 pub mod Rows

@@ -3,16 +3,16 @@
 //! Each refutation of a record is a derivation from the clauses with their selectors, so one checker of steps serves all of
 //! them: it is made once, and before each refutation it forgets the steps of the one before. Nobody who made a record is
 //! trusted, and the first line at which something is wrong is the answer.
-ghost use Rattle.std.specs.Prelude.{◌≡◌, ◌↔◌, IfOk, IsTrue};
+ghost use Rattle.std.specs.Prelude.{◌≡◌, ◌↔◌, [], IfOk, IsTrue};
 ghost use Rattle.gm_base.specs.Sets.{IsGroupSet, complement};
-ghost use Rattle.evidence_rec.specs.Records.{IsShaped, Accepts, IsMinimal};
+ghost use Rattle.evidence_rec.specs.Records.{IsShaped, Accepts, AllAccepted, IsMinimal};
 ghost use Rattle.evidence_rec.specs.Refusals.{at_line, record_refusal};
 ghost use Rattle.evidence_rec.specs.Verdicts.{refusal_by, IsAccepted};
 ghost use Rattle.evidence_rec.specs.Basis.{Begins, basis_of};
 ghost use Rattle.evidence_rec.specs.declared.record.Record.TheVariants as record_of;
 
 use crate::lines::line_behind;
-use crate::lists::{Proofs, Witnesses};
+use crate::lists::{Proofs, Records, Witnesses};
 use crate::record::Record;
 use crate::refutation::{refutation_verdict, refutations_verdict};
 use crate::selectors::selector_checker;
@@ -79,18 +79,20 @@ impl RecordChecker {
         Ok(RecordChecker { checker })
     }
 
-    /// Whether the evidence of a record shows what it says, or the first of its lines that is refused.
+    /// Whether the evidence of a record, with the records before it, shows what it says, or the first of its lines that is
+    /// refused.
     pub fn check(
         &mut self,
         alloc: Global,
         problem: &Problem,
+        earlier: &Records,
         record: &Record,
     ) -> Result<Verdict, AllocError>
         requires same_problem { self.old ≡ basis_of problem.now }
         requires shaped { IsShaped problem.now «record».now }
-        ensures verdict { IfOk result (λ v. refusal_by v ≡ record_refusal problem.now «record».now) }
-        ensures accepts { IfOk result (λ v. IsAccepted v ↔ Accepts problem.now «record».now) }
-        ensures minimal { IfOk result (λ v. IsAccepted v → IsMinimal problem.now «record».now) }
+        ensures verdict { IfOk result (λ v. refusal_by v ≡ record_refusal problem.now earlier.now «record».now) }
+        ensures accepts { IfOk result (λ v. IsAccepted v ↔ Accepts problem.now earlier.now «record».now) }
+        ensures minimal { AllAccepted problem.now earlier.now → IfOk result (λ v. IsAccepted v → IsMinimal problem.now «record».now) }
         ensures same { self.new ≡ self.old }
     {
         // This also tells that the problem is well formed, without which nothing would be minimal.
@@ -107,7 +109,15 @@ impl RecordChecker {
                 proofs,
             } => {
                 let outside = set.complement(alloc, groups)?;
-                correction_verdict(&mut self.checker, problem, set, &outside, witness, proofs)
+                correction_verdict(
+                    &mut self.checker,
+                    problem,
+                    earlier,
+                    set,
+                    &outside,
+                    witness,
+                    proofs,
+                )
             },
         }
     }
@@ -123,7 +133,7 @@ fn conflict_verdict(
 ) -> Result<Verdict, AllocError>
     requires begins { Begins (basis_of problem.now) checker.old }
     requires shaped { IsShaped problem.now (record_of.Conflict set.now proof.now witnesses.now) }
-    ensures verdict { IfOk result (λ v. refusal_by v ≡ record_refusal problem.now (record_of.Conflict set.now proof.now witnesses.now)) }
+    ensures verdict { IfOk result (λ v. refusal_by v ≡ record_refusal problem.now [] (record_of.Conflict set.now proof.now witnesses.now)) }
     ensures is_set { IfOk result (λ v. IsAccepted v → IsGroupSet set.now) }
     ensures begins { Begins (basis_of problem.now) checker.new }
 {
@@ -138,6 +148,7 @@ fn conflict_verdict(
 fn correction_verdict(
     checker: &mut Checker,
     problem: &Problem,
+    earlier: &Records,
     set: &GroupSet,
     outside: &GroupSet,
     witness: &Assign,
@@ -146,7 +157,7 @@ fn correction_verdict(
     requires begins { Begins (basis_of problem.now) checker.old }
     requires outside { outside.now ≡ complement problem.now.groups set.now }
     requires shaped { IsShaped problem.now (record_of.Correction set.now witness.now proofs.now) }
-    ensures verdict { IfOk result (λ v. refusal_by v ≡ record_refusal problem.now (record_of.Correction set.now witness.now proofs.now)) }
+    ensures verdict { IfOk result (λ v. refusal_by v ≡ record_refusal problem.now earlier.now (record_of.Correction set.now witness.now proofs.now)) }
     ensures is_set { IfOk result (λ v. IsAccepted v → IsGroupSet set.now) }
     ensures begins { Begins (basis_of problem.now) checker.new }
 {
@@ -154,21 +165,22 @@ fn correction_verdict(
     if !verdict.is_ok() {
         return Ok(verdict);
     }
-    refutations_verdict(checker, problem, set, proofs, 2)
+    refutations_verdict(checker, problem, earlier, set, proofs, 2)
 }
 
-/// Whether the evidence of a record shows what it says, or the first of its lines that is refused. For many records about
-/// one problem make a [`RecordChecker`].
+/// Whether the evidence of a record, with the records before it, shows what it says, or the first of its lines that is
+/// refused. For many records about one problem make a [`RecordChecker`].
 pub fn check_record(
     alloc: Global,
     problem: &Problem,
+    earlier: &Records,
     record: &Record,
 ) -> Result<Verdict, AllocError>
     requires { IsShaped problem.now «record».now }
-    ensures verdict { IfOk result (λ v. refusal_by v ≡ record_refusal problem.now «record».now) }
-    ensures accepts { IfOk result (λ v. IsAccepted v ↔ Accepts problem.now «record».now) }
-    ensures minimal { IfOk result (λ v. IsAccepted v → IsMinimal problem.now «record».now) }
+    ensures verdict { IfOk result (λ v. refusal_by v ≡ record_refusal problem.now earlier.now «record».now) }
+    ensures accepts { IfOk result (λ v. IsAccepted v ↔ Accepts problem.now earlier.now «record».now) }
+    ensures minimal { AllAccepted problem.now earlier.now → IfOk result (λ v. IsAccepted v → IsMinimal problem.now «record».now) }
 {
     let mut checker = RecordChecker::new(alloc, problem)?;
-    checker.check(alloc, problem, record)
+    checker.check(alloc, problem, earlier, record)
 }

@@ -1,12 +1,13 @@
 //! Records of minimal sets, checks of records, and what enumerates them: oracles and map engines.
 //!
 //! A [`Record`] is a set of groups with the evidence that it is a minimal conflict or a minimal correction: refutations,
-//! each a derivation from the clauses with their selectors, and assignments as witnesses. Whoever made it, [`check_record`]
-//! says whether the evidence shows what the record says, or which of its lines is refused first, and why:
+//! each a derivation from the clauses with their selectors, and assignments as witnesses. Records come in lists, where a
+//! correction may name an earlier conflict in place of a derivation. Whoever made it, [`check_record`] says whether the
+//! evidence shows what the record says, or which of its lines is refused first, and why:
 //!
 //! ```text
-//! match check_record(alloc, &problem, &record)? {
-//!     Verdict::Ok => ..,                    // the set is minimal, by the contract
+//! match check_record(alloc, &problem, &earlier, &record)? {
+//!     Verdict::Ok => ..,                    // the set is minimal if those of `earlier` are accepted, by the contract
 //!     Verdict::Refused { part, why } => .., // the record's line `part` is wrong
 //! }
 //! ```
@@ -37,5 +38,5 @@ pub use checking::{RecordChecker, Verdict, check_record};
 pub use engine::{MapEngine, Seed};
 pub use lists::{Proofs, Records, Witnesses};
 pub use oracle::{Asked, Oracle};
-pub use record::Record;
+pub use record::{Record, Refutation};
 pub use refutation::steps_verdict;

@@ -1,13 +1,13 @@
-//! Lists of witnesses, of proofs and of records.
-use crate::record::Record;
-use gm_base::{Assign, Derivation};
+//! Lists of witnesses, of refutations and of records.
+use crate::record::{Record, Refutation};
+use gm_base::Assign;
 use sat_base::Row;
 
 /// Assignments, in order.
 pub type Witnesses = Row<Assign>;
 
-/// Derivations, in order.
-pub type Proofs = Row<Derivation>;
+/// Refutations, in order.
+pub type Proofs = Row<Refutation>;
 
 /// Records, in order.
 pub type Records = Row<Record>;

@@ -1,9 +1,33 @@
 //! Records.
-ghost use Rattle.std.specs.Prelude.{◌≡◌};
-ghost use Rattle.evidence_rec.specs.Records.{kind_of, set_of};
+ghost use Rattle.std.specs.Prelude.{◌≡◌, not};
+ghost use Rattle.std.specs.List.{list_all};
+ghost use Rattle.gm_base.specs.Sets.{has, without};
+ghost use Rattle.evidence_rec.specs.Records.{kind_of, set_of, is_inside};
+ghost use Rattle.evidence_rec.specs.Refusals.{steps_in};
 
 use crate::lists::{Proofs, Witnesses};
 use gm_base::{Assign, Derivation, GroupSet, Kind};
+
+/// Why a group of a correction can't be kept beside all groups outside it.
+#[derive(Drop)]
+pub enum Refutation {
+    /// A derivation of that.
+    Steps(Derivation),
+    /// The number, from 1, of an earlier record: a conflict of groups outside the correction and this one.
+    Earlier(u64),
+}
+
+impl Refutation {
+    /// How many steps it has.
+    pub fn len(&self) -> usize
+        ensures { result ≡ steps_in self.now }
+    {
+        match self {
+            Refutation::Steps(proof) => proof.len(),
+            Refutation::Earlier(_) => 0,
+        }
+    }
+}
 
 /// A set of groups with the evidence for it.
 #[derive(Drop)]
@@ -42,6 +66,16 @@ impl Record {
         }
     }
 
+    /// Whether it is a conflict that has no group of the correction `set` but, maybe, this one.
+    pub fn is_inside(&self, set: &GroupSet, group: u32) -> bool
+        ensures { result ≡ is_inside set.now group self.now }
+    {
+        match self {
+            Record::Conflict { set: groups, .. } => are_others_outside(groups, set, group),
+            Record::Correction { .. } => false,
+        }
+    }
+
     /// Its set, without the evidence.
     pub fn into_set(self) -> GroupSet
         ensures { result ≡ set_of self }
@@ -59,4 +93,23 @@ impl Record {
             } => set,
         }
     }
+}
+
+// Whether the correction has none of the groups but, maybe, this one.
+fn are_others_outside(groups: &GroupSet, set: &GroupSet, group: u32) -> bool
+    ensures { result ≡ list_all (λ h. not (has (without set.now group) h)) groups.now }
+{
+    for other in groups.as_slice() {
+        if is_another(set, group, *other) {
+            return false;
+        }
+    }
+    true
+}
+
+// Whether it is a group of the set, and not this one.
+fn is_another(set: &GroupSet, group: u32, other: u32) -> bool
+    ensures { result ≡ has (without set.now group) other }
+{
+    other != group && set.contains(other)
 }

@@ -1,24 +1,28 @@
 -- What is accepted can be written: each number of it is one that a text can hold.
-use Rattle.std.proofs.Common.{◌≡◌, ℕ, ◌+◌, ◌<◌, ◌≤◌, Bool, true, false, ◌&&◌, cond, eqb, List, [], ◌∷◌, ◌++◌, map, length, Option, Some, None, refl, sym, ◌∙◌, ap, inl, inr, arith}
-use Rattle.std.specs.Prelude.{ℤ, neg_ℤ, nat_lt, All, IfSome}
+use Rattle.std.proofs.Common.{◌≡◌, ℕ, zero, suc, ◌+◌, ◌<◌, ◌≤◌, Bool, true, false, ◌&&◌, cond, eqb, List, [], ◌∷◌, ◌++◌, map, length, Option, Some, None, refl, sym, ◌∙◌, ap, inl, inr, arith, length-append}
+use Rattle.std.specs.Prelude.{ℤ, neg_ℤ, nat_lt, All, IfSome, slice_get}
 use Rattle.std.specs.List.{AllByRecursion, find, list_all, list_any}
 use Rattle.std.specs.Option.{option_map_or}
 use Rattle.std.specs.Ordering.{int_eq}
 use Rattle.std.proofs.lemmas.Bool.{false≢true, cases_Bool, and_parts, eqb-true, eq-eqb, ltb-true, or_left, or_right}
 use Rattle.std.proofs.lemmas.List.Elements.{All-head, All-tail}
+use Rattle.std.proofs.lemmas.Option.{slice_get_within}
 use Rattle.sat_base.specs.Derivation.{Step, Derivation, max_id, HasIds, numbered, clause_of, open_lits, only_lit, is_nil, is_step_clause, follows, steps_follow, is_derivation, all_known, derives_within}
 use Rattle.gm_base.specs.Sets.{IsSubset, has, without, complement, all_groups}
 use Rattle.gm_base.specs.Problem.{Problem, satisfies}
 use Rattle.gm_base.specs.Explored.{Found, block_clause}
-use Rattle.gm_base.specs.Evidence.{left_out, selector_form, refutes, is_witness, each_passes}
+use Rattle.gm_base.specs.Evidence.{left_out, selector_form, is_witness, each_passes}
 use Rattle.gm_base.proofs.SetLemmas.{all_groups-has}
 use Rattle.lrat_check.proofs.ClauseLemmas.{clause_over}
 use Rattle.evidence_rec.specs.declared.record.Record.{Record}
 use Rattle.evidence_rec.specs.declared.record.Record.TheVariants as record_of
-use Rattle.evidence_rec.specs.Records.{founds, IsAccepted}
+use Rattle.evidence_rec.specs.declared.record.Refutation.{Refutation}
+use Rattle.evidence_rec.specs.declared.record.Refutation.TheVariants.{Steps, Earlier}
+use Rattle.evidence_rec.specs.Records.{founds, numbered_record, is_inside, shows_refuted, IsAccepted, AllAcceptedBehind, AllAccepted}
 use Rattle.evidence_rec.specs.Seeding.{shows_all_explored}
+use Rattle.evidence_text.specs.declared.version.Version.TheVariants.{Two}
 use Rattle.evidence_text.specs.Text.{evidence_text}
-use Rattle.evidence_text.specs.Readable.{IsSmall, IsId, IsReadableStep, IsReadableProof, IsReadable, IsReadableEnd, HasRecordIds}
+use Rattle.evidence_text.specs.Readable.{IsSmall, IsId, IsReadableStep, IsReadableProof, IsReadableRefutation, IsReadable, IsReadableEnd, HasRefutationIds, HasRecordIds}
 use Rattle.evidence_text.specs.Laws.{IsRead}
 use Rattle.evidence_text.proofs.WholeLemmas.{text-is_read}
 
@@ -155,33 +159,43 @@ witnesses-readable p set (g ∷ gs) (w ∷ ws) all =
     let parts = and_parts (is_witness p (without set g) w) (each_passes (λ g w. is_witness p (without set g) w) gs ws) all in
     let (count, each) = witnesses-readable p set gs ws parts.1 in (omega (arith, count), (witness-length p (without set g) w parts.0, each))
 
-refutations-readable : (p : Problem) (set gs : List ℕ) (ds : List Derivation) → AllByRecursion HasIds ds
-    → each_passes (λ g d. refutes p (complement p.groups (without set g)) d) gs ds ≡ true
-    → (length ds ≡ length gs) × AllByRecursion (IsReadableProof (p.vars + p.groups)) ds
-refutations-readable p set [] [] ids all = (refl, tt)
-refutations-readable p set [] (d ∷ ds) ids all = absurd (false≢true all)
-refutations-readable p set (g ∷ gs) [] ids all = absurd (false≢true all)
-refutations-readable p set (g ∷ gs) (d ∷ ds) ids all =
-    let with_g : List ℕ = complement p.groups (without set g) in
-    let parts = and_parts (refutes p with_g d) (each_passes (λ g d. refutes p (complement p.groups (without set g)) d) gs ds) all in
-    let (count, each) = refutations-readable p set gs ds ids.1 parts.1 in (
-      omega (arith, count),
-      (
-        derivation-readable (p.vars + p.groups) (selector_form p) d (λ l. list_any (λ g. int_eq (left_out p g) l) with_g) parts.0 ids.0,
-        each,
-      ),
-    )
+-- the number of an earlier record that passes
+reference-readable : (earlier : List Record) (i : ℕ) (passes : Record → Bool) → length earlier ≤ max_id
+    → option_map_or passes (numbered_record earlier i) false ≡ true → IsId i
+reference-readable earlier zero passes few h = absurd (false≢true h)
+reference-readable earlier (suc i) passes few h = by (slice_get earlier i) refl h
+  where
+    by : (o : Option Record) → slice_get earlier i ≡ o → option_map_or passes o false ≡ true → IsId (suc i)
+    by None e t = absurd (false≢true t)
+    by (Some r) e t = let lt = slice_get_within earlier i r e in record { from_one = omega arith; in_range = omega arith }
 
-pub accepted-readable : (p : Problem) (r : Record) → IsAccepted p r → HasRecordIds r → IsReadable p r
-accepted-readable p (record_of.Conflict set d ws) h ids =
+refutation-readable : (p : Problem) (earlier : List Record) (set : List ℕ) (g : ℕ) (r : Refutation) → length earlier ≤ max_id → HasRefutationIds r
+    → shows_refuted p earlier set g r ≡ true → IsReadableRefutation Two (p.vars + p.groups) r
+refutation-readable p earlier set g (Steps d) few ids shows =
+    derivation-readable (p.vars + p.groups) (selector_form p) d (λ l. list_any (λ h. int_eq (left_out p h) l) (complement p.groups (without set g))) shows ids
+refutation-readable p earlier set g (Earlier i) few ids shows = reference-readable earlier i (is_inside set g) few shows
+
+refutations-readable : (p : Problem) (earlier : List Record) (set gs : List ℕ) (rs : List Refutation) → length earlier ≤ max_id
+    → AllByRecursion HasRefutationIds rs → each_passes (shows_refuted p earlier set) gs rs ≡ true
+    → (length rs ≡ length gs) × AllByRecursion (IsReadableRefutation Two (p.vars + p.groups)) rs
+refutations-readable p earlier set [] [] few ids all = (refl, tt)
+refutations-readable p earlier set [] (r ∷ rs) few ids all = absurd (false≢true all)
+refutations-readable p earlier set (g ∷ gs) [] few ids all = absurd (false≢true all)
+refutations-readable p earlier set (g ∷ gs) (r ∷ rs) few ids all =
+    let parts = and_parts (shows_refuted p earlier set g r) (each_passes (shows_refuted p earlier set) gs rs) all in
+    let (count, each) = refutations-readable p earlier set gs rs few ids.1 parts.1 in
+    (omega (arith, count), (refutation-readable p earlier set g r few ids.0 parts.0, each))
+
+pub accepted-readable : (p : Problem) (earlier : List Record) (r : Record) → length earlier ≤ max_id → IsAccepted p earlier r → HasRecordIds r → IsReadable Two p r
+accepted-readable p earlier (record_of.Conflict set d ws) few h ids =
     let (count, each) = witnesses-readable p set set ws h.accepts.witnessed in (
       record { ascends = h.accepts.is_set; in_range = set-up_to p.groups set h.within },
       derivation-readable (p.vars + p.groups) (selector_form p) d (λ l. list_any (λ g. int_eq (left_out p g) l) set) h.accepts.refuted ids,
       count,
       each,
     )
-accepted-readable p (record_of.Correction set w ds) h ids =
-    let (count, each) = refutations-readable p set set ds ids h.accepts.refuted in (
+accepted-readable p earlier (record_of.Correction set w rs) few h ids =
+    let (count, each) = refutations-readable p earlier set set rs few ids h.accepts.refuted in (
       record { ascends = h.accepts.is_set; in_range = set-up_to p.groups set h.within },
       witness-length p (complement p.groups set) w h.accepts.witnessed,
       count,
@@ -193,17 +207,25 @@ closing-readable p found d shows ids = derivation-readable p.groups (map block_c
 
 -- ---- texts of what is accepted
 
-records-readable : (p : Problem) (rs : List Record) → AllByRecursion (λ (r : Record). IsAccepted p r × HasRecordIds r) rs → AllByRecursion (IsReadable p) rs
-records-readable p [] all = tt
-records-readable p (r ∷ rs) all = (accepted-readable p r all.0.0 all.0.1, records-readable p rs all.1)
+records-behind : (p : Problem) (earlier rs : List Record) → length earlier + length rs ≤ max_id → AllAcceptedBehind p earlier rs
+    → AllByRecursion HasRecordIds rs → AllByRecursion (IsReadable Two p) rs
+records-behind p earlier [] few all ids = tt
+records-behind p earlier (r ∷ rs) few all ids = (
+  accepted-readable p earlier r (omega arith) all.0 ids.0,
+  records-behind p (earlier ++ r ∷ []) rs (omega (arith, length-append earlier (r ∷ []))) all.1 ids.1,
+)
+
+pub records-readable : (p : Problem) (rs : List Record) → length rs ≤ max_id → AllAccepted p rs → AllByRecursion HasRecordIds rs → AllByRecursion (IsReadable Two p) rs
+records-readable p rs few all ids = records-behind p [] rs (omega (arith, few)) all ids
 
 end-readable : (p : Problem) (rs : List Record) (closing : Option Derivation)
     → IfSome closing (λ d. (shows_all_explored p.groups (founds rs) d ≡ true) × HasIds d) → IsReadableEnd p closing
 end-readable p rs None h = tt
 end-readable p rs (Some d) h = closing-readable p (founds rs) d h.0 h.1
 
-pub accepted-read : (p : Problem) (rs : List Record) (closing : Option Derivation) → IsSmall p
-    → AllByRecursion (λ (r : Record). IsAccepted p r × HasRecordIds r) rs
-    → IfSome closing (λ d. (shows_all_explored p.groups (founds rs) d ≡ true) × HasIds d) → IsRead p (evidence_text p rs closing) rs closing
-accepted-read p rs closing small all closes =
-    text-is_read p rs closing (record { small = small; records = records-readable p rs all; closing = end-readable p rs closing closes })
+pub accepted-read : (p : Problem) (rs : List Record) (closing : Option Derivation) → IsSmall p → length rs ≤ max_id → AllAccepted p rs
+    → AllByRecursion HasRecordIds rs → IfSome closing (λ d. (shows_all_explored p.groups (founds rs) d ≡ true) × HasIds d)
+    → IsRead Two p (evidence_text Two p rs closing) rs closing
+accepted-read p rs closing small few all ids closes =
+    text-is_read Two p rs closing
+    (record { small = small; records = records-readable p rs few all ids; closing = end-readable p rs closing closes })

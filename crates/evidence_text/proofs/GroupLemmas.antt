@@ -2,12 +2,12 @@
 use Rattle.std.proofs.Common.{◌≡◌, ℕ, ◌+◌, ◌<◌, Bool, List, [], ◌∷◌, ◌++◌, length, drop, get_or, Result, Ok, Err, refl, sym, subst, ◌∙◌, ap, append_assoc, add-one, drop-cons}
 use Rattle.std.proofs.lemmas.List.{append-nil}
 use Rattle.std.proofs.Math.Seq.{drop-length}
-use Rattle.sat_base.specs.Derivation.{Derivation}
-use Rattle.evidence_text.specs.declared.goal.Goal.TheVariants.{Refutes}
+use Rattle.evidence_rec.specs.declared.record.Refutation.{Refutation}
 use Rattle.evidence_text.specs.declared.offence.Offence.{Offence}
 use Rattle.evidence_text.specs.declared.offence.Stop.{Stop}
 use Rattle.evidence_text.specs.declared.offence.Stop.TheVariants as stop
-use Rattle.evidence_text.specs.Reading.{◌>>=◌, Below, proof_at, witness_line_at, witnesses_at, refutations_at}
+use Rattle.evidence_text.specs.declared.version.Version.{Version}
+use Rattle.evidence_text.specs.Reading.{◌>>=◌, Below, witness_line_at, witnesses_at, refutation_at, refutations_at}
 use Rattle.std.proofs.lemmas.Bool.{false≢true}
 use Rattle.std.specs.Result.{IsErr, IsErrAnd}
 use Rattle.evidence_text.specs.Cursors.{Stops, Gives}
@@ -53,33 +53,33 @@ witnesses-end vars groups i front left total all so_far =
     ∙ ap (λ gs. after_front front (witnesses_at vars gs left.at left.lines)) (ap (λ n. drop n groups) all ∙ drop-length groups)
     ∙ ap (λ xs. Ok (xs, left)) (append-nil front)
 
-pub refutations-goes : (vars : ℕ) (groups : List ℕ) (i : ℕ) (front : List Derivation) (d : Derivation) (old new : Below) (total : Result (List Derivation × Below) Offence)
-    → i < length groups → proof_at vars (Refutes (get_or groups i 0)) old.at old.lines ≡ Ok (d, new)
-    → after_front front (refutations_at vars (drop i groups) old.at old.lines) ≡ total
-    → after_front (front ++ d ∷ []) (refutations_at vars (drop (i + 1) groups) new.at new.lines) ≡ total
+pub refutations-goes : (version : Version) (vars : ℕ) (groups : List ℕ) (i : ℕ) (front : List Refutation) (r : Refutation) (old new : Below) (total : Result (List Refutation × Below) Offence)
+    → i < length groups → refutation_at version vars (get_or groups i 0) old.at old.lines ≡ Ok (r, new)
+    → after_front front (refutations_at version vars (drop i groups) old.at old.lines) ≡ total
+    → after_front (front ++ r ∷ []) (refutations_at version vars (drop (i + 1) groups) new.at new.lines) ≡ total
 unfolding refutations_at
-refutations-goes vars groups i front d old new total h read so_far =
-    sym (after_front-one front d (refutations_at vars (drop (i + 1) groups) new.at new.lines))
-    ∙ sym (ap (λ gs. after_front front (refutations_at vars gs old.at old.lines)) (drop-at groups i h)
-    ∙ ap (λ r. after_front front (r >>= λ d. refutations_at vars (drop (i + 1) groups) d.1.at d.1.lines >>= λ ds. Ok (d.0 ∷ ds.0, ds.1))) read)
+refutations-goes version vars groups i front r old new total h read so_far =
+    sym (after_front-one front r (refutations_at version vars (drop (i + 1) groups) new.at new.lines))
+    ∙ sym (ap (λ gs. after_front front (refutations_at version vars gs old.at old.lines)) (drop-at groups i h)
+    ∙ ap (λ q. after_front front (q >>= λ r. refutations_at version vars (drop (i + 1) groups) r.1.at r.1.lines >>= λ rs. Ok (r.0 ∷ rs.0, rs.1))) read)
     ∙ so_far
 
-pub refutations-stop : (vars : ℕ) (groups : List ℕ) (i : ℕ) (front : List Derivation) (s : Stop) (old : Below) (total : Result (List Derivation × Below) Offence)
-    → i < length groups → Stops s (proof_at vars (Refutes (get_or groups i 0)) old.at old.lines)
-    → after_front front (refutations_at vars (drop i groups) old.at old.lines) ≡ total → Stops s total
+pub refutations-stop : (version : Version) (vars : ℕ) (groups : List ℕ) (i : ℕ) (front : List Refutation) (s : Stop) (old : Below) (total : Result (List Refutation × Below) Offence)
+    → i < length groups → Stops s (refutation_at version vars (get_or groups i 0) old.at old.lines)
+    → after_front front (refutations_at version vars (drop i groups) old.at old.lines) ≡ total → Stops s total
 unfolding refutations_at
-refutations-stop vars groups i front (stop.Refused o) old total h e so_far =
+refutations-stop version vars groups i front (stop.Refused o) old total h e so_far =
     sym so_far
-    ∙ ap (λ gs. after_front front (refutations_at vars gs old.at old.lines)) (drop-at groups i h)
-    ∙ ap (λ r. after_front front (r >>= λ d. refutations_at vars (drop (i + 1) groups) d.1.at d.1.lines >>= λ ds. Ok (d.0 ∷ ds.0, ds.1))) e
-refutations-stop vars groups i front stop.Memory old total h e so_far = tt
+    ∙ ap (λ gs. after_front front (refutations_at version vars gs old.at old.lines)) (drop-at groups i h)
+    ∙ ap (λ q. after_front front (q >>= λ r. refutations_at version vars (drop (i + 1) groups) r.1.at r.1.lines >>= λ rs. Ok (r.0 ∷ rs.0, rs.1))) e
+refutations-stop version vars groups i front stop.Memory old total h e so_far = tt
 
-pub refutations-end : (vars : ℕ) (groups : List ℕ) (i : ℕ) (front : List Derivation) (left : Below) (total : Result (List Derivation × Below) Offence)
-    → i ≡ length groups → after_front front (refutations_at vars (drop i groups) left.at left.lines) ≡ total → total ≡ Ok (front, left)
+pub refutations-end : (version : Version) (vars : ℕ) (groups : List ℕ) (i : ℕ) (front : List Refutation) (left : Below) (total : Result (List Refutation × Below) Offence)
+    → i ≡ length groups → after_front front (refutations_at version vars (drop i groups) left.at left.lines) ≡ total → total ≡ Ok (front, left)
 unfolding refutations_at
-refutations-end vars groups i front left total all so_far =
+refutations-end version vars groups i front left total all so_far =
     sym so_far
-    ∙ ap (λ gs. after_front front (refutations_at vars gs left.at left.lines)) (ap (λ n. drop n groups) all ∙ drop-length groups)
+    ∙ ap (λ gs. after_front front (refutations_at version vars gs left.at left.lines)) (ap (λ n. drop n groups) all ∙ drop-length groups)
     ∙ ap (λ xs. Ok (xs, left)) (append-nil front)
 
 -- a stop that is handed on tells the same

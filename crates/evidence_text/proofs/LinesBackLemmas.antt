@@ -4,7 +4,6 @@ use Rattle.std.specs.Prelude.{codes, cond, Result, Ok, Err}
 use Rattle.std.specs.List.{AllByRecursion}
 use Rattle.std.specs.Fmt.{decimal}
 use Rattle.std.proofs.lemmas.Bool.{eq-eqb, and_from}
-use Rattle.std.proofs.lemmas.Fmt.{decimal_digit}
 use Rattle.sat_base.specs.Derivation.{Step, Derivation}
 use Rattle.gm_base.specs.Problem.{Problem}
 use Rattle.lrat_check.specs.declared.why.Why.{Why}
@@ -12,12 +11,16 @@ use Rattle.lrat_check.specs.declared.why.Why.TheVariants.{OtherProblem}
 use Rattle.lrat_check.specs.declared.why.Counts.{Counts}
 use Rattle.evidence_rec.specs.declared.record.Record.{Record}
 use Rattle.evidence_rec.specs.declared.record.Record.TheVariants as record_of
+use Rattle.evidence_rec.specs.declared.record.Refutation.{Refutation}
+use Rattle.evidence_rec.specs.declared.record.Refutation.TheVariants.{Steps, Earlier}
 use Rattle.evidence_text.specs.declared.goal.Goal.{Goal}
 use Rattle.evidence_text.specs.declared.goal.Goal.TheVariants.{Refutes, Exhausts}
 use Rattle.evidence_text.specs.declared.answer.Answer.TheVariants as answer
-use Rattle.evidence_text.specs.Text.{Word, Line, head_line, step_line, witness_line, exhaustion_line, end_line, refutation_lines, refutations_lines, witnesses_lines, record_lines, end_lines}
-use Rattle.evidence_text.specs.Reading.{◌>>=◌, below, at_line, behind, with_step, line_end, counts_at, counts_of, same_counts, head_words_at, head_at, proof_at, number_at, witness_line_at, witnesses_at, refutations_at, conflict_at, correction_at, complete_at, closing_at, nothing_behind, piece_at}
-use Rattle.evidence_text.specs.Readable.{IsId, IsReadableStep, IsReadableProof, IsReadable, IsReadableEnd, IsSmall}
+use Rattle.evidence_text.specs.declared.version.Version.{Version}
+use Rattle.evidence_text.specs.declared.version.Version.TheVariants.{One, Two}
+use Rattle.evidence_text.specs.Text.{Word, Line, version_number, head_line, step_line, witness_line, exhaustion_line, end_line, derivation_lines, refutation_lines, refutations_lines, witnesses_lines, record_lines, end_lines}
+use Rattle.evidence_text.specs.Reading.{◌>>=◌, below, at_line, behind, version_of, with_step, line_end, counts_at, counts_of, same_counts, head_words_at, head_at, proof_at, number_at, witness_line_at, witnesses_at, steps_at, refutation_at, refutations_at, conflict_at, correction_at, complete_at, closing_at, nothing_behind, piece_at}
+use Rattle.evidence_text.specs.Readable.{IsId, IsReadableStep, IsReadableProof, IsReadableRefutation, IsReadable, IsReadableEnd, IsSmall}
 use Rattle.evidence_text.proofs.WordsLemmas.{IsSmallGoal}
 use Rattle.evidence_text.proofs.StandsLemmas.{goal_text, few_groups}
 use Rattle.evidence_text.proofs.WordsBackLemmas.{bind-back, number-back, word-back, set-back, step-back, goal-back, witness-back, last_word-back}
@@ -67,34 +70,55 @@ witnesses-back vars (g ∷ gs) at (w ∷ ws) ls small few count each =
     (bind-back _ _ (ws, below (at + 1 + length rest) ls) _ (witnesses-back vars gs (at + 1) ws ls small few.1 (omega (arith, count)) each.1)
     (ap (λ (n : ℕ). Ok (w ∷ ws, below n ls)) next))
 
-pub refutations-back : (vars : ℕ) (gs : List ℕ) (at : ℕ) (ds : List Derivation) (ls : List Line) → vars < 2 ^ 64
-    → AllByRecursion (λ g. g < 2 ^ 64) gs → length ds ≡ length gs → AllByRecursion (IsReadableProof vars) ds
-    → refutations_at vars gs at (refutations_lines gs ds ++ ls) ≡ Ok (ds, below (at + length (refutations_lines gs ds)) ls)
+-- steps are no number of an earlier record
+steps-first : (vars g at : ℕ) (steps : List Step) (id : ℕ) (ls : List Line)
+    → refutation_at Two vars g at (proof_lines (Refutes g) steps id ++ ls) ≡ steps_at vars g at (proof_lines (Refutes g) steps id ++ ls)
+unfolding refutation_at
+steps-first vars g at [] id ls = refl
+steps-first vars g at (s ∷ ss) id ls = refl
+
+steps-back : (vars g at : ℕ) (d : Derivation) (ls : List Line) → vars < 2 ^ 64 → g < 2 ^ 64 → IsReadableProof vars d
+    → steps_at vars g at (derivation_lines g d ++ ls) ≡ Ok (Steps d, below (at + length (derivation_lines g d)) ls)
+steps-back vars g at d ls small few ok =
+    bind-back _ _ (d, below (at + length (derivation_lines g d)) ls) _ (proof-back vars (Refutes g) at d.steps d.goal ls small few ok.steps ok.goal) refl
+
+refutation-back : (version : Version) (vars g at : ℕ) (r : Refutation) (ls : List Line) → vars < 2 ^ 64 → g < 2 ^ 64 → IsReadableRefutation version vars r
+    → refutation_at version vars g at (refutation_lines g r ++ ls) ≡ Ok (r, below (at + length (refutation_lines g r)) ls)
+unfolding refutation_at
+refutation-back One vars g at (Steps d) ls small few ok = steps-back vars g at d ls small few ok
+refutation-back One vars g at (Earlier i) ls small few ok = absurd ok
+refutation-back Two vars g at (Steps d) ls small few ok = steps-first vars g at d.steps d.goal ls ∙ steps-back vars g at d ls small few ok
+refutation-back Two vars g at (Earlier i) ls small few ok =
+    bind-back _ _ i _ (ap (λ r. at_line at r) (goal-back (Refutes g) i few ok)) refl
+
+pub refutations-back : (version : Version) (vars : ℕ) (gs : List ℕ) (at : ℕ) (rs : List Refutation) (ls : List Line) → vars < 2 ^ 64
+    → AllByRecursion (λ g. g < 2 ^ 64) gs → length rs ≡ length gs → AllByRecursion (IsReadableRefutation version vars) rs
+    → refutations_at version vars gs at (refutations_lines gs rs ++ ls) ≡ Ok (rs, below (at + length (refutations_lines gs rs)) ls)
 unfolding refutations_at
-refutations-back vars [] at [] ls small few count each =
+refutations-back version vars [] at [] ls small few count each =
     let next : at ≡ at + length (refutations_lines [] []) = omega arith in ap (λ (n : ℕ). Ok ([], below n ls)) next
-refutations-back vars [] at (d ∷ ds) ls small few count each = absurd (omega arith)
-refutations-back vars (g ∷ gs) at [] ls small few count each = absurd (omega arith)
-refutations-back vars (g ∷ gs) at (d ∷ ds) ls small few count each =
-    let first : List Line = refutation_lines g d in
-    let rest : List Line = refutations_lines gs ds in
+refutations-back version vars [] at (r ∷ rs) ls small few count each = absurd (omega arith)
+refutations-back version vars (g ∷ gs) at [] ls small few count each = absurd (omega arith)
+refutations-back version vars (g ∷ gs) at (r ∷ rs) ls small few count each =
+    let first : List Line = refutation_lines g r in
+    let rest : List Line = refutations_lines gs rs in
     let next : at + length first + length rest ≡ at + length (first ++ rest) = omega (arith, length-append first rest) in
-    ap (λ (ks : List Line). refutations_at vars (g ∷ gs) at ks) (append_assoc first rest ls)
-    ∙ bind-back _ _ (d, below (at + length first) (rest ++ ls)) _
-    (proof-back vars (Refutes g) at d.steps d.goal (rest ++ ls) small few.0 (each.0).steps (each.0).goal)
-    (bind-back _ _ (ds, below (at + length first + length rest) ls) _
-    (refutations-back vars gs (at + length first) ds ls small few.1 (omega (arith, count)) each.1)
-    (ap (λ (n : ℕ). Ok (d ∷ ds, below n ls)) next))
+    ap (λ (ks : List Line). refutations_at version vars (g ∷ gs) at ks) (append_assoc first rest ls)
+    ∙ bind-back _ _ (r, below (at + length first) (rest ++ ls)) _
+    (refutation-back version vars g at r (rest ++ ls) small few.0 each.0)
+    (bind-back _ _ (rs, below (at + length first + length rest) ls) _
+    (refutations-back version vars gs (at + length first) rs ls small few.1 (omega (arith, count)) each.1)
+    (ap (λ (n : ℕ). Ok (r ∷ rs, below n ls)) next))
 
 -- ---- records
 
-conflict-back : (p : Problem) (set : List ℕ) (d : Derivation) (ws : List (List Bool)) (at : ℕ) (ls : List Line) → p.vars + p.groups < 2 ^ 64
-    → IsReadable p (record_of.Conflict set d ws)
-    → conflict_at p set at ((refutation_lines 0 d ++ witnesses_lines set ws) ++ ls)
-    ≡ Ok (record_of.Conflict set d ws, below (at + length (refutation_lines 0 d ++ witnesses_lines set ws)) ls)
+conflict-back : (version : Version) (p : Problem) (set : List ℕ) (d : Derivation) (ws : List (List Bool)) (at : ℕ) (ls : List Line) → p.vars + p.groups < 2 ^ 64
+    → IsReadable version p (record_of.Conflict set d ws)
+    → conflict_at p set at ((derivation_lines 0 d ++ witnesses_lines set ws) ++ ls)
+    ≡ Ok (record_of.Conflict set d ws, below (at + length (derivation_lines 0 d ++ witnesses_lines set ws)) ls)
 unfolding conflict_at
-conflict-back p set d ws at ls small (ok, good, count, each) =
-    let first : List Line = refutation_lines 0 d in
+conflict-back version p set d ws at ls small (ok, good, count, each) =
+    let first : List Line = derivation_lines 0 d in
     let rest : List Line = witnesses_lines set ws in
     let next : at + length first + length rest ≡ at + length (first ++ rest) = omega (arith, length-append first rest) in
     ap (λ (ks : List Line). conflict_at p set at ks) (append_assoc first rest ls)
@@ -104,35 +128,35 @@ conflict-back p set d ws at ls small (ok, good, count, each) =
     (witnesses-back p.vars set (at + length first) ws ls (omega arith) (few_groups p set small ok) count each)
     (ap (λ (n : ℕ). Ok (record_of.Conflict set d ws, below n ls)) next))
 
-correction-back : (p : Problem) (set : List ℕ) (w : List Bool) (ds : List Derivation) (at : ℕ) (ls : List Line) → p.vars + p.groups < 2 ^ 64
-    → IsReadable p (record_of.Correction set w ds)
-    → correction_at p set at (witness_line 0 w ∷ (refutations_lines set ds ++ ls))
-    ≡ Ok (record_of.Correction set w ds, below (at + length (witness_line 0 w ∷ refutations_lines set ds)) ls)
+correction-back : (version : Version) (p : Problem) (set : List ℕ) (w : List Bool) (rs : List Refutation) (at : ℕ) (ls : List Line) → p.vars + p.groups < 2 ^ 64
+    → IsReadable version p (record_of.Correction set w rs)
+    → correction_at version p set at (witness_line 0 w ∷ (refutations_lines set rs ++ ls))
+    ≡ Ok (record_of.Correction set w rs, below (at + length (witness_line 0 w ∷ refutations_lines set rs)) ls)
 unfolding correction_at
-correction-back p set w ds at ls small (ok, len, count, each) =
-    let rest : List Line = refutations_lines set ds in
+correction-back version p set w rs at ls small (ok, len, count, each) =
+    let rest : List Line = refutations_lines set rs in
     let next : at + 1 + length rest ≡ at + length (witness_line 0 w ∷ rest) = omega arith in
     bind-back _ _ (w, below (at + 1) (rest ++ ls)) _ (witness_line-back p.vars 0 at w (rest ++ ls) (omega arith) (omega arith) len)
-    (bind-back _ _ (ds, below (at + 1 + length rest) ls) _
-    (refutations-back (p.vars + p.groups) set (at + 1) ds ls small (few_groups p set small ok) count each)
-    (ap (λ (n : ℕ). Ok (record_of.Correction set w ds, below n ls)) next))
+    (bind-back _ _ (rs, below (at + 1 + length rest) ls) _
+    (refutations-back version (p.vars + p.groups) set (at + 1) rs ls small (few_groups p set small ok) count each)
+    (ap (λ (n : ℕ). Ok (record_of.Correction set w rs, below n ls)) next))
 
-pub record-back : (p : Problem) (r : Record) (rest : List ℕ) (at : ℕ) (ls : List Line) → p.vars + p.groups < 2 ^ 64 → IsReadable p r
-    → piece_at p rest at (record_lines r ++ ls) ≡ Ok (answer.Record r, below (at + length (record_lines r)) ls)
+pub record-back : (version : Version) (p : Problem) (r : Record) (rest : List ℕ) (at : ℕ) (ls : List Line) → p.vars + p.groups < 2 ^ 64 → IsReadable version p r
+    → piece_at version p rest at (record_lines r ++ ls) ≡ Ok (answer.Record r, below (at + length (record_lines r)) ls)
 unfolding piece_at
-record-back p (record_of.Conflict set d ws) rest at ls small ok =
-    let tail : List Line = refutation_lines 0 d ++ witnesses_lines set ws in
+record-back version p (record_of.Conflict set d ws) rest at ls small ok =
+    let tail : List Line = derivation_lines 0 d ++ witnesses_lines set ws in
     let r : Record = record_of.Conflict set d ws in
     let next : at + 1 + length tail ≡ at + length (record_lines r) = omega arith in
     bind-back _ _ set _ (ap (λ x. at_line at x) (set-back p.groups set (omega arith) ok.0))
-    (bind-back _ _ (r, below (at + 1 + length tail) ls) _ (conflict-back p set d ws (at + 1) ls small ok)
+    (bind-back _ _ (r, below (at + 1 + length tail) ls) _ (conflict-back version p set d ws (at + 1) ls small ok)
     (ap (λ (n : ℕ). Ok (answer.Record r, below n ls)) next))
-record-back p (record_of.Correction set w ds) rest at ls small ok =
-    let tail : List Line = witness_line 0 w ∷ refutations_lines set ds in
-    let r : Record = record_of.Correction set w ds in
+record-back version p (record_of.Correction set w rs) rest at ls small ok =
+    let tail : List Line = witness_line 0 w ∷ refutations_lines set rs in
+    let r : Record = record_of.Correction set w rs in
     let next : at + 1 + length tail ≡ at + length (record_lines r) = omega arith in
     bind-back _ _ set _ (ap (λ x. at_line at x) (set-back p.groups set (omega arith) ok.0))
-    (bind-back _ _ (r, below (at + 1 + length tail) ls) _ (correction-back p set w ds (at + 1) ls small ok)
+    (bind-back _ _ (r, below (at + 1 + length tail) ls) _ (correction-back version p set w rs (at + 1) ls small ok)
     (ap (λ (n : ℕ). Ok (answer.Record r, below n ls)) next))
 
 -- ---- the end
@@ -155,58 +179,64 @@ closing-back p d at small ok =
     (ap (λ (n : ℕ). Ok (d, below n [])) next))
 
 -- no record begins like a closing part
-closing-first : (p : Problem) (steps : List Step) (id at : ℕ) (ls : List Line)
-    → piece_at p [] at (map step_line steps ++ exhaustion_line id ∷ ls)
+closing-first : (version : Version) (p : Problem) (steps : List Step) (id at : ℕ) (ls : List Line)
+    → piece_at version p [] at (map step_line steps ++ exhaustion_line id ∷ ls)
     ≡ (closing_at p at (map step_line steps ++ exhaustion_line id ∷ ls) >>= λ d. nothing_behind [] (Some d.0) d.1)
 unfolding piece_at
-closing-first p [] id at ls = refl
-closing-first p (s ∷ ss) id at ls = refl
+closing-first version p [] id at ls = refl
+closing-first version p (s ∷ ss) id at ls = refl
 
-pub end-back : (p : Problem) (closing : Option Derivation) (at : ℕ) → p.vars + p.groups < 2 ^ 64 → IsReadableEnd p closing
-    → piece_at p [] at (end_lines closing) ≡ Ok (answer.End closing, below (at + length (end_lines closing)) [])
+pub end-back : (version : Version) (p : Problem) (closing : Option Derivation) (at : ℕ) → p.vars + p.groups < 2 ^ 64 → IsReadableEnd p closing
+    → piece_at version p [] at (end_lines closing) ≡ Ok (answer.End closing, below (at + length (end_lines closing)) [])
 unfolding piece_at
-end-back p None at small ok =
+end-back version p None at small ok =
     bind-back _ _ tt _ (ap (λ r. at_line at r) (last_word-back (codes "partial"))) refl
-end-back p (Some d) at small ok =
-    closing-first p d.steps d.goal at (end_line (codes "complete") ∷ [])
+end-back version p (Some d) at small ok =
+    closing-first version p d.steps d.goal at (end_line (codes "complete") ∷ [])
     ∙ bind-back _ _ (d, below (at + length (end_lines (Some d))) []) _ (closing-back p d at small ok) refl
 
 -- ---- the head
 
-version-back : (rest : List Word) → number_at 1 1 (codes "1" ∷ rest) ≡ Ok (1, rest)
-version-back rest =
-    ap (λ (w : Word). number_at 1 1 (w ∷ rest)) (sym (decimal_digit 1 (omega arith)))
-    ∙ number-back 1 1 1 rest (omega arith) (omega arith) (omega arith)
+version-back : (version : Version) (rest : List Word) → number_at 1 2 (decimal (version_number version) ∷ rest) ≡ Ok (version_number version, rest)
+version-back One rest = number-back 1 2 1 rest (omega arith) (omega arith) (omega arith)
+version-back Two rest = number-back 1 2 2 rest (omega arith) (omega arith) (omega arith)
+
+version_of-number : (version : Version) → version_of (version_number version) ≡ version
+version_of-number One = refl
+version_of-number Two = refl
 
 count-back : (n : ℕ) (rest : List Word) → n < 2 ^ 64 → number_at 0 (2 ^ 64 - 1) (decimal n ∷ rest) ≡ Ok (n, rest)
 count-back n rest small = number-back 0 (2 ^ 64 - 1) n rest small (omega arith) (omega arith)
 
--- the head's numbers from the number of clauses on, from that of variables on, and from the version on
-abbrev groups_at : ℕ → ℕ → List Word → Result Counts Why
-groups_at vars clauses ws = number_at 0 (2 ^ 64 - 1) ws >>= λ g. line_end (record { vars = vars; groups = g.0; clauses = clauses }) g.1
+-- the head's version and numbers from the number of clauses on, from that of variables on, and from the version on
+abbrev groups_at : Version → ℕ → ℕ → List Word → Result (Version × Counts) Why
+groups_at version vars clauses ws =
+    number_at 0 (2 ^ 64 - 1) ws >>= λ g. line_end (version, record { vars = vars; groups = g.0; clauses = clauses }) g.1
 
-abbrev clauses_at : ℕ → List Word → Result Counts Why
-clauses_at vars ws = number_at 0 (2 ^ 64 - 1) ws >>= λ c. groups_at vars c.0 c.1
+abbrev clauses_at : Version → ℕ → List Word → Result (Version × Counts) Why
+clauses_at version vars ws = number_at 0 (2 ^ 64 - 1) ws >>= λ c. groups_at version vars c.0 c.1
 
-abbrev vars_at : List Word → Result Counts Why
-vars_at ws = number_at 0 (2 ^ 64 - 1) ws >>= λ v. clauses_at v.0 v.1
+abbrev vars_at : Version → List Word → Result (Version × Counts) Why
+vars_at version ws = number_at 0 (2 ^ 64 - 1) ws >>= λ v. clauses_at version v.0 v.1
 
-abbrev version_at : List Word → Result Counts Why
-version_at ws = number_at 1 1 ws >>= λ n. vars_at n.1
+abbrev version_at : List Word → Result (Version × Counts) Why
+version_at ws = number_at 1 2 ws >>= λ n. vars_at (version_of n.0) n.1
 
-counts-back : (p : Problem) → IsSmall p → counts_at (behind (head_line p)) ≡ Ok (counts_of p)
+counts-back : (version : Version) (p : Problem) → IsSmall p → counts_at (behind (head_line version p)) ≡ Ok (version, counts_of p)
 unfolding counts_at
-counts-back p ok =
+counts-back version p ok =
     let few = ok.numbers in
     let groups : List Word = decimal p.groups ∷ [] in
     let clauses : List Word = decimal (length p.clauses) ∷ groups in
     let vars : List Word = decimal p.vars ∷ clauses in
-    bind-back _ (λ ws. version_at ws) (codes "1" ∷ vars) _ (word-back (codes "gmev") (codes "1" ∷ vars))
-    (bind-back _ (λ n. vars_at n.1) (1, vars) _ (version-back vars)
-    (bind-back _ (λ v. clauses_at v.0 v.1) (p.vars, clauses) _ (count-back p.vars clauses (omega arith))
-    (bind-back _ (λ c. groups_at p.vars c.0 c.1) (length p.clauses, groups) _ (count-back (length p.clauses) groups ok.clauses)
-    (bind-back _ (λ g. line_end (record { vars = p.vars; groups = g.0; clauses = length p.clauses }) g.1) (p.groups, []) _ (count-back p.groups [] (omega arith))
-    refl))))
+    let number : Word = decimal (version_number version) in
+    bind-back _ (λ ws. version_at ws) (number ∷ vars) _ (word-back (codes "gmev") (number ∷ vars))
+    (bind-back _ (λ n. vars_at (version_of n.0) n.1) (version_number version, vars) _ (version-back version vars)
+    (ap (λ (v : Version). vars_at v vars) (version_of-number version)
+    ∙ bind-back _ (λ v. clauses_at version v.0 v.1) (p.vars, clauses) _ (count-back p.vars clauses (omega arith))
+    (bind-back _ (λ c. groups_at version p.vars c.0 c.1) (length p.clauses, groups) _ (count-back (length p.clauses) groups ok.clauses)
+    (bind-back _ (λ g. line_end (version, record { vars = p.vars; groups = g.0; clauses = length p.clauses }) g.1) (p.groups, []) _
+    (count-back p.groups [] (omega arith)) refl))))
 
 same-counts : (p : Problem) → same_counts (counts_of p) (counts_of p) ≡ true
 same-counts p =
@@ -214,12 +244,12 @@ same-counts p =
     (and_from (eqb p.vars p.vars) (eqb p.groups p.groups) (eq-eqb p.vars p.vars refl) (eq-eqb p.groups p.groups refl))
     (eq-eqb (length p.clauses) (length p.clauses) refl)
 
-head_words-back : (p : Problem) → IsSmall p → head_words_at p (head_line p) ≡ Ok tt
+head_words-back : (version : Version) (p : Problem) → IsSmall p → head_words_at p (head_line version p) ≡ Ok version
 unfolding head_words_at
-head_words-back p ok =
-    bind-back _ _ (counts_of p) _ (counts-back p ok)
-    (ap (λ t. cond t (Ok tt) (Err (OtherProblem (record { text = counts_of p; problem = counts_of p })))) (same-counts p))
+head_words-back version p ok =
+    bind-back _ _ (version, counts_of p) _ (counts-back version p ok)
+    (ap (λ t. cond t (Ok version) (Err (OtherProblem (record { text = counts_of p; problem = counts_of p })))) (same-counts p))
 
-pub head-back : (p : Problem) (at : ℕ) (ls : List Line) → IsSmall p → head_at p at (head_line p ∷ ls) ≡ Ok (below (at + 1) ls)
+pub head-back : (version : Version) (p : Problem) (at : ℕ) (ls : List Line) → IsSmall p → head_at p at (head_line version p ∷ ls) ≡ Ok (version, below (at + 1) ls)
 unfolding head_at
-head-back p at ls ok = bind-back _ _ tt _ (ap (λ r. at_line at r) (head_words-back p ok)) refl
+head-back version p at ls ok = bind-back _ _ version _ (ap (λ r. at_line at r) (head_words-back version p ok)) refl

@@ -13,9 +13,13 @@ use Rattle.sat_base.specs.Derivation.{Step, Derivation}
 use Rattle.gm_base.specs.Problem.{Problem}
 use Rattle.evidence_rec.specs.declared.record.Record.{Record}
 use Rattle.evidence_rec.specs.declared.record.Record.TheVariants as record_of
-use Rattle.evidence_text.specs.Text.{Word, Line, spaced, line_text, text_of, head_line, set_line, step_line, goal_line, witness_line, trues_from, exhaustion_line, end_line, refutation_lines, refutations_lines, witnesses_lines, record_lines, record_text, end_lines, head_text, end_text, evidence_text}
+use Rattle.evidence_rec.specs.declared.record.Refutation.{Refutation}
+use Rattle.evidence_rec.specs.declared.record.Refutation.TheVariants.{Steps, Earlier}
+use Rattle.evidence_text.specs.declared.version.Version.{Version}
+use Rattle.evidence_text.specs.declared.version.Version.TheVariants.{One, Two}
+use Rattle.evidence_text.specs.Text.{Word, Line, spaced, line_text, text_of, version_number, head_line, set_line, step_line, goal_line, reference_line, witness_line, trues_from, exhaustion_line, end_line, derivation_lines, refutation_lines, refutations_lines, witnesses_lines, record_lines, record_text, end_lines, head_text, end_text, evidence_text}
 use Rattle.evidence_text.specs.Lines.{is_newline, is_blank, before_lines, ended_lines, unended, unended_from, words_of, lines_of}
-use Rattle.evidence_text.specs.Readable.{IsId, IsReadableStep, IsReadableProof, IsSetUpTo, IsReadable, IsReadableEnd, IsSmall}
+use Rattle.evidence_text.specs.Readable.{IsId, IsReadableStep, IsReadableProof, IsReadableRefutation, IsSetUpTo, IsReadable, IsReadableEnd, IsSmall}
 use Rattle.evidence_text.proofs.TextLemmas.{text_of-append}
 use Rattle.evidence_text.proofs.WordsLemmas.{all-then}
 use Rattle.evidence_text.proofs.WordsBackLemmas.{trues-in_range}
@@ -181,6 +185,9 @@ steps-plain vars steps small all = all-map IsPlainLine (IsReadableStep vars) ste
 goal-plain : (g id : ℕ) → g < 2 ^ 64 → IsId id → IsPlainLine (goal_line g id)
 goal-plain g id few ok = (plain-from (codes "r") refl, (decimal-plain g few, (id-plain id ok, tt)))
 
+reference-plain : (g i : ℕ) → g < 2 ^ 64 → IsId i → IsPlainLine (reference_line g i)
+reference-plain g i few ok = (plain-from (codes "t") refl, (decimal-plain g few, (id-plain i ok, tt)))
+
 witness-plain : (vars g : ℕ) (w : List Bool) → vars < 2 ^ 64 → g < 2 ^ 64 → length w ≡ vars → IsPlainLine (witness_line g w)
 witness-plain vars g w small few len = (
   plain-from (codes "w") refl,
@@ -190,9 +197,15 @@ witness-plain vars g w small few len = (
   ),
 )
 
-refutation-plain : (vars g : ℕ) (d : Derivation) → vars < 2 ^ 64 → g < 2 ^ 64 → IsReadableProof vars d → AllByRecursion IsPlainLine (refutation_lines g d)
-refutation-plain vars g d small few ok =
+derivation-plain : (vars g : ℕ) (d : Derivation) → vars < 2 ^ 64 → g < 2 ^ 64 → IsReadableProof vars d → AllByRecursion IsPlainLine (derivation_lines g d)
+derivation-plain vars g d small few ok =
     all-append IsPlainLine (map step_line d.steps) (goal_line g d.goal ∷ []) (steps-plain vars d.steps small ok.steps) (goal-plain g d.goal few ok.goal, tt)
+
+refutation-plain : (version : Version) (vars g : ℕ) (r : Refutation) → vars < 2 ^ 64 → g < 2 ^ 64 → IsReadableRefutation version vars r
+    → AllByRecursion IsPlainLine (refutation_lines g r)
+refutation-plain version vars g (Steps d) small few ok = derivation-plain vars g d small few ok
+refutation-plain One vars g (Earlier i) small few ok = absurd ok
+refutation-plain Two vars g (Earlier i) small few ok = (reference-plain g i few ok, tt)
 
 witnesses-plain : (vars : ℕ) (gs : List ℕ) (ws : List (List Bool)) → vars < 2 ^ 64 → AllByRecursion (λ g. g < 2 ^ 64) gs
     → AllByRecursion (λ (w : List Bool). length w ≡ vars) ws → AllByRecursion IsPlainLine (witnesses_lines gs ws)
@@ -201,31 +214,32 @@ witnesses-plain vars (g ∷ gs) [] small few all = tt
 witnesses-plain vars (g ∷ gs) (w ∷ ws) small few all =
     (witness-plain vars g w small few.0 all.0, witnesses-plain vars gs ws small few.1 all.1)
 
-refutations-plain : (vars : ℕ) (gs : List ℕ) (ds : List Derivation) → vars < 2 ^ 64 → AllByRecursion (λ g. g < 2 ^ 64) gs
-    → AllByRecursion (IsReadableProof vars) ds → AllByRecursion IsPlainLine (refutations_lines gs ds)
-refutations-plain vars [] ds small few all = tt
-refutations-plain vars (g ∷ gs) [] small few all = tt
-refutations-plain vars (g ∷ gs) (d ∷ ds) small few all =
-    all-append IsPlainLine (refutation_lines g d) (refutations_lines gs ds) (refutation-plain vars g d small few.0 all.0) (refutations-plain vars gs ds small few.1 all.1)
+refutations-plain : (version : Version) (vars : ℕ) (gs : List ℕ) (rs : List Refutation) → vars < 2 ^ 64 → AllByRecursion (λ g. g < 2 ^ 64) gs
+    → AllByRecursion (IsReadableRefutation version vars) rs → AllByRecursion IsPlainLine (refutations_lines gs rs)
+refutations-plain version vars [] rs small few all = tt
+refutations-plain version vars (g ∷ gs) [] small few all = tt
+refutations-plain version vars (g ∷ gs) (r ∷ rs) small few all =
+    all-append IsPlainLine (refutation_lines g r) (refutations_lines gs rs) (refutation-plain version vars g r small few.0 all.0)
+    (refutations-plain version vars gs rs small few.1 all.1)
 
-record-plain : (p : Problem) (r : Record) → p.vars + p.groups < 2 ^ 64 → IsReadable p r → AllByRecursion IsPlainLine (record_lines r)
-record-plain p (record_of.Conflict set d ws) small (ok, good, count, each) = (
+record-plain : (version : Version) (p : Problem) (r : Record) → p.vars + p.groups < 2 ^ 64 → IsReadable version p r → AllByRecursion IsPlainLine (record_lines r)
+record-plain version p (record_of.Conflict set d ws) small (ok, good, count, each) = (
   set-plain p (codes "u") set small refl ok,
-  all-append IsPlainLine (refutation_lines 0 d) (witnesses_lines set ws) (refutation-plain (p.vars + p.groups) 0 d small (omega arith) good)
+  all-append IsPlainLine (derivation_lines 0 d) (witnesses_lines set ws) (derivation-plain (p.vars + p.groups) 0 d small (omega arith) good)
       (witnesses-plain p.vars set ws (omega arith) (few_groups p set small ok) each),
 )
-record-plain p (record_of.Correction set w ds) small (ok, len, count, each) = (
+record-plain version p (record_of.Correction set w rs) small (ok, len, count, each) = (
   set-plain p (codes "m") set small refl ok,
   (
     witness-plain p.vars 0 w (omega arith) (omega arith) len,
-    refutations-plain (p.vars + p.groups) set ds small (few_groups p set small ok) each,
+    refutations-plain version (p.vars + p.groups) set rs small (few_groups p set small ok) each,
   ),
 )
 
-records-plain : (p : Problem) (rs : List Record) → p.vars + p.groups < 2 ^ 64 → AllByRecursion (IsReadable p) rs → AllByRecursion IsPlainLine (flat_map record_lines rs)
-records-plain p [] small all = tt
-records-plain p (r ∷ rs) small all =
-    all-append IsPlainLine (record_lines r) (flat_map record_lines rs) (record-plain p r small all.0) (records-plain p rs small all.1)
+records-plain : (version : Version) (p : Problem) (rs : List Record) → p.vars + p.groups < 2 ^ 64 → AllByRecursion (IsReadable version p) rs → AllByRecursion IsPlainLine (flat_map record_lines rs)
+records-plain version p [] small all = tt
+records-plain version p (r ∷ rs) small all =
+    all-append IsPlainLine (record_lines r) (flat_map record_lines rs) (record-plain version p r small all.0) (records-plain version p rs small all.1)
 
 end-plain : (p : Problem) (closing : Option Derivation) → p.vars + p.groups < 2 ^ 64 → IsReadableEnd p closing → AllByRecursion IsPlainLine (end_lines closing)
 end-plain p None small ok = ((plain-from (codes "e") refl, (plain-from (codes "partial") refl, tt)), tt)
@@ -233,18 +247,22 @@ end-plain p (Some d) small ok =
     all-append IsPlainLine (map step_line d.steps) (exhaustion_line d.goal ∷ end_line (codes "complete") ∷ []) (steps-plain p.groups d.steps (omega arith) ok.steps)
     ((plain-from (codes "x") refl, (id-plain d.goal ok.goal, tt)), ((plain-from (codes "e") refl, (plain-from (codes "complete") refl, tt)), tt))
 
-head-plain : (p : Problem) → IsSmall p → IsPlainLine (head_line p)
-head-plain p ok =
+version-small : (version : Version) → version_number version < 2 ^ 64
+version-small One = omega arith
+version-small Two = omega arith
+
+head-plain : (version : Version) (p : Problem) → IsSmall p → IsPlainLine (head_line version p)
+head-plain version p ok =
     let few = ok.numbers in
     let numbers : AllByRecursion IsPlainWord (decimal p.vars ∷ decimal (length p.clauses) ∷ decimal p.groups ∷ []) =
     (decimal-plain p.vars (omega arith), (decimal-plain (length p.clauses) ok.clauses, (decimal-plain p.groups (omega arith), tt))) in
-    (plain-from (codes "p") refl, (plain-from (codes "gmev") refl, (plain-from (codes "1") refl, numbers)))
+    (plain-from (codes "p") refl, (plain-from (codes "gmev") refl, (decimal-plain (version_number version) (version-small version), numbers)))
 
 -- ---- a whole text
 
 -- the head, the records and the end
-abbrev pub whole_lines : Problem → List Record → Option Derivation → List Line
-whole_lines p rs closing = head_line p ∷ (flat_map record_lines rs ++ end_lines closing)
+abbrev pub whole_lines : Version → Problem → List Record → Option Derivation → List Line
+whole_lines version p rs closing = head_line version p ∷ (flat_map record_lines rs ++ end_lines closing)
 
 -- the lines of records write their texts
 pub records-text : (rs : List Record) → text_of (flat_map record_lines rs) ≡ flat_map record_text rs
@@ -252,23 +270,26 @@ records-text [] = refl
 records-text (r ∷ rs) = text_of-append (record_lines r) (flat_map record_lines rs) ∙ ap (λ (bs : List ℕ). record_text r ++ bs) (records-text rs)
 
 -- its lines write it
-pub whole-text : (p : Problem) (rs : List Record) (closing : Option Derivation) → text_of (whole_lines p rs closing) ≡ evidence_text p rs closing
-whole-text p rs closing =
-    ap (λ (bs : List ℕ). head_text p ++ bs)
+pub whole-text : (version : Version) (p : Problem) (rs : List Record) (closing : Option Derivation)
+    → text_of (whole_lines version p rs closing) ≡ evidence_text version p rs closing
+whole-text version p rs closing =
+    ap (λ (bs : List ℕ). head_text version p ++ bs)
     (text_of-append (flat_map record_lines rs) (end_lines closing) ∙ ap (λ (bs : List ℕ). bs ++ end_text closing) (records-text rs))
-    ∙ sym (append_assoc (head_text p) (flat_map record_text rs) (end_text closing))
+    ∙ sym (append_assoc (head_text version p) (flat_map record_text rs) (end_text closing))
 
-whole-plain : (p : Problem) (rs : List Record) (closing : Option Derivation) → IsSmall p → AllByRecursion (IsReadable p) rs → IsReadableEnd p closing
-    → AllByRecursion IsPlainLine (whole_lines p rs closing)
-whole-plain p rs closing small all ok =
-    (head-plain p small, all-append IsPlainLine (flat_map record_lines rs) (end_lines closing) (records-plain p rs small.numbers all) (end-plain p closing small.numbers ok))
+whole-plain : (version : Version) (p : Problem) (rs : List Record) (closing : Option Derivation) → IsSmall p → AllByRecursion (IsReadable version p) rs
+    → IsReadableEnd p closing → AllByRecursion IsPlainLine (whole_lines version p rs closing)
+whole-plain version p rs closing small all ok = (
+  head-plain version p small,
+  all-append IsPlainLine (flat_map record_lines rs) (end_lines closing) (records-plain version p rs small.numbers all) (end-plain p closing small.numbers ok),
+)
 
-pub lines_of-whole : (p : Problem) (rs : List Record) (closing : Option Derivation) → IsSmall p → AllByRecursion (IsReadable p) rs → IsReadableEnd p closing
-    → lines_of (evidence_text p rs closing) ≡ whole_lines p rs closing
-lines_of-whole p rs closing small all ok =
-    ap lines_of (sym (whole-text p rs closing)) ∙ lines-back (whole_lines p rs closing) (whole-plain p rs closing small all ok)
+pub lines_of-whole : (version : Version) (p : Problem) (rs : List Record) (closing : Option Derivation) → IsSmall p → AllByRecursion (IsReadable version p) rs
+    → IsReadableEnd p closing → lines_of (evidence_text version p rs closing) ≡ whole_lines version p rs closing
+lines_of-whole version p rs closing small all ok =
+    ap lines_of (sym (whole-text version p rs closing)) ∙ lines-back (whole_lines version p rs closing) (whole-plain version p rs closing small all ok)
 
-pub unended-whole : (p : Problem) (rs : List Record) (closing : Option Derivation) → IsSmall p → AllByRecursion (IsReadable p) rs → IsReadableEnd p closing
-    → unended (evidence_text p rs closing) ≡ []
-unended-whole p rs closing small all ok =
-    ap unended (sym (whole-text p rs closing)) ∙ lines-unended (whole_lines p rs closing) (whole-plain p rs closing small all ok)
+pub unended-whole : (version : Version) (p : Problem) (rs : List Record) (closing : Option Derivation) → IsSmall p → AllByRecursion (IsReadable version p) rs
+    → IsReadableEnd p closing → unended (evidence_text version p rs closing) ≡ []
+unended-whole version p rs closing small all ok =
+    ap unended (sym (whole-text version p rs closing)) ∙ lines-unended (whole_lines version p rs closing) (whole-plain version p rs closing small all ok)

@@ -2,8 +2,9 @@
 use Rattle.std.proofs.Common.{◌≡◌, ℕ, suc, ◌+◌, ◌<◌, ◌≤◌, min, Bool, List, [], ◌∷◌, ◌++◌, Some, map, length, drop, get_or, refl, sym, ◌∙◌, ap, subst, arith, add-one, drop-cons, length-drop, append_assoc, append-nil}
 use Rattle.std.specs.Prelude.{Result, Ok, Err, slice_get}
 use Rattle.std.specs.List.{flat_map}
-use Rattle.sat_base.specs.Derivation.{Step, Derivation}
+use Rattle.sat_base.specs.Derivation.{Step}
 use Rattle.evidence_rec.specs.declared.record.Record.{Record}
+use Rattle.evidence_rec.specs.declared.record.Refutation.{Refutation}
 use Rattle.evidence_text.specs.Text.{line_text, text_of, step_line, witness_line, record_text, refutation_lines, refutations_lines, witnesses_lines}
 use Rattle.evidence_text.specs.declared.line_sink.PutError.{PutError}
 use Rattle.evidence_text.specs.declared.line_sink.PutError.TheVariants as put_error
@@ -146,17 +147,17 @@ pub witnesses-none : (groups : List ℕ) (ws : List (List Bool)) (i : ℕ) → m
     → text_of (witnesses_lines (drop i groups) (drop i ws)) ≡ []
 witnesses-none groups ws i h = sym (witnesses-over [] (text_of (witnesses_lines (drop i groups) (drop i ws))) groups ws i h refl)
 
-pub refutations-left : (groups : List ℕ) (ds : List Derivation) (i : ℕ) (d : Derivation) → i < length groups → slice_get ds i ≡ Some d
-    → text_of (refutations_lines (drop i groups) (drop i ds))
-    ≡ text_of (refutation_lines (get_or groups i 0) d) ++ text_of (refutations_lines (drop (i + 1) groups) (drop (i + 1) ds))
-refutations-left groups ds i d h here =
-    ap (λ gs. text_of (refutations_lines gs (drop i ds))) (drop-number groups i h)
-    ∙ ap (λ vs. text_of (refutations_lines (get_or groups i 0 ∷ drop (i + 1) groups) vs)) (drop-get ds i d here)
-    ∙ text_of-append (refutation_lines (get_or groups i 0) d) (refutations_lines (drop (i + 1) groups) (drop (i + 1) ds))
+pub refutations-left : (groups : List ℕ) (rs : List Refutation) (i : ℕ) (r : Refutation) → i < length groups → slice_get rs i ≡ Some r
+    → text_of (refutations_lines (drop i groups) (drop i rs))
+    ≡ text_of (refutation_lines (get_or groups i 0) r) ++ text_of (refutations_lines (drop (i + 1) groups) (drop (i + 1) rs))
+refutations-left groups rs i r h here =
+    ap (λ gs. text_of (refutations_lines gs (drop i rs))) (drop-number groups i h)
+    ∙ ap (λ vs. text_of (refutations_lines (get_or groups i 0 ∷ drop (i + 1) groups) vs)) (drop-get rs i r here)
+    ∙ text_of-append (refutation_lines (get_or groups i 0) r) (refutations_lines (drop (i + 1) groups) (drop (i + 1) rs))
 
-pub refutations-none : (groups : List ℕ) (ds : List Derivation) (i : ℕ) → min (length groups) (length ds) ≤ i
-    → text_of (refutations_lines (drop i groups) (drop i ds)) ≡ []
-refutations-none groups ds i h = sym (refutations-over [] (text_of (refutations_lines (drop i groups) (drop i ds))) groups ds i h refl)
+pub refutations-none : (groups : List ℕ) (rs : List Refutation) (i : ℕ) → min (length groups) (length rs) ≤ i
+    → text_of (refutations_lines (drop i groups) (drop i rs)) ≡ []
+refutations-none groups rs i h = sym (refutations-over [] (text_of (refutations_lines (drop i groups) (drop i rs))) groups rs i h refl)
 
 -- ---- whole texts
 

@@ -1,25 +1,28 @@
 -- Lines of which a piece of evidence can be read are just those that write it.
-use Rattle.std.proofs.Common.{◌≡◌, ℕ, ◌+◌, ◌^◌, ◌<◌, ◌≤◌, ◌-◌, ◌&&◌, Bool, true, eqb, List, [], ◌∷◌, ◌++◌, map, length, Option, Some, None, refl, sym, ◌∙◌, ap, ap₂, subst, inl, inr, arith, append_assoc}
+use Rattle.std.proofs.Common.{◌≡◌, ℕ, ◌+◌, ◌^◌, ◌<◌, ◌≤◌, ◌-◌, ◌&&◌, Bool, true, cond, eqb, List, [], ◌∷◌, ◌++◌, map, length, Option, Some, None, refl, sym, ◌∙◌, ap, ap₂, subst, inl, inr, arith, append_assoc}
 use Rattle.std.specs.Prelude.{codes, Result, Ok, Err}
 use Rattle.std.specs.List.{AllByRecursion}
 use Rattle.std.specs.Fmt.{decimal}
-use Rattle.std.proofs.lemmas.Bool.{eqb-true, and_parts}
+use Rattle.std.proofs.lemmas.Bool.{cases_eq, eq-eqb, ne_eqb, eqb-true, and_parts}
 use Rattle.sat_base.specs.Derivation.{Derivation}
 use Rattle.gm_base.specs.Problem.{Problem}
 use Rattle.lrat_check.specs.declared.why.Why.{Why}
 use Rattle.lrat_check.specs.declared.why.Counts.{Counts}
 use Rattle.evidence_rec.specs.declared.record.Record.{Record}
 use Rattle.evidence_rec.specs.declared.record.Record.TheVariants as record_of
+use Rattle.evidence_rec.specs.declared.record.Refutation.{Refutation}
+use Rattle.evidence_rec.specs.declared.record.Refutation.TheVariants.{Steps, Earlier}
 use Rattle.evidence_text.specs.declared.goal.Goal.{Goal}
 use Rattle.evidence_text.specs.declared.goal.Goal.TheVariants.{Refutes, Exhausts}
 use Rattle.evidence_text.specs.declared.offence.Offence.{Offence}
 use Rattle.evidence_text.specs.declared.answer.Answer.{Answer}
 use Rattle.evidence_text.specs.declared.answer.Answer.TheVariants as answer
-use Rattle.evidence_text.specs.Text.{Word, Line, head_line, set_line, step_line, goal_line, witness_line, exhaustion_line, end_line, refutations_lines, witnesses_lines, record_lines, end_lines}
-use Rattle.evidence_text.specs.Reading.{Below, below, at_line, behind, is_letter, goal_letter, with_step, word_at, number_at, counts_at, set_at, step_at, witness_at, goal_at, last_word_at, proof_at, witness_line_at, witnesses_at, refutations_at, conflict_at, correction_at, complete_at, closing_at, is_nothing, nothing_behind, piece_at, counts_of, same_counts, head_words_at, head_at}
-use Rattle.evidence_text.specs.Readable.{IsReadableProof, IsSetUpTo, IsReadable, IsReadableEnd}
+use Rattle.evidence_text.specs.declared.version.Version.{Version}
+use Rattle.evidence_text.specs.declared.version.Version.TheVariants.{One, Two}
+use Rattle.evidence_text.specs.Text.{Word, Line, version_number, head_line, set_line, step_line, goal_line, witness_line, exhaustion_line, end_line, refutation_lines, refutations_lines, witnesses_lines, record_lines, end_lines}
+use Rattle.evidence_text.specs.Reading.{Below, below, at_line, behind, is_letter, goal_letter, version_of, with_step, word_at, number_at, counts_at, set_at, step_at, witness_at, goal_at, last_word_at, proof_at, witness_line_at, witnesses_at, steps_at, refutation_at, refutations_at, conflict_at, correction_at, complete_at, closing_at, is_nothing, nothing_behind, piece_at, counts_of, same_counts, head_words_at, head_at}
+use Rattle.evidence_text.specs.Readable.{IsReadableProof, IsReadableRefutation, IsSetUpTo, IsReadable, IsReadableEnd}
 use Rattle.evidence_text.specs.Laws.{PieceStands}
-use Rattle.evidence_text.proofs.NumberLemmas.{decimal-number}
 use Rattle.evidence_text.proofs.WordsLemmas.{bind-ok, cond-cases, pair-is, all-then, number-ok, word-ok, line_end-ok, set-ok, step-ok, witness-ok, goal-ok, last_word-ok, goal_words, IsSmallGoal}
 
 at_line-ok : {X : Type 0} (line : ℕ) (r : Result X Why) (x : X) → at_line line r ≡ Ok x → r ≡ Ok x
@@ -111,46 +114,75 @@ witnesses-ok vars (g ∷ gs) at ls ws b small few h =
       subst (AllByRecursion (λ (v : List Bool). length v ≡ vars)) e (len, each),
     )
 
-refutations-ok : (vars : ℕ) (gs : List ℕ) (at : ℕ) (ls : List Line) (ds : List Derivation) (b : Below) → vars < 2 ^ 64
-    → AllByRecursion (λ g. g < 2 ^ 64) gs → refutations_at vars gs at ls ≡ Ok (ds, b)
-    → (ls ≡ refutations_lines gs ds ++ b.lines) × (length ds ≡ length gs) × AllByRecursion (IsReadableProof vars) ds
-unfolding refutations_at
-refutations-ok vars [] at ls ds b small few h =
-    let (e, f) = pair-is [] ds (below at ls) b (Ok ([], below at ls)) refl h in
-    (ap (λ (c : Below). c.lines) f, ap length (sym e), subst (AllByRecursion (IsReadableProof vars)) e tt)
-refutations-ok vars (g ∷ gs) at ls ds b small few h =
-    let (d, a, h1) = bind-ok (proof_at vars (Refutes g) at ls) _ (ds, b) h in
-    let (r, tail, same) = bind-ok (refutations_at vars gs d.1.at d.1.lines) _ (ds, b) h1 in
-    let (e, f) = pair-is (d.0 ∷ r.0) ds r.1 b (Ok (d.0 ∷ r.0, r.1)) refl same in
-    let (lines, good) = proof-ok vars (Refutes g) at ls d.0 d.1 small few.0 a in
-    let (rest, count, each) = refutations-ok vars gs d.1.at d.1.lines r.0 r.1 small few.1 tail in (
-      lines ∙ ap (λ (ks : List Line). map step_line d.0.steps ++ goal_line g d.0.goal ∷ ks) rest
-          ∙ regroup (map step_line d.0.steps) (goal_line g d.0.goal) (refutations_lines gs r.0) r.1.lines
-          ∙ ap₂ (λ (xs : List Derivation) (c : Below). refutations_lines (g ∷ gs) xs ++ c.lines) e f,
-      ap length (sym e) ∙ omega arith,
-      subst (AllByRecursion (IsReadableProof vars)) e (good, each),
+-- steps are readable in either version
+steps-ok : (vars g at : ℕ) (ls : List Line) (r : Refutation) (b : Below) → vars < 2 ^ 64 → g < 2 ^ 64 → steps_at vars g at ls ≡ Ok (r, b)
+    → (ls ≡ refutation_lines g r ++ b.lines) × ((version : Version) → IsReadableRefutation version vars r)
+steps-ok vars g at ls r b small few h =
+    let (d, a, same) = bind-ok (proof_at vars (Refutes g) at ls) _ (r, b) h in
+    let made : Refutation = Steps d.0 in
+    let (e, f) = pair-is made r d.1 b (Ok (made, d.1)) refl same in
+    let (lines, good) = proof-ok vars (Refutes g) at ls d.0 d.1 small few a in (
+      lines ∙ sym (append_assoc (map step_line d.0.steps) (goal_line g d.0.goal ∷ []) d.1.lines)
+          ∙ ap₂ (λ (x : Refutation) (c : Below). refutation_lines g x ++ c.lines) e f,
+      λ version. subst (IsReadableRefutation version vars) e good,
     )
-  where
-    regroup : (m : List Line) (k : Line) (xs ys : List Line) → m ++ k ∷ (xs ++ ys) ≡ ((m ++ k ∷ []) ++ xs) ++ ys
-    regroup m k xs ys = sym (append_assoc (m ++ k ∷ []) xs ys ∙ append_assoc m (k ∷ []) (xs ++ ys))
+
+refutation-ok : (version : Version) (vars g at : ℕ) (ls : List Line) (r : Refutation) (b : Below) → vars < 2 ^ 64 → g < 2 ^ 64
+    → refutation_at version vars g at ls ≡ Ok (r, b) → (ls ≡ refutation_lines g r ++ b.lines) × IsReadableRefutation version vars r
+unfolding refutation_at
+refutation-ok One vars g at ls r b small few h = let (lines, good) = steps-ok vars g at ls r b small few h in (lines, good One)
+refutation-ok Two vars g at [] r b small few h = cc
+refutation-ok Two vars g at (l ∷ ls) r b small few h =
+    elim (cond-cases (is_letter 116 l) _ _ (Ok (r, b)) h) [
+      | inl is ↦
+          let (i, a, same) = bind-ok (at_line at (goal_at (Refutes g) (behind l))) _ (r, b) is.1 in
+          let made : Refutation = Earlier i in
+          let (e, f) = pair-is made r (below (at + 1) ls) b (Ok (made, below (at + 1) ls)) refl same in
+          let (words, good) = goal-ok (Refutes g) (behind l) i few (at_line-ok at (goal_at (Refutes g) (behind l)) i a) in (
+            ap (λ (k : Line). k ∷ ls) (letter-ok 116 l (omega arith) is.0 ∙ ap (λ (ws : List Word). codes "t" ∷ ws) words)
+                ∙ ap₂ (λ (x : Refutation) (c : Below). refutation_lines g x ++ c.lines) e f,
+            subst (IsReadableRefutation Two vars) e good,
+          )
+      | inr other ↦ let (lines, good) = steps-ok vars g at (l ∷ ls) r b small few other.1 in (lines, good Two)
+    ]
+
+refutations-ok : (version : Version) (vars : ℕ) (gs : List ℕ) (at : ℕ) (ls : List Line) (rs : List Refutation) (b : Below) → vars < 2 ^ 64
+    → AllByRecursion (λ g. g < 2 ^ 64) gs → refutations_at version vars gs at ls ≡ Ok (rs, b)
+    → (ls ≡ refutations_lines gs rs ++ b.lines) × (length rs ≡ length gs) × AllByRecursion (IsReadableRefutation version vars) rs
+unfolding refutations_at
+refutations-ok version vars [] at ls rs b small few h =
+    let (e, f) = pair-is [] rs (below at ls) b (Ok ([], below at ls)) refl h in
+    (ap (λ (c : Below). c.lines) f, ap length (sym e), subst (AllByRecursion (IsReadableRefutation version vars)) e tt)
+refutations-ok version vars (g ∷ gs) at ls rs b small few h =
+    let (r, a, h1) = bind-ok (refutation_at version vars g at ls) _ (rs, b) h in
+    let (q, tail, same) = bind-ok (refutations_at version vars gs r.1.at r.1.lines) _ (rs, b) h1 in
+    let (e, f) = pair-is (r.0 ∷ q.0) rs q.1 b (Ok (r.0 ∷ q.0, q.1)) refl same in
+    let (lines, good) = refutation-ok version vars g at ls r.0 r.1 small few.0 a in
+    let (rest, count, each) = refutations-ok version vars gs r.1.at r.1.lines q.0 q.1 small few.1 tail in (
+      lines ∙ ap (λ (ks : List Line). refutation_lines g r.0 ++ ks) rest
+          ∙ sym (append_assoc (refutation_lines g r.0) (refutations_lines gs q.0) q.1.lines)
+          ∙ ap₂ (λ (xs : List Refutation) (c : Below). refutations_lines (g ∷ gs) xs ++ c.lines) e f,
+      ap length (sym e) ∙ omega arith,
+      subst (AllByRecursion (IsReadableRefutation version vars)) e (good, each),
+    )
 
 -- ---- records
 
 pub few_groups : (p : Problem) (set : List ℕ) → p.vars + p.groups < 2 ^ 64 → IsSetUpTo p.groups set → AllByRecursion (λ g. g < 2 ^ 64) set
 few_groups p set small ok = all-then (λ g. g ≤ p.groups) (λ g. g < 2 ^ 64) set (λ g le. omega arith) ok.in_range
 
-conflict-ok : (p : Problem) (set : List ℕ) (at : ℕ) (ls : List Line) (r : Record) (b : Below) → p.vars + p.groups < 2 ^ 64
+conflict-ok : (version : Version) (p : Problem) (set : List ℕ) (at : ℕ) (ls : List Line) (r : Record) (b : Below) → p.vars + p.groups < 2 ^ 64
     → IsSetUpTo p.groups set → conflict_at p set at ls ≡ Ok (r, b)
-    → IsReadable p r × (set_line (codes "u") set ∷ ls ≡ record_lines r ++ b.lines)
+    → IsReadable version p r × (set_line (codes "u") set ∷ ls ≡ record_lines r ++ b.lines)
 unfolding conflict_at
-conflict-ok p set at ls r b small ok h =
+conflict-ok version p set at ls r b small ok h =
     let (d, a, h1) = bind-ok (proof_at (p.vars + p.groups) (Refutes 0) at ls) _ (r, b) h in
     let (ws, c, same) = bind-ok (witnesses_at p.vars set d.1.at d.1.lines) _ (r, b) h1 in
     let made : Record = record_of.Conflict set d.0 ws.0 in
     let (e, f) = pair-is made r ws.1 b (Ok (made, ws.1)) refl same in
     let (lines, good) = proof-ok (p.vars + p.groups) (Refutes 0) at ls d.0 d.1 small (omega arith) a in
     let (rest, count, each) = witnesses-ok p.vars set d.1.at d.1.lines ws.0 ws.1 (omega arith) (few_groups p set small ok) c in (
-      subst (IsReadable p) e (ok, good, count, each),
+      subst (IsReadable version p) e (ok, good, count, each),
       ap (λ (ks : List Line). set_line (codes "u") set ∷ ks)
           (lines ∙ ap (λ (ks : List Line). map step_line d.0.steps ++ goal_line 0 d.0.goal ∷ ks) rest
           ∙ sym (append_assoc (map step_line d.0.steps ++ goal_line 0 d.0.goal ∷ []) (witnesses_lines set ws.0) ws.1.lines
@@ -158,18 +190,18 @@ conflict-ok p set at ls r b small ok h =
           ∙ ap₂ (λ (x : Record) (k : Below). record_lines x ++ k.lines) e f,
     )
 
-correction-ok : (p : Problem) (set : List ℕ) (at : ℕ) (ls : List Line) (r : Record) (b : Below) → p.vars + p.groups < 2 ^ 64
-    → IsSetUpTo p.groups set → correction_at p set at ls ≡ Ok (r, b)
-    → IsReadable p r × (set_line (codes "m") set ∷ ls ≡ record_lines r ++ b.lines)
+correction-ok : (version : Version) (p : Problem) (set : List ℕ) (at : ℕ) (ls : List Line) (r : Record) (b : Below) → p.vars + p.groups < 2 ^ 64
+    → IsSetUpTo p.groups set → correction_at version p set at ls ≡ Ok (r, b)
+    → IsReadable version p r × (set_line (codes "m") set ∷ ls ≡ record_lines r ++ b.lines)
 unfolding correction_at
-correction-ok p set at ls r b small ok h =
+correction-ok version p set at ls r b small ok h =
     let (w, a, h1) = bind-ok (witness_line_at p.vars 0 at ls) _ (r, b) h in
-    let (ds, c, same) = bind-ok (refutations_at (p.vars + p.groups) set w.1.at w.1.lines) _ (r, b) h1 in
-    let made : Record = record_of.Correction set w.0 ds.0 in
-    let (e, f) = pair-is made r ds.1 b (Ok (made, ds.1)) refl same in
+    let (rs, c, same) = bind-ok (refutations_at version (p.vars + p.groups) set w.1.at w.1.lines) _ (r, b) h1 in
+    let made : Record = record_of.Correction set w.0 rs.0 in
+    let (e, f) = pair-is made r rs.1 b (Ok (made, rs.1)) refl same in
     let (line, len) = witness_line-ok p.vars 0 at ls w.0 w.1 (omega arith) (omega arith) a in
-    let (rest, count, each) = refutations-ok (p.vars + p.groups) set w.1.at w.1.lines ds.0 ds.1 small (few_groups p set small ok) c in (
-      subst (IsReadable p) e (ok, len, count, each),
+    let (rest, count, each) = refutations-ok version (p.vars + p.groups) set w.1.at w.1.lines rs.0 rs.1 small (few_groups p set small ok) c in (
+      subst (IsReadable version p) e (ok, len, count, each),
       ap (λ (ks : List Line). set_line (codes "m") set ∷ ks) (line ∙ ap (λ (ks : List Line). witness_line 0 w.0 ∷ ks) rest)
           ∙ ap₂ (λ (x : Record) (k : Below). record_lines x ++ k.lines) e f,
     )
@@ -221,25 +253,25 @@ nothing-ok rest closing c a b h =
 
 -- ---- a piece
 
-pub piece-stands : (p : Problem) (rest : List ℕ) (at : ℕ) (ls : List Line) (a : Answer) (b : Below) → p.vars + p.groups < 2 ^ 64
-    → piece_at p rest at ls ≡ Ok (a, b) → PieceStands p rest ls a b
+pub piece-stands : (version : Version) (p : Problem) (rest : List ℕ) (at : ℕ) (ls : List Line) (a : Answer) (b : Below) → p.vars + p.groups < 2 ^ 64
+    → piece_at version p rest at ls ≡ Ok (a, b) → PieceStands version p rest ls a b
 unfolding piece_at
-piece-stands p rest at [] a b small h = cc
-piece-stands p rest at (l ∷ ls) a b small h =
+piece-stands version p rest at [] a b small h = cc
+piece-stands version p rest at (l ∷ ls) a b small h =
     elim (cond-cases (is_letter 117 l) _ _ (Ok (a, b)) h) [
       | inl is ↦
           let (set, x, h1) = bind-ok (at_line at (set_at p.groups (behind l))) _ (a, b) is.1 in
           let (r, y, same) = bind-ok (conflict_at p set (at + 1) ls) _ (a, b) h1 in
           let (words, ok) = set-ok p.groups (behind l) set (omega arith) (at_line-ok at (set_at p.groups (behind l)) set x) in
-          let (good, lines) = conflict-ok p set (at + 1) ls r.0 r.1 small ok y in
+          let (good, lines) = conflict-ok version p set (at + 1) ls r.0 r.1 small ok y in
           as_record r.0 r.1 (Ok (answer.Record r.0, r.1)) refl same good
           (ap (λ (k : Line). k ∷ ls) (letter-ok 117 l (omega arith) is.0 ∙ ap (λ (ws : List Word). codes "u" ∷ ws) words) ∙ lines)
       | inr other ↦ elim (cond-cases (is_letter 109 l) _ _ (Ok (a, b)) other.1) [
         | inl is ↦
             let (set, x, h1) = bind-ok (at_line at (set_at p.groups (behind l))) _ (a, b) is.1 in
-            let (r, y, same) = bind-ok (correction_at p set (at + 1) ls) _ (a, b) h1 in
+            let (r, y, same) = bind-ok (correction_at version p set (at + 1) ls) _ (a, b) h1 in
             let (words, ok) = set-ok p.groups (behind l) set (omega arith) (at_line-ok at (set_at p.groups (behind l)) set x) in
-            let (good, lines) = correction-ok p set (at + 1) ls r.0 r.1 small ok y in
+            let (good, lines) = correction-ok version p set (at + 1) ls r.0 r.1 small ok y in
             as_record r.0 r.1 (Ok (answer.Record r.0, r.1)) refl same good
             (ap (λ (k : Line). k ∷ ls) (letter-ok 109 l (omega arith) is.0 ∙ ap (λ (ws : List Word). codes "m" ∷ ws) words) ∙ lines)
         | inr third ↦ elim (cond-cases (is_letter 101 l) _ _ (Ok (a, b)) third.1) [
@@ -266,62 +298,73 @@ piece-stands p rest at (l ∷ ls) a b small h =
     no_more (x ∷ xs) = ap (λ (ys : List Line). x ∷ ys) (no_more xs)
 
     as_record : (r : Record) (c : Below) (got : Result (Answer × Below) Offence) → got ≡ Ok (answer.Record r, c) → got ≡ Ok (a, b)
-        → IsReadable p r → l ∷ ls ≡ record_lines r ++ c.lines → PieceStands p rest (l ∷ ls) a b
+        → IsReadable version p r → l ∷ ls ≡ record_lines r ++ c.lines → PieceStands version p rest (l ∷ ls) a b
     as_record r c got is same good lines =
         let (e, f) = pair-is (answer.Record r) a c b got is same in
-        subst (λ (x : Answer). PieceStands p rest (l ∷ ls) x b) e
-        (subst (λ (k : Below). PieceStands p rest (l ∷ ls) (answer.Record r) k) f (good, lines))
+        subst (λ (x : Answer). PieceStands version p rest (l ∷ ls) x b) e
+        (subst (λ (k : Below). PieceStands version p rest (l ∷ ls) (answer.Record r) k) f (good, lines))
 
     as_end : (closing : Option Derivation) → answer.End closing ≡ a → IsReadableEnd p closing → l ∷ ls ≡ end_lines closing → rest ≡ []
-        → PieceStands p rest (l ∷ ls) a b
-    as_end closing same good lines nothing = subst (λ (x : Answer). PieceStands p rest (l ∷ ls) x b) same (good, lines, nothing)
+        → PieceStands version p rest (l ∷ ls) a b
+    as_end closing same good lines nothing = subst (λ (x : Answer). PieceStands version p rest (l ∷ ls) x b) same (good, lines, nothing)
 
 -- ---- the head
 
-counts-ok : (ws : List Word) (c : Counts) → counts_at ws ≡ Ok c
-    → ws ≡ codes "gmev" ∷ codes "1" ∷ decimal c.vars ∷ decimal c.clauses ∷ decimal c.groups ∷ []
+pub version_number-of : (n : ℕ) → 1 ≤ n → n ≤ 2 → version_number (version_of n) ≡ n
+version_number-of n low high =
+    elim (cases_eq n 1) [
+      | inl one ↦ ap (λ t. version_number (cond t One Two)) (eq-eqb n 1 one) ∙ sym one
+      | inr other ↦ let two : 2 ≡ n = omega (arith, low, high, other) in ap (λ t. version_number (cond t One Two)) (ne_eqb n 1 other) ∙ two
+    ]
+
+-- the words of the head behind `p`
+abbrev head_words : Version → Counts → List Word
+head_words version c = codes "gmev" ∷ decimal (version_number version) ∷ decimal c.vars ∷ decimal c.clauses ∷ decimal c.groups ∷ []
+
+counts-ok : (ws : List Word) (version : Version) (c : Counts) → counts_at ws ≡ Ok (version, c) → ws ≡ head_words version c
 unfolding counts_at
-counts-ok ws c h =
-    let (format, a1, h1) = bind-ok (word_at (codes "gmev") ws) _ c h in
-    let (version, a2, h2) = bind-ok (number_at 1 1 format) _ c h1 in
-    let (vars, a3, h3) = bind-ok (number_at 0 (2 ^ 64 - 1) version.1) _ c h2 in
-    let (clauses, a4, h4) = bind-ok (number_at 0 (2 ^ 64 - 1) vars.1) _ c h3 in
-    let (groups, a5, h5) = bind-ok (number_at 0 (2 ^ 64 - 1) clauses.1) _ c h4 in
-    let made : Counts = record { vars = vars.0; groups = groups.0; clauses = clauses.0 } in
-    let (over, same) = line_end-ok made c groups.1 h5 in
-    let (l2, low, high) = number-ok 1 1 format version.0 version.1 (omega arith) a2 in
-    let one : version.0 ≡ 1 = omega arith in
-    let l3 = (number-ok 0 (2 ^ 64 - 1) version.1 vars.0 vars.1 (omega arith) a3).0 in
+counts-ok ws version c h =
+    let (format, a1, h1) = bind-ok (word_at (codes "gmev") ws) _ (version, c) h in
+    let (number, a2, h2) = bind-ok (number_at 1 2 format) _ (version, c) h1 in
+    let (vars, a3, h3) = bind-ok (number_at 0 (2 ^ 64 - 1) number.1) _ (version, c) h2 in
+    let (clauses, a4, h4) = bind-ok (number_at 0 (2 ^ 64 - 1) vars.1) _ (version, c) h3 in
+    let (groups, a5, h5) = bind-ok (number_at 0 (2 ^ 64 - 1) clauses.1) _ (version, c) h4 in
+    let made : Version × Counts = (version_of number.0, record { vars = vars.0; groups = groups.0; clauses = clauses.0 }) in
+    let (over, same) = line_end-ok made (version, c) groups.1 h5 in
+    let (l2, low, high) = number-ok 1 2 format number.0 number.1 (omega arith) a2 in
+    let l3 = (number-ok 0 (2 ^ 64 - 1) number.1 vars.0 vars.1 (omega arith) a3).0 in
     let l4 = (number-ok 0 (2 ^ 64 - 1) vars.1 clauses.0 clauses.1 (omega arith) a4).0 in
     let l5 = (number-ok 0 (2 ^ 64 - 1) clauses.1 groups.0 groups.1 (omega arith) a5).0 in
     word-ok (codes "gmev") ws format a1
     ∙ ap (λ (q : List Word). codes "gmev" ∷ q)
-    (l2 ∙ ap₂ (λ (w : Word) (q : List Word). w ∷ q) (ap decimal one ∙ decimal-number (codes "1") refl (omega arith))
+    (l2 ∙ ap₂ (λ (n : ℕ) (q : List Word). decimal n ∷ q) (sym (version_number-of number.0 low high))
     (l3 ∙ ap (λ (q : List Word). decimal vars.0 ∷ q)
     (l4 ∙ ap (λ (q : List Word). decimal clauses.0 ∷ q) (l5 ∙ ap (λ (q : List Word). decimal groups.0 ∷ q) over))))
-    ∙ ap (λ (k : Counts). codes "gmev" ∷ codes "1" ∷ decimal k.vars ∷ decimal k.clauses ∷ decimal k.groups ∷ []) same
+    ∙ ap (λ (k : Version × Counts). head_words k.0 k.1) same
 
-pub head-stands : (p : Problem) (at : ℕ) (ls : List Line) (b : Below) → head_at p at ls ≡ Ok b → ls ≡ head_line p ∷ b.lines
+pub head-stands : (p : Problem) (at : ℕ) (ls : List Line) (version : Version) (b : Below) → head_at p at ls ≡ Ok (version, b) → ls ≡ head_line version p ∷ b.lines
 unfolding head_at head_words_at
-head-stands p at [] b h = cc
-head-stands p at (l ∷ ls) b h =
-    let (u, a, same) = bind-ok (at_line at (head_words_at p l)) _ b h in
-    let below_is : below (at + 1) ls ≡ b = cc in
-    ap (λ (k : Line). k ∷ ls) (head-line u (at_line-ok at (head_words_at p l) u a)) ∙ ap (λ (c : Below). head_line p ∷ c.lines) below_is
+head-stands p at [] version b h = cc
+head-stands p at (l ∷ ls) version b h =
+    let (v, a, same) = bind-ok (at_line at (head_words_at p l)) _ (version, b) h in
+    let (e, f) = pair-is v version (below (at + 1) ls) b (Ok (v, below (at + 1) ls)) refl same in
+    ap (λ (k : Line). k ∷ ls) (head-line v (at_line-ok at (head_words_at p l) v a)) ∙ ap₂ (λ (x : Version) (c : Below). head_line x p ∷ c.lines) e f
   where
-    head-line : (u : Unit {0}) → head_words_at p l ≡ Ok u → l ≡ head_line p
-    head-line u h =
-        elim (cond-cases (is_letter 112 l) _ _ (Ok u) h) [
+    head-line : (v : Version) → head_words_at p l ≡ Ok v → l ≡ head_line v p
+    head-line v h =
+        elim (cond-cases (is_letter 112 l) _ _ (Ok v) h) [
           | inl is ↦
-              let (c, a, h1) = bind-ok (counts_at (behind l)) _ u is.1 in
-              elim (cond-cases (same_counts c (counts_of p)) _ _ (Ok u) h1) [
+              let (c, a, h1) = bind-ok (counts_at (behind l)) _ v is.1 in
+              elim (cond-cases (same_counts c.1 (counts_of p)) _ _ (Ok v) h1) [
                 | inl same ↦
-                    let (both, clauses) = and_parts (eqb c.vars p.vars && eqb c.groups p.groups) (eqb c.clauses (length p.clauses)) same.0 in
-                    let (vars, groups) = and_parts (eqb c.vars p.vars) (eqb c.groups p.groups) both in
-                    letter-ok 112 l (omega arith) is.0 ∙ ap (λ (ws : List Word). codes "p" ∷ ws) (counts-ok (behind l) c a)
-                    ∙ ap (λ (n : ℕ). codes "p" ∷ codes "gmev" ∷ codes "1" ∷ decimal n ∷ decimal c.clauses ∷ decimal c.groups ∷ []) (eqb-true c.vars p.vars vars)
-                    ∙ ap₂ (λ (m n : ℕ). codes "p" ∷ codes "gmev" ∷ codes "1" ∷ decimal p.vars ∷ decimal m ∷ decimal n ∷ []) (eqb-true c.clauses (length p.clauses) clauses)
-                    (eqb-true c.groups p.groups groups)
+                    let named : c.0 ≡ v = cc (same.1) in
+                    let (both, clauses) = and_parts (eqb c.1.vars p.vars && eqb c.1.groups p.groups) (eqb c.1.clauses (length p.clauses)) same.0 in
+                    let (vars, groups) = and_parts (eqb c.1.vars p.vars) (eqb c.1.groups p.groups) both in
+                    letter-ok 112 l (omega arith) is.0 ∙ ap (λ (ws : List Word). codes "p" ∷ ws) (counts-ok (behind l) c.0 c.1 a)
+                    ∙ ap (λ (n : ℕ). codes "p" ∷ head_words c.0 (record { vars = n; groups = c.1.groups; clauses = c.1.clauses })) (eqb-true c.1.vars p.vars vars)
+                    ∙ ap₂ (λ (m n : ℕ). codes "p" ∷ head_words c.0 (record { vars = p.vars; groups = n; clauses = m })) (eqb-true c.1.clauses (length p.clauses) clauses)
+                    (eqb-true c.1.groups p.groups groups)
+                    ∙ ap (λ (x : Version). head_line x p) named
                 | inr other ↦ cc (other.1)
               ]
           | inr none ↦ cc (none.1)

@@ -8,7 +8,8 @@ use Rattle.std.proofs.lemmas.Bool.{cases_lt}
 use Rattle.std.proofs.lemmas.Option.{slice_get_within, get_or_from_slice_get}
 use Rattle.std.proofs.lemmas.List.Concat.{flat_map-append, flat_map-cons}
 use Rattle.sat_base.specs.Derivation.{Step, Derivation}
-use Rattle.evidence_text.specs.Text.{Word, Line, spaced, line_text, text_of, set_line, step_line, goal_line, witness_line, trues_from, refutation_lines, refutations_lines, witnesses_lines, exhaustion_line, end_line, end_text}
+use Rattle.evidence_rec.specs.declared.record.Refutation.{Refutation}
+use Rattle.evidence_text.specs.Text.{Word, Line, spaced, line_text, text_of, set_line, step_line, goal_line, reference_line, witness_line, trues_from, derivation_lines, refutations_lines, witnesses_lines, exhaustion_line, end_line, end_text}
 
 -- mapped words, each behind a blank
 pub spaced-map : {X : Type 0} (f : X → Word) (xs : List X) → spaced (map f xs) ≡ flat_map (λ x. codes " " ++ f x) xs
@@ -46,6 +47,14 @@ chain_of_five out a b c d = simp append_assoc
 
 chain_of_seven : (out a b c d e f : List ℕ) → (((((out ++ a) ++ b) ++ c) ++ d) ++ e) ++ f ≡ out ++ (a ++ (b ++ (c ++ (d ++ (e ++ f)))))
 chain_of_seven out a b c d e f = simp append_assoc
+
+pub reference_text : (out : List ℕ) (g i : ℕ)
+    → (((out ++ codes "t") ++ (codes " " ++ decimal g)) ++ (codes " " ++ decimal i)) ++ codes "\n" ≡ out ++ line_text (reference_line g i)
+reference_text out g i =
+    let b : List ℕ = codes " " ++ decimal g in
+    let c : List ℕ = codes " " ++ decimal i in
+    chain_of_five out (codes "t") b c (codes "\n")
+    ∙ ap (λ t. out ++ (codes "t" ++ t)) (ap (λ t. b ++ (t ++ codes "\n")) (sym (append-nil c)) ∙ sym (append_assoc b (c ++ []) (codes "\n")))
 
 pub witness_text : (out : List ℕ) (g : ℕ) (w : List Bool)
     → (((out ++ codes "w") ++ (codes " " ++ decimal g)) ++ flat_map (λ n. codes " " ++ decimal n) (trues_from 1 w)) ++ codes " 0\n" ≡ out ++ line_text (witness_line g w)
@@ -125,28 +134,28 @@ witnesses-over old total groups ws i h so_far =
       | inr le ↦ inl (omega (arith, length-drop i groups, le))
     ]
 
-no_refutations : (gs : List ℕ) (ds : List Derivation) → (length gs ≡ 0) ⊎ (length ds ≡ 0) → refutations_lines gs ds ≡ []
-no_refutations [] ds h = refl
+no_refutations : (gs : List ℕ) (rs : List Refutation) → (length gs ≡ 0) ⊎ (length rs ≡ 0) → refutations_lines gs rs ≡ []
+no_refutations [] rs h = refl
 no_refutations (g ∷ gs) [] h = refl
-no_refutations (g ∷ gs) (d ∷ ds) (inl h) = absurd (omega (arith, h))
-no_refutations (g ∷ gs) (d ∷ ds) (inr h) = absurd (omega (arith, h))
+no_refutations (g ∷ gs) (r ∷ rs) (inl h) = absurd (omega (arith, h))
+no_refutations (g ∷ gs) (r ∷ rs) (inr h) = absurd (omega (arith, h))
 
-pub refutations-over : (old total groups : List ℕ) (ds : List Derivation) (i : ℕ) → min (length groups) (length ds) ≤ i
-    → old ++ text_of (refutations_lines (drop i groups) (drop i ds)) ≡ total → old ≡ total
-refutations-over old total groups ds i h so_far =
-    sym (append-nil old) ∙ sym (ap (λ ls. old ++ text_of ls) (no_refutations (drop i groups) (drop i ds) none)) ∙ so_far
+pub refutations-over : (old total groups : List ℕ) (rs : List Refutation) (i : ℕ) → min (length groups) (length rs) ≤ i
+    → old ++ text_of (refutations_lines (drop i groups) (drop i rs)) ≡ total → old ≡ total
+refutations-over old total groups rs i h so_far =
+    sym (append-nil old) ∙ sym (ap (λ ls. old ++ text_of ls) (no_refutations (drop i groups) (drop i rs) none)) ∙ so_far
   where
-    none : (length (drop i groups) ≡ 0) ⊎ (length (drop i ds) ≡ 0)
+    none : (length (drop i groups) ≡ 0) ⊎ (length (drop i rs) ≡ 0)
     none = elim (cases_lt i (length groups)) [
-      | inl lt ↦ inr (omega (arith, length-drop i ds, lt, h))
+      | inl lt ↦ inr (omega (arith, length-drop i rs, lt, h))
       | inr le ↦ inl (omega (arith, length-drop i groups, le))
     ]
 
 -- ---- whole records
 
-pub refutation_text : (out : List ℕ) (g goal : ℕ) (d : Derivation) → goal ≡ d.goal
-    → (out ++ text_of (map step_line d.steps)) ++ line_text (goal_line g goal) ≡ out ++ text_of (refutation_lines g d)
-refutation_text out g goal d same =
+pub derivation_text : (out : List ℕ) (g goal : ℕ) (d : Derivation) → goal ≡ d.goal
+    → (out ++ text_of (map step_line d.steps)) ++ line_text (goal_line g goal) ≡ out ++ text_of (derivation_lines g d)
+derivation_text out g goal d same =
     append_assoc out (text_of (map step_line d.steps)) (line_text (goal_line g goal))
     ∙ ap (λ t. out ++ t)
     (ap (λ n. text_of (map step_line d.steps) ++ line_text (goal_line g n)) same

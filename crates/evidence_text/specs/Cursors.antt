@@ -9,6 +9,7 @@ use Rattle.gm_base.specs.Problem.{Problem}
 use Rattle.evidence_text.specs.Reading.{Below, below, ◌>>=◌, ascending_at, items_at, is_over, with_trues, is_letter, behind, goal_at, set_at, last_word_at, proof_at, conflict_at, correction_at, closing_at, nothing_behind, at_line, offence}
 use Rattle.evidence_text.specs.declared.answer.Answer.{Answer}
 use Rattle.evidence_text.specs.declared.answer.Answer.TheVariants as answer
+use Rattle.evidence_text.specs.declared.version.Version.{Version}
 use Rattle.evidence_text.specs.declared.goal.Goal.{Goal}
 use Rattle.evidence_text.specs.declared.offence.Offence.{Offence}
 use Rattle.evidence_text.specs.declared.offence.Stop.{Stop}
@@ -128,8 +129,9 @@ abbrev pub ReadsNothing : Result (Unit {0}) Stop → ℕ → Bool → Type 0
 ReadsNothing (Ok x) at nothing = nothing ≡ true
 ReadsNothing (Err s) at nothing = (nothing ≡ false) × (s ≡ stop.Refused (offence at TrailingText))
 
-abbrev pub ReadsHead : Result (Unit {0}) Offence → Below → Result Below Offence → Type 0
-ReadsHead (Ok x) left read = read ≡ Ok left
+-- the version
+abbrev pub ReadsHead : Result Version Offence → Below → Result (Version × Below) Offence → Type 0
+ReadsHead (Ok version) left read = read ≡ Ok (version, left)
 ReadsHead (Err o) left read = read ≡ Err o
 
 -- the derivation that is read at lines
@@ -167,10 +169,10 @@ conflict_behind p line ws b = do
   Ok (answer.Record r.0, r.1)
 
 -- a correction
-abbrev pub correction_behind : Problem → ℕ → List Word → Below → Result (Answer × Below) Offence
-correction_behind p line ws b = do
+abbrev pub correction_behind : Version → Problem → ℕ → List Word → Below → Result (Answer × Below) Offence
+correction_behind version p line ws b = do
   set ← at_line line (set_at p.groups ws)
-  r ← correction_at p set b.at b.lines
+  r ← correction_at version p set b.at b.lines
   Ok (answer.Record r.0, r.1)
 
 -- the end of what is not closed

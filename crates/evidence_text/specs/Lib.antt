@@ -8,3 +8,4 @@ pub mod Scan
 pub mod Items
 pub mod Cursors
 pub mod Laws
+pub mod Rows

@@ -12,12 +12,16 @@ use Rattle.lrat_check.specs.declared.why.Why.TheVariants.{BadLine, BadNumber, Tr
 use Rattle.lrat_check.specs.declared.why.Counts.{Counts}
 use Rattle.evidence_rec.specs.declared.record.Record.{Record}
 use Rattle.evidence_rec.specs.declared.record.Record.TheVariants as record_of
+use Rattle.evidence_rec.specs.declared.record.Refutation.{Refutation}
+use Rattle.evidence_rec.specs.declared.record.Refutation.TheVariants.{Steps, Earlier}
 use Rattle.evidence_text.specs.Text.{Word, Line}
 use Rattle.evidence_text.specs.declared.offence.Offence.{Offence}
 use Rattle.evidence_text.specs.declared.goal.Goal.{Goal}
 use Rattle.evidence_text.specs.declared.goal.Goal.TheVariants.{Refutes, Exhausts}
 use Rattle.evidence_text.specs.declared.answer.Answer.{Answer}
 use Rattle.evidence_text.specs.declared.answer.Answer.TheVariants as answer
+use Rattle.evidence_text.specs.declared.version.Version.{Version}
+use Rattle.evidence_text.specs.declared.version.Version.TheVariants.{One, Two}
 
 infixl 10 ◌>>=◌
 -- goes on with what was read, or stops at the offence
@@ -82,15 +86,19 @@ line_end x ws = if is_over ws then Ok x else Err BadLine
 
 -- ---- lines, by what stands behind their first word
 
--- the numbers of the head, behind `p`
-unfoldable pub counts_at : List Word → Result Counts Why
+-- the version of this number
+abbrev pub version_of : ℕ → Version
+version_of n = if n == 1 then One else Two
+
+-- the version and the numbers of the head, behind `p`
+unfoldable pub counts_at : List Word → Result (Version × Counts) Why
 counts_at ws = do
   format ← word_at (codes "gmev") ws
-  version ← number_at 1 1 format
+  version ← number_at 1 2 format
   vars ← number_at 0 (2 ^ 64 - 1) version.1
   clauses ← number_at 0 (2 ^ 64 - 1) vars.1
   groups ← number_at 0 (2 ^ 64 - 1) clauses.1
-  line_end (record { vars = vars.0; groups = groups.0; clauses = clauses.0 }) groups.1
+  line_end (version_of version.0, record { vars = vars.0; groups = groups.0; clauses = clauses.0 }) groups.1
 
 -- a set of groups up to this one
 unfoldable pub set_at : ℕ → List Word → Result (List ℕ) Why
@@ -121,7 +129,7 @@ witness_at vars g ws = do
   trues ← ascending_at 0 vars group.1
   line_end (values_of vars trues.0) trues.1
 
--- the goal of a refutation of a group, or of the closing part
+-- the goal of steps for a group, or of the closing part; the words that name an earlier record are those of a goal
 unfoldable pub goal_at : Goal → List Word → Result ℕ Why
 goal_at (Refutes g) ws = do
   group ← number_at g g ws
@@ -210,13 +218,29 @@ witnesses_at vars (g ∷ gs) at ls = do
   ws ← witnesses_at vars gs w.1.at w.1.lines
   Ok (w.0 ∷ ws.0, ws.1)
 
--- of each group its refutation
-unfoldable pub refutations_at : ℕ → List ℕ → ℕ → List Line → Result (List Derivation × Below) Offence
-refutations_at vars [] at ls = Ok ([], below at ls)
-refutations_at vars (g ∷ gs) at ls = do
+-- a group's refutation by steps
+abbrev pub steps_at : ℕ → ℕ → ℕ → List Line → Result (Refutation × Below) Offence
+steps_at vars g at ls = do
   d ← proof_at vars (Refutes g) at ls
-  ds ← refutations_at vars gs d.1.at d.1.lines
-  Ok (d.0 ∷ ds.0, ds.1)
+  Ok (Steps d.0, d.1)
+
+-- a group's refutation: in version 2 the line that names an earlier record (`t`), or steps; in version 1 steps
+unfoldable pub refutation_at : Version → ℕ → ℕ → ℕ → List Line → Result (Refutation × Below) Offence
+refutation_at One vars g at ls = steps_at vars g at ls
+refutation_at Two vars g at [] = Err (offence at Truncated)
+refutation_at Two vars g at (l ∷ ls) =
+    if is_letter 116 l then (do
+      i ← at_line at (goal_at (Refutes g) (behind l))
+      Ok (Earlier i, below (at + 1) ls))
+    else steps_at vars g at (l ∷ ls)
+
+-- of each group its refutation
+unfoldable pub refutations_at : Version → ℕ → List ℕ → ℕ → List Line → Result (List Refutation × Below) Offence
+refutations_at version vars [] at ls = Ok ([], below at ls)
+refutations_at version vars (g ∷ gs) at ls = do
+  r ← refutation_at version vars g at ls
+  rs ← refutations_at version vars gs r.1.at r.1.lines
+  Ok (r.0 ∷ rs.0, rs.1)
 
 -- what stands behind the line of a conflict's set
 unfoldable pub conflict_at : Problem → List ℕ → ℕ → List Line → Result (Record × Below) Offence
@@ -226,10 +250,10 @@ conflict_at p set at ls = do
   Ok (record_of.Conflict set proof.0 ws.0, ws.1)
 
 -- what stands behind the line of a correction's set
-unfoldable pub correction_at : Problem → List ℕ → ℕ → List Line → Result (Record × Below) Offence
-correction_at p set at ls = do
+unfoldable pub correction_at : Version → Problem → List ℕ → ℕ → List Line → Result (Record × Below) Offence
+correction_at version p set at ls = do
   w ← witness_line_at p.vars 0 at ls
-  proofs ← refutations_at (p.vars + p.groups) set w.1.at w.1.lines
+  proofs ← refutations_at version (p.vars + p.groups) set w.1.at w.1.lines
   Ok (record_of.Correction set w.0 proofs.0, proofs.1)
 
 -- the last line, behind the closing part
@@ -258,16 +282,16 @@ nothing_behind rest closing b = if is_nothing b.lines rest then Ok (answer.End c
 
 -- a record, or the end, where these bytes stand behind the last line: a conflict (`u`), a correction (`m`), the end of what
 -- is not closed (`e`), or else the closing part
-unfoldable pub piece_at : Problem → List ℕ → ℕ → List Line → Result (Answer × Below) Offence
-piece_at p rest at [] = Err (offence at Truncated)
-piece_at p rest at (l ∷ ls) =
+unfoldable pub piece_at : Version → Problem → List ℕ → ℕ → List Line → Result (Answer × Below) Offence
+piece_at version p rest at [] = Err (offence at Truncated)
+piece_at version p rest at (l ∷ ls) =
     if is_letter 117 l then (do
       set ← at_line at (set_at p.groups (behind l))
       r ← conflict_at p set (at + 1) ls
       Ok (answer.Record r.0, r.1))
     else (if is_letter 109 l then (do
       set ← at_line at (set_at p.groups (behind l))
-      r ← correction_at p set (at + 1) ls
+      r ← correction_at version p set (at + 1) ls
       Ok (answer.Record r.0, r.1))
     else (if is_letter 101 l then (do
       _end ← at_line at (last_word_at (codes "partial") (behind l))
@@ -283,17 +307,17 @@ counts_of p = record { vars = p.vars; groups = p.groups; clauses = length p.clau
 abbrev pub same_counts : Counts → Counts → Bool
 same_counts a b = (a.vars == b.vars) && (a.groups == b.groups) && (a.clauses == b.clauses)
 
--- the head's line (`p`), which names the problem's numbers
-unfoldable pub head_words_at : Problem → Line → Result (Unit {0}) Why
+-- the version that the head's line (`p`) names, with the problem's numbers
+unfoldable pub head_words_at : Problem → Line → Result Version Why
 head_words_at p l =
     if is_letter 112 l then (do
       counts ← counts_at (behind l)
-      (if same_counts counts (counts_of p) then Ok tt else Err (OtherProblem (record { text = counts; problem = counts_of p }))))
+      (if same_counts counts.1 (counts_of p) then Ok counts.0 else Err (OtherProblem (record { text = counts.1; problem = counts_of p }))))
     else Err BadLine
 
--- the head
-unfoldable pub head_at : Problem → ℕ → List Line → Result Below Offence
+-- the head, which tells the version
+unfoldable pub head_at : Problem → ℕ → List Line → Result (Version × Below) Offence
 head_at p at [] = Err (offence at Truncated)
 head_at p at (l ∷ ls) = do
-  _head ← at_line at (head_words_at p l)
-  Ok (below (at + 1) ls)
+  version ← at_line at (head_words_at p l)
+  Ok (version, below (at + 1) ls)

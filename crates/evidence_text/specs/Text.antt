@@ -1,6 +1,6 @@
--- The text of evidence, version 1: lines of words, with one blank between two words and LF behind each line. A number is
--- written in its one form, its decimal digits without leading zeros, behind `-` where it is negative. So each list of
--- records has one text, and no two of them have the same.
+-- The text of evidence, versions 1 and 2: lines of words, with one blank between two words and LF behind each line. A
+-- number is written in its one form, its decimal digits without leading zeros, behind `-` where it is negative. So each
+-- list of records has one text of a version, and no two of them have the same.
 use Rattle.std.specs.Prelude.{ℕ, ◌+◌, Bool, true, false, List, [], ◌∷◌, ◌++◌, map, length, codes, Option, Some, None}
 use Rattle.std.specs.List.{flat_map}
 use Rattle.std.specs.Fmt.{decimal, signed_decimal}
@@ -10,6 +10,10 @@ use Rattle.gm_base.specs.declared.kind.Kind.{Kind}
 use Rattle.gm_base.specs.declared.kind.Kind.TheVariants.{Conflict, Correction}
 use Rattle.evidence_rec.specs.declared.record.Record.{Record}
 use Rattle.evidence_rec.specs.declared.record.Record.TheVariants as record_of
+use Rattle.evidence_rec.specs.declared.record.Refutation.{Refutation}
+use Rattle.evidence_rec.specs.declared.record.Refutation.TheVariants.{Steps, Earlier}
+use Rattle.evidence_text.specs.declared.version.Version.{Version}
+use Rattle.evidence_text.specs.declared.version.Version.TheVariants.{One, Two}
 
 -- the bytes of a word
 abbrev pub Word : Type 0
@@ -34,9 +38,15 @@ text_of ls = flat_map line_text ls
 
 -- ---- the lines, by their words
 
--- `p gmev 1`, and how many variables, clauses and groups the problem has
-abbrev pub head_line : Problem → Line
-head_line p = codes "p" ∷ codes "gmev" ∷ codes "1" ∷ decimal p.vars ∷ decimal (length p.clauses) ∷ decimal p.groups ∷ []
+-- the number of a version
+abbrev pub version_number : Version → ℕ
+version_number One = 1
+version_number Two = 2
+
+-- `p gmev`, the version, and how many variables, clauses and groups the problem has
+abbrev pub head_line : Version → Problem → Line
+head_line version p =
+    codes "p" ∷ codes "gmev" ∷ decimal (version_number version) ∷ decimal p.vars ∷ decimal (length p.clauses) ∷ decimal p.groups ∷ []
 
 -- the letter of a kind
 abbrev pub set_letter : Kind → Word
@@ -51,9 +61,13 @@ set_line letter set = letter ∷ (map decimal set ++ codes "0" ∷ [])
 abbrev pub step_line : Step → Line
 step_line s = codes "d" ∷ decimal s.id ∷ (map signed_decimal s.lits ++ codes "0" ∷ (map decimal s.hints ++ codes "0" ∷ []))
 
--- the goal of the refutation for a group
+-- the goal of the steps for a group
 abbrev pub goal_line : ℕ → ℕ → Line
 goal_line g goal = codes "r" ∷ decimal g ∷ decimal goal ∷ []
+
+-- the number of the earlier record that refutes a group
+abbrev pub reference_line : ℕ → ℕ → Line
+reference_line g i = codes "t" ∷ decimal g ∷ decimal i ∷ []
 
 -- the variables that are true, where the first value is that of this variable
 abbrev pub trues_from : ℕ → List Bool → List ℕ
@@ -75,15 +89,20 @@ end_line how = codes "e" ∷ how ∷ []
 
 -- ---- records
 
--- the refutation for a group: its steps, and its goal
-abbrev pub refutation_lines : ℕ → Derivation → List Line
-refutation_lines g d = map step_line d.steps ++ goal_line g d.goal ∷ []
+-- the derivation for a group: its steps, and its goal
+abbrev pub derivation_lines : ℕ → Derivation → List Line
+derivation_lines g d = map step_line d.steps ++ goal_line g d.goal ∷ []
+
+-- the refutation for a group: a derivation, or the number of an earlier record
+abbrev pub refutation_lines : ℕ → Refutation → List Line
+refutation_lines g (Steps d) = derivation_lines g d
+refutation_lines g (Earlier i) = reference_line g i ∷ []
 
 -- of each group its refutation
-abbrev pub refutations_lines : List ℕ → List Derivation → List Line
-refutations_lines [] ds = []
+abbrev pub refutations_lines : List ℕ → List Refutation → List Line
+refutations_lines [] rs = []
 refutations_lines (g ∷ gs) [] = []
-refutations_lines (g ∷ gs) (d ∷ ds) = refutation_lines g d ++ refutations_lines gs ds
+refutations_lines (g ∷ gs) (r ∷ rs) = refutation_lines g r ++ refutations_lines gs rs
 
 -- of each group its witness
 abbrev pub witnesses_lines : List ℕ → List (List Bool) → List Line
@@ -91,11 +110,11 @@ witnesses_lines [] ws = []
 witnesses_lines (g ∷ gs) [] = []
 witnesses_lines (g ∷ gs) (w ∷ ws) = witness_line g w ∷ witnesses_lines gs ws
 
--- a conflict: its set, its refutation under the number 0, and of each group its witness; a correction: its set, its
+-- a conflict: its set, its derivation under the number 0, and of each group its witness; a correction: its set, its
 -- witness under the number 0, and of each group its refutation
 abbrev pub record_lines : Record → List Line
 record_lines (record_of.Conflict set proof witnesses) =
-    set_line (codes "u") set ∷ (refutation_lines 0 proof ++ witnesses_lines set witnesses)
+    set_line (codes "u") set ∷ (derivation_lines 0 proof ++ witnesses_lines set witnesses)
 record_lines (record_of.Correction set witness proofs) =
     set_line (codes "m") set ∷ witness_line 0 witness ∷ refutations_lines set proofs
 
@@ -106,8 +125,8 @@ end_lines (Some d) = map step_line d.steps ++ exhaustion_line d.goal ∷ end_lin
 
 -- ---- texts
 
-abbrev pub head_text : Problem → List ℕ
-head_text p = line_text (head_line p)
+abbrev pub head_text : Version → Problem → List ℕ
+head_text version p = line_text (head_line version p)
 
 abbrev pub record_text : Record → List ℕ
 record_text r = text_of (record_lines r)
@@ -115,6 +134,6 @@ record_text r = text_of (record_lines r)
 abbrev pub end_text : Option Derivation → List ℕ
 end_text closing = text_of (end_lines closing)
 
--- the text of these records about the problem, closed or not
-abbrev pub evidence_text : Problem → List Record → Option Derivation → List ℕ
-evidence_text p records closing = head_text p ++ flat_map record_text records ++ end_text closing
+-- the text of these records about the problem, closed or not, in a version that can hold them
+abbrev pub evidence_text : Version → Problem → List Record → Option Derivation → List ℕ
+evidence_text version p records closing = head_text version p ++ flat_map record_text records ++ end_text closing

@@ -6,6 +6,7 @@ ghost use Rattle.evidence_text.specs.Cursors.{words_left, ReadsLine, ReadsLineUn
 
 use crate::goal::Goal;
 use crate::offence::Halt;
+use crate::version::Version;
 use crate::words::Words;
 use gm_base::{Assign, AssignBuilder, GroupSet, Lit};
 use lrat_check::{Counts, Why};
@@ -14,22 +15,23 @@ use std::alloc::Global;
 /// The greatest id.
 pub(crate) const MAX_ID: u64 = 9_223_372_036_854_775_807;
 
-/// The head's numbers.
+/// The version, and the head's numbers.
 #[tactic(auto, unfolding(crate::specs::Reading::counts_at))]
-pub(crate) fn read_counts(mut words: Words<'_>) -> Result<Counts, Why>
+pub(crate) fn read_counts(mut words: Words<'_>) -> Result<(Version, Counts), Why>
     ensures { ReadsLine (λ c. c) result (counts_at (words_left words.entry)) }
 {
     words.word(b"gmev")?;
-    words.number(1, 1)?;
+    let version = words.number(1, 2)?;
     let vars = words.number(0, u64::MAX)?;
     let clauses = words.number(0, u64::MAX)?;
     let groups = words.number(0, u64::MAX)?;
     words.end()?;
-    Ok(Counts {
+    let counts = Counts {
         vars,
         groups,
         clauses,
-    })
+    };
+    Ok((Version::of_number(version), counts))
 }
 
 /// A set of groups up to this one.
@@ -130,7 +132,7 @@ fn read_trues(words: &mut Words<'_>, vars: u32, values: &mut AssignBuilder) -> R
     Ok(())
 }
 
-/// The id that a goal's line names.
+/// The id that a goal's line names, or the number of an earlier record where that is named in its place.
 #[tactic(auto, unfolding(crate::specs::Reading::goal_at))]
 pub(crate) fn read_goal(mut words: Words<'_>, goal: Goal) -> Result<u64, Why>
     ensures goal { ReadsLine (λ id. id) result (goal_at goal (words_left words.entry)) }

@@ -2,11 +2,12 @@
 //!
 //! The types of a problem and of a record keep their numbers small enough for a text. These calls do nothing: the fact is
 //! what their callers want, with which what they write of accepted records is read back.
+ghost use Rattle.std.specs.Prelude.{◌≤◌, length};
 ghost use Rattle.std.specs.List.{AllByRecursion};
-ghost use Rattle.sat_base.specs.Derivation.{HasIds};
-ghost use Rattle.evidence_text.specs.Readable.{IsSmall, HasRecordIds};
+ghost use Rattle.sat_base.specs.Derivation.{max_id};
+ghost use Rattle.evidence_text.specs.Readable.{IsSmall, HasRecordIds, HasRefutationIds};
 
-use evidence_rec::{Proofs, Record};
+use evidence_rec::{Proofs, Record, Refutation};
 use gm_base::Problem;
 
 /// That the head can hold the numbers of a problem.
@@ -15,6 +16,13 @@ pub fn problem_fits(problem: &Problem)
 {
     let _groups = problem.groups();
     let _clauses = problem.len();
+}
+
+/// That lines can hold the numbers of records.
+pub fn count_fits(records: &[Record])
+    ensures { length records.now ≤ max_id }
+{
+    let _count = records.len();
 }
 
 /// That lines can hold the ids of a record.
@@ -30,9 +38,17 @@ pub fn record_fits(r: &Record)
 }
 
 fn proofs_fit(proofs: &Proofs)
-    ensures { AllByRecursion HasIds proofs.now }
+    ensures { AllByRecursion HasRefutationIds proofs.now }
 {
     for at in 0..proofs.len() {
-        let _goal = proofs.at(at).goal();
+        refutation_fits(proofs.at(at));
+    }
+}
+
+fn refutation_fits(refutation: &Refutation)
+    ensures { HasRefutationIds refutation.now }
+{
+    if let Refutation::Steps(proof) = refutation {
+        let _goal = proof.goal();
     }
 }

@@ -4,17 +4,19 @@
 //! part or the word that there is none:
 //!
 //! ```text
-//! p gmev 1 0 1 1
+//! p gmev 2 0 1 1
 //! u 1 0
 //! r 0 1
 //! w 1 0
 //! m 1 0
 //! w 0 0
-//! r 1 1
+//! t 1 1
 //! d 3 0 1 2 0
 //! x 3
 //! e complete
 //! ```
+//!
+//! A text of version 1 has no line that names an earlier record (`t`). Both versions are read, and version 2 is written.
 //!
 //! [`write_head`], [`write_record`] and [`write_end`] append to a text; who has no room for a whole record calls
 //! [`put_record`] or [`put_evidence`] with a [`LineSink`], which takes the lines out of a buffer as they come. An
@@ -51,15 +53,17 @@ mod putting;
 mod reader;
 mod record;
 mod scan;
+mod version;
 mod whole;
 mod words;
 mod writing;
 
 pub use answer::Answer;
-pub use fitting::{problem_fits, record_fits};
+pub use fitting::{count_fits, problem_fits, record_fits};
 pub use line_sink::{LineSink, PutError};
 pub use offence::Offence;
 pub use putting::{put_evidence, put_record};
 pub use reader::EvidenceReader;
+pub use version::Version;
 pub use whole::{write_end, write_record};
 pub use writing::write_head;

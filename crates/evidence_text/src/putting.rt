@@ -6,19 +6,20 @@
 ghost use Rattle.std.specs.Prelude.{◌≡◌, ℕ, List, ◌++◌, codes, map, OnOk};
 ghost use Rattle.std.specs.List.{flat_map};
 ghost use Rattle.std.specs.Option.{option_map};
-ghost use Rattle.evidence_text.specs.Text.{line_text, head_text, record_text, end_text, evidence_text, set_line, step_line, goal_line, witness_line, exhaustion_line, end_line, set_letter, text_of, refutation_lines, refutations_lines, witnesses_lines};
+ghost use Rattle.evidence_text.specs.Text.{line_text, head_text, record_text, end_text, evidence_text, set_line, step_line, goal_line, reference_line, witness_line, exhaustion_line, end_line, set_letter, text_of, derivation_lines, refutation_lines, refutations_lines, witnesses_lines};
 ghost use Rattle.evidence_text.specs.Putting.{Puts};
+ghost use Rattle.evidence_text.specs.declared.version.Version.TheVariants.{Two};
 
 use crate::line_sink::{LineSink, PutError};
 use crate::writing::{
-    write_complete, write_exhaustion, write_goal, write_head, write_partial, write_set, write_step,
-    write_witness,
+    write_complete, write_exhaustion, write_goal, write_head, write_partial, write_reference,
+    write_set, write_step, write_witness,
 };
-use evidence_rec::{Proofs, Record, Witnesses};
+use evidence_rec::{Proofs, Record, Refutation, Witnesses};
 use gm_base::{Assign, Derivation, GroupSet, Kind, Problem, Step};
 use std::alloc::AllocError;
 
-/// Puts the text of these records about the problem, and what closes them.
+/// Puts the text of these records about the problem, and what closes them, in version 2.
 pub fn put_evidence<S: LineSink>(
     problem: &Problem,
     records: &[Record],
@@ -26,7 +27,7 @@ pub fn put_evidence<S: LineSink>(
     sink: &mut S,
     waiting: &mut Vec<u8>,
 ) -> Result<(), PutError<S::Error>>
-    ensures { Puts (S.took sink.old sink.new) (S.stopped sink.old sink.new) waiting.old.items waiting.new.items (evidence_text problem.now records.now (option_map (λ d. d.now) closing.entry)) result }
+    ensures { Puts (S.took sink.old sink.new) (S.stopped sink.old sink.new) waiting.old.items waiting.new.items (evidence_text Two problem.now records.now (option_map (λ d. d.now) closing.entry)) result }
 {
     put_head(problem, sink, waiting)?;
     put_records(records, sink, waiting)?;
@@ -62,7 +63,7 @@ pub fn put_record<S: LineSink>(
             witnesses,
         } => {
             put_set(Kind::Conflict, set, sink, waiting)?;
-            put_refutation(0, proof, sink, waiting)?;
+            put_derivation(0, proof, sink, waiting)?;
             put_witnesses(set.as_slice(), witnesses, sink, waiting)
         }
         Record::Correction {
@@ -107,14 +108,29 @@ fn put_refutations<S: LineSink>(
     Ok(())
 }
 
-/// The refutation of a group: its steps, and its goal.
+/// The refutation of a group: a derivation, or the number of an earlier record.
 fn put_refutation<S: LineSink>(
+    group: u32,
+    refutation: &Refutation,
+    sink: &mut S,
+    waiting: &mut Vec<u8>,
+) -> Result<(), PutError<S::Error>>
+    ensures { Puts (S.took sink.old sink.new) (S.stopped sink.old sink.new) waiting.old.items waiting.new.items (text_of (refutation_lines group refutation.now)) result }
+{
+    match refutation {
+        Refutation::Steps(proof) => put_derivation(group, proof, sink, waiting),
+        Refutation::Earlier(number) => put_reference(group, *number, sink, waiting),
+    }
+}
+
+/// The derivation for a group: its steps, and its goal.
+fn put_derivation<S: LineSink>(
     group: u32,
     proof: &Derivation,
     sink: &mut S,
     waiting: &mut Vec<u8>,
 ) -> Result<(), PutError<S::Error>>
-    ensures { Puts (S.took sink.old sink.new) (S.stopped sink.old sink.new) waiting.old.items waiting.new.items (text_of (refutation_lines group proof.now)) result }
+    ensures { Puts (S.took sink.old sink.new) (S.stopped sink.old sink.new) waiting.old.items waiting.new.items (text_of (derivation_lines group proof.now)) result }
 {
     put_steps(proof, sink, waiting)?;
     put_goal(group, proof.goal(), sink, waiting)
@@ -157,7 +173,7 @@ fn put_head<S: LineSink>(
     sink: &mut S,
     waiting: &mut Vec<u8>,
 ) -> Result<(), PutError<S::Error>>
-    ensures { Puts (S.took sink.old sink.new) (S.stopped sink.old sink.new) waiting.old.items waiting.new.items (head_text problem.now) result }
+    ensures { Puts (S.took sink.old sink.new) (S.stopped sink.old sink.new) waiting.old.items waiting.new.items (head_text Two problem.now) result }
 {
     let written = write_head(problem, waiting);
     finish(written, sink, waiting)
@@ -195,6 +211,18 @@ fn put_goal<S: LineSink>(
     ensures { Puts (S.took sink.old sink.new) (S.stopped sink.old sink.new) waiting.old.items waiting.new.items (line_text (goal_line group goal)) result }
 {
     let written = write_goal(group, goal, waiting);
+    finish(written, sink, waiting)
+}
+
+fn put_reference<S: LineSink>(
+    group: u32,
+    number: u64,
+    sink: &mut S,
+    waiting: &mut Vec<u8>,
+) -> Result<(), PutError<S::Error>>
+    ensures { Puts (S.took sink.old sink.new) (S.stopped sink.old sink.new) waiting.old.items waiting.new.items (line_text (reference_line group number)) result }
+{
+    let written = write_reference(group, number, waiting);
     finish(written, sink, waiting)
 }
 

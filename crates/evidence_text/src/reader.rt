@@ -11,6 +11,7 @@ use crate::head::read_head;
 use crate::lines::Lines;
 use crate::offence::{Offence, Stop};
 use crate::record::read_piece;
+use crate::version::Version;
 use gm_base::Problem;
 use std::alloc::{AllocError, Global};
 use std::marker::Model;
@@ -19,6 +20,7 @@ use std::marker::Model;
 #[derive(Drop)]
 pub struct EvidenceReader<'a> {
     problem: &'a Problem,
+    version: Version,
     lines: Lines<'a>,
     line: u64,
     begun: bool,
@@ -31,7 +33,7 @@ impl<'a> Model for EvidenceReader<'a> {
 
     ghost Value = { Reader };
 
-    ghost view = { λ r. record { problem = r.problem.now; left = left_of r.lines; rest = rest_of r.lines; line = r.line; begun = r.begun; offence = r.offence } };
+    ghost view = { λ r. record { problem = r.problem.now; version = r.version; left = left_of r.lines; rest = rest_of r.lines; line = r.line; begun = r.begun; offence = r.offence } };
 }
 
 impl<'a> EvidenceReader<'a> {
@@ -41,6 +43,7 @@ impl<'a> EvidenceReader<'a> {
     {
         EvidenceReader {
             problem,
+            version: Version::One,
             lines: Lines::new(bytes),
             line: 1,
             begun: false,
@@ -63,7 +66,8 @@ impl<'a> EvidenceReader<'a> {
         self.begun = true;
         let mut lines = self.lines;
         match read_head(&mut lines, self.problem) {
-            Ok(()) => {
+            Ok(version) => {
+                self.version = version;
                 self.lines = lines;
                 Ok(())
             },
@@ -89,7 +93,7 @@ impl<'a> EvidenceReader<'a> {
         }
         let mut lines = self.lines;
         let first = lines.at;
-        match read_piece(alloc, &mut lines, self.problem) {
+        match read_piece(alloc, &mut lines, self.problem, self.version) {
             Ok(Answer::Record(r)) => {
                 self.line = first;
                 self.lines = lines;

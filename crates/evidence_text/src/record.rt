@@ -1,16 +1,17 @@
 //! Records.
 ghost use Rattle.std.specs.Prelude.{◌≡◌, ◌<◌, ◌+◌, ◌^◌, OnOk};
-ghost use Rattle.evidence_text.specs.Reading.{at_line, set_at, last_word_at, witness_line_at, witnesses_at, refutations_at, conflict_at, correction_at, closing_at, complete_at, piece_at, is_nothing};
+ghost use Rattle.evidence_text.specs.Reading.{at_line, set_at, last_word_at, witness_line_at, witnesses_at, steps_at, refutation_at, refutations_at, conflict_at, correction_at, closing_at, complete_at, piece_at, is_nothing};
 ghost use Rattle.evidence_text.specs.Cursors.{left_of, rest_of, words_left, Gives, GivesBelow, GivesLine, ReadsNothing, conflict_behind, correction_behind, partial_behind, closing_ahead};
 
 use crate::answer::Answer;
-use crate::fields::{read_last_word, read_set, read_witness};
+use crate::fields::{read_goal, read_last_word, read_set, read_witness};
 use crate::goal::Goal;
 use crate::lines::Lines;
 use crate::offence::{Stop, on_line, refusal};
 use crate::proof::read_proof;
+use crate::version::Version;
 use crate::words::{Words, first_word};
-use evidence_rec::{Proofs, Record, Witnesses};
+use evidence_rec::{Proofs, Record, Refutation, Witnesses};
 use gm_base::{Assign, Derivation, GroupSet, Problem};
 use lrat_check::Why;
 use std::alloc::Global;
@@ -59,22 +60,85 @@ fn read_witnesses(
     Ok(Witnesses::from_vec(witnesses))
 }
 
+/// A group's refutation by steps.
+fn read_steps(
+    alloc: Global,
+    lines: &mut Lines<'_>,
+    vars: u32,
+    group: u32,
+) -> Result<Refutation, Stop>
+    requires { vars < 2 ^ 31 }
+    ensures refutation { Gives (λ r. r) result (left_of lines.new) (steps_at vars group (left_of lines.old).at (left_of lines.old).lines) }
+    ensures rest { OnOk result (rest_of lines.new ≡ rest_of lines.old) }
+{
+    let proof = read_proof(alloc, lines, vars, Goal::Refutes(group))?;
+    Ok(Refutation::Steps(proof))
+}
+
+/// A group's refutation in version 2: the number of an earlier record, or steps.
+#[tactic(auto, unfolding(crate::specs::Reading::refutation_at))]
+fn read_reference_or_steps(
+    alloc: Global,
+    lines: &mut Lines<'_>,
+    vars: u32,
+    group: u32,
+) -> Result<Refutation, Stop>
+    requires { vars < 2 ^ 31 }
+    ensures refutation { Gives (λ r. r) result (left_of lines.new) (refutation_at Version.Two vars group (left_of lines.old).at (left_of lines.old).lines) }
+    ensures rest { OnOk result (rest_of lines.new ≡ rest_of lines.old) }
+{
+    let mut ahead = *lines;
+    let at = ahead.at;
+    let Some(line) = ahead.next() else {
+        return Err(refusal(at, Why::Truncated));
+    };
+    let (letter, words) = first_word(line);
+    if letter != b't' {
+        return read_steps(alloc, lines, vars, group);
+    }
+    *lines = ahead;
+    match read_goal(words, Goal::Refutes(group)) {
+        Ok(number) => Ok(Refutation::Earlier(number)),
+        Err(why) => Err(refusal(at, why)),
+    }
+}
+
+/// A group's refutation.
+#[tactic(auto, unfolding(crate::specs::Reading::refutation_at))]
+fn read_refutation(
+    alloc: Global,
+    lines: &mut Lines<'_>,
+    version: Version,
+    vars: u32,
+    group: u32,
+) -> Result<Refutation, Stop>
+    requires { vars < 2 ^ 31 }
+    ensures refutation { Gives (λ r. r) result (left_of lines.new) (refutation_at version vars group (left_of lines.old).at (left_of lines.old).lines) }
+    ensures rest { OnOk result (rest_of lines.new ≡ rest_of lines.old) }
+{
+    match version {
+        Version::One => read_steps(alloc, lines, vars, group),
+        Version::Two => read_reference_or_steps(alloc, lines, vars, group),
+    }
+}
+
 /// Of each group its refutation, in just as much memory as they need.
 #[tactic(auto, unfolding(crate::specs::Reading::refutations_at))]
 fn read_refutations(
     alloc: Global,
     lines: &mut Lines<'_>,
+    version: Version,
     vars: u32,
     set: &GroupSet,
 ) -> Result<Proofs, Stop>
     requires { vars < 2 ^ 31 }
-    ensures proofs { Gives (λ ds. ds) result (left_of lines.new) (refutations_at vars set.now (left_of lines.old).at (left_of lines.old).lines) }
+    ensures proofs { Gives (λ rs. rs) result (left_of lines.new) (refutations_at version vars set.now (left_of lines.old).at (left_of lines.old).lines) }
     ensures rest { OnOk result (rest_of lines.new ≡ rest_of lines.old) }
 {
     let mut proofs = Vec::with_capacity(alloc, set.len())?;
     for g in set.as_slice() {
-        let proof = read_proof(alloc, lines, vars, Goal::Refutes(*g))?;
-        proofs.push(proof)?;
+        let refutation = read_refutation(alloc, lines, version, vars, *g)?;
+        proofs.push(refutation)?;
     }
     Ok(Proofs::from_vec(proofs))
 }
@@ -116,14 +180,15 @@ pub(crate) fn read_correction(
     alloc: Global,
     lines: &mut Lines<'_>,
     problem: &Problem,
+    version: Version,
     set: GroupSet,
 ) -> Result<Record, Stop>
-    ensures correction { Gives (λ r. r) result (left_of lines.new) (correction_at problem.now set (left_of lines.old).at (left_of lines.old).lines) }
+    ensures correction { Gives (λ r. r) result (left_of lines.new) (correction_at version problem.now set (left_of lines.old).at (left_of lines.old).lines) }
     ensures rest { OnOk result (rest_of lines.new ≡ rest_of lines.old) }
 {
     let vars = problem.vars();
     let witness = read_witness_line(alloc, lines, vars, 0)?;
-    let proofs = read_refutations(alloc, lines, vars + problem.groups(), &set)?;
+    let proofs = read_refutations(alloc, lines, version, vars + problem.groups(), &set)?;
     Ok(Record::Correction {
         set,
         witness,
@@ -198,14 +263,15 @@ fn read_correction_behind(
     alloc: Global,
     lines: &mut Lines<'_>,
     problem: &Problem,
+    version: Version,
     at: u64,
     words: Words<'_>,
 ) -> Result<Answer, Stop>
-    ensures piece { Gives (λ a. a) result (left_of lines.new) (correction_behind problem.now at (words_left words.entry) (left_of lines.old)) }
+    ensures piece { Gives (λ a. a) result (left_of lines.new) (correction_behind version problem.now at (words_left words.entry) (left_of lines.old)) }
     ensures rest { OnOk result (rest_of lines.new ≡ rest_of lines.old) }
 {
     let set = read_set_line(alloc, words, problem.groups(), at)?;
-    let r = read_correction(alloc, lines, problem, set)?;
+    let r = read_correction(alloc, lines, problem, version, set)?;
     Ok(Answer::Record(r))
 }
 
@@ -240,8 +306,9 @@ pub(crate) fn read_piece(
     alloc: Global,
     lines: &mut Lines<'_>,
     problem: &Problem,
+    version: Version,
 ) -> Result<Answer, Stop>
-    ensures piece { Gives (λ a. a) result (left_of lines.new) (piece_at problem.now (rest_of lines.old) (left_of lines.old).at (left_of lines.old).lines) }
+    ensures piece { Gives (λ a. a) result (left_of lines.new) (piece_at version problem.now (rest_of lines.old) (left_of lines.old).at (left_of lines.old).lines) }
     ensures rest { OnOk result (rest_of lines.new ≡ rest_of lines.old) }
 {
     let mut ahead = *lines;
@@ -257,7 +324,7 @@ pub(crate) fn read_piece(
         },
         b'm' => {
             *lines = ahead;
-            read_correction_behind(alloc, lines, problem, at, words)
+            read_correction_behind(alloc, lines, problem, version, at, words)
         },
         b'e' => {
             *lines = ahead;

@@ -4,8 +4,9 @@
 ghost use Rattle.std.specs.Prelude.{◌≡◌, ◌+◌, ◌<◌, [], ◌∷◌, ◌++◌, false, codes, if◌then◌else◌, length, slice_index_or, OnOk};
 ghost use Rattle.std.specs.List.{flat_map};
 ghost use Rattle.std.specs.Fmt.{decimal, signed_decimal};
-ghost use Rattle.evidence_text.specs.Text.{line_text, head_text, set_line, step_line, goal_line, witness_line, exhaustion_line, end_line, set_letter, trues_from};
+ghost use Rattle.evidence_text.specs.Text.{line_text, head_text, set_line, step_line, goal_line, reference_line, witness_line, exhaustion_line, end_line, set_letter, trues_from};
 
+use crate::version::Version;
 use gm_base::{Assign, GroupSet, Kind, Lit, Problem, Step};
 use std::alloc::AllocError;
 use token_text::put_number;
@@ -87,11 +88,12 @@ fn push_if_true(out: &mut Vec<u8>, witness: &Assign, at: usize) -> Result<(), Al
     }
 }
 
-/// Appends the head of a text about this problem.
+/// Appends the head of a text of version 2 about this problem.
 pub fn write_head(problem: &Problem, out: &mut Vec<u8>) -> Result<(), AllocError>
-    ensures { OnOk result (out.new.items ≡ out.old.items ++ head_text problem.now) }
+    ensures { OnOk result (out.new.items ≡ out.old.items ++ head_text Version.Two problem.now) }
 {
-    push_text(out, "p gmev 1")?;
+    push_text(out, "p gmev")?;
+    push_number(out, Version::Two.number())?;
     push_number(out, u64::from(problem.vars()))?;
     push_number(out, problem.len() as u64)?;
     push_number(out, u64::from(problem.groups()))?;
@@ -138,13 +140,24 @@ pub(crate) fn write_step(step: Step<'_>, out: &mut Vec<u8>) -> Result<(), AllocE
     Ok(())
 }
 
-/// Appends the line behind the steps of a refutation: the group it is for, 0 in a conflict, and the id of its goal.
+/// Appends the line behind the steps of a derivation: the group it is for, 0 in a conflict, and the id of its goal.
 pub(crate) fn write_goal(group: u32, goal: u64, out: &mut Vec<u8>) -> Result<(), AllocError>
     ensures { OnOk result (out.new.items ≡ out.old.items ++ line_text (goal_line group goal)) }
 {
     push_text(out, "r")?;
     push_number(out, u64::from(group))?;
     push_number(out, goal)?;
+    push_text(out, "\n")?;
+    Ok(())
+}
+
+/// Appends the line that refutes a group by an earlier record: the group, and the record's number.
+pub(crate) fn write_reference(group: u32, number: u64, out: &mut Vec<u8>) -> Result<(), AllocError>
+    ensures { OnOk result (out.new.items ≡ out.old.items ++ line_text (reference_line group number)) }
+{
+    push_text(out, "t")?;
+    push_number(out, u64::from(group))?;
+    push_number(out, number)?;
     push_text(out, "\n")?;
     Ok(())
 }

@@ -10,9 +10,11 @@
 //! conflict 1 2       a record begins, with its set; `correction` likewise
 //! proof 5            a derivation for the clause of this id begins
 //! step 5 -3 -4 0 1 2 its next step: an id, literals, 0 and hints
+//! earlier 1          a refutation: the earlier record of this number
 //! witness 2          an assignment, by its true variables
-//! check              the record is checked
-//! keep               the record is kept, and `check_kept` has one checker check all that were, in their order
+//! check              the record is checked behind those that are kept
+//! keep               the record is kept, and `check_kept` has one checker check all that were, each behind those before
+//!                    it; none is kept then
 //! ```
 //!
 //! What is refused is told by the number of its reason and its line: of the text, counted from 1, or of the record, from 0.
@@ -103,11 +105,14 @@ fn call_records(
 ) -> Result<bool, AllocError> {
     match step.word(0) {
         "check" => match whole_of(draft, alloc)? {
-            Some(record) => check_one(problem, &record, alloc, out),
+            Some(record) => check_one(problem, kept, &record, alloc, out),
             None => Ok(false),
         },
         "keep" => keep(kept, whole_of(draft, alloc)),
-        "check_kept" => check_kept(problem, kept, alloc, out),
+        "check_kept" => {
+            let kept = mem::replace(kept, Records::new(alloc));
+            check_kept(problem, kept, alloc, out)
+        }
         _ => call_draft(draft, problem, alloc, step),
     }
 }

@@ -14,9 +14,10 @@ use Rattle.lrat_check.specs.declared.why.Why.{Why}
 use Rattle.lrat_check.specs.declared.why.Why.TheVariants.{UnknownClause, NotRefuting}
 use Rattle.lrat_check.proofs.KnownLemmas.{length-numbered, numbered_next, last_id-numbered}
 use Rattle.evidence_rec.specs.declared.record.Record.{Record}
-use Rattle.evidence_rec.specs.Records.{found_of, founds, set_of, IsAccepted}
+use Rattle.evidence_rec.specs.Records.{found_of, founds, set_of, AllAccepted}
 use Rattle.evidence_rec.specs.Refusals.{at_line, steps_refusal}
 use Rattle.evidence_rec.specs.Seeding.{shows_all_explored}
+use Rattle.evidence_rec.proofs.AcceptedLemmas.{accepted-at}
 use Rattle.evidence_rec.proofs.VerdictLemmas.{none-parts, steps-none}
 use Rattle.gm_audit.specs.Refusals.{empty_refusal, closing_refusal}
 
@@ -44,14 +45,9 @@ count-blocks rs at known le is = ap length is ∙ length-numbered at 1 (blocks r
 pub all-blocks : (rs : List Record) (at : ℕ) → at ≡ length rs → take at (blocks rs) ≡ blocks rs
 all-blocks rs at end = take_all at (blocks rs) (omega (arith, end, length-blocks rs))
 
-pub accepted-at : (p : Problem) (rs : List Record) (at : ℕ) (r : Record) → AllByRecursion (IsAccepted p) rs
+pub within-at : (p : Problem) (rs : List Record) (at : ℕ) (r : Record) → AllAccepted p rs
     → slice_get rs at ≡ Some r → IsSubset (set_of r) (all_groups p.groups)
-accepted-at p [] at r all is = absurd (nothing is)
-  where
-    nothing : slice_get [] at ≡ Some r → ⊥
-    nothing e = let lt = slice_get_within [] at r e in omega arith
-accepted-at p (q ∷ qs) zero r all is = subst (λ (s : Record). IsSubset (set_of s) (all_groups p.groups)) (let same : q ≡ r = cc in same) all.0.within
-accepted-at p (q ∷ qs) (suc at) r all is = accepted-at p qs at r all.1 is
+within-at p rs at r all is = (accepted-at p rs at r all is).1.within
 
 -- ---- a closing part in which nothing is refused
 

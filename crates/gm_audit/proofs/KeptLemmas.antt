@@ -1,6 +1,7 @@
 -- What an audit keeps with one more record.
-use Rattle.std.proofs.Common.{◌≡◌, ℕ, ◌≤◌, true, false, List, [], ◌∷◌, ◌++◌, Option, Some, None, refl, sym, ◌∙◌, ap, subst, inl, inr, eqb, arith, append_assoc, append-nil}
+use Rattle.std.proofs.Common.{◌≡◌, ℕ, ◌≤◌, Bool, length, true, false, List, [], ◌∷◌, ◌++◌, Option, Some, None, refl, sym, ◌∙◌, ap, subst, inl, inr, eqb, arith, append_assoc, append-nil}
 use Rattle.std.specs.List.{AllByRecursion}
+use Rattle.std.proofs.lemmas.List.Elements.{All-from_recursion}
 use Rattle.std.proofs.lemmas.Bool.{false≢true, or_cases, eqb-true}
 use Rattle.gm_base.specs.Sets.{has, IsSubset, all_groups}
 use Rattle.gm_base.proofs.SetLemmas.{AscendsAbove-has, has-all_groups}
@@ -9,24 +10,21 @@ use Rattle.gm_base.specs.Problem.{Problem}
 use Rattle.lrat_check.specs.declared.why.Why.{Why}
 use Rattle.evidence_rec.specs.declared.record.Record.{Record}
 use Rattle.evidence_rec.specs.declared.record.Record.TheVariants.{Conflict, Correction}
-use Rattle.evidence_rec.specs.Records.{kind_of, set_of, Accepts, IsAccepted}
+use Rattle.evidence_rec.specs.Records.{kind_of, set_of, Accepts, AllAccepted}
 use Rattle.evidence_rec.specs.Held.{is_held, AreNew}
+use Rattle.evidence_rec.proofs.AcceptedLemmas.{accepted-push}
+use Rattle.evidence_text.specs.declared.version.Version.{Version}
 use Rattle.evidence_text.specs.Readable.{IsSetUpTo, IsReadable}
 use Rattle.gm_audit.specs.declared.auditor.Auditor.{Auditor}
 use Rattle.gm_audit.specs.declared.seen.SeenSets.{SeenSets}
 use Rattle.gm_audit.specs.Refusals.{in_text}
 use Rattle.gm_audit.specs.Seen.{sees, SeesOneMore, SeesAll}
-use Rattle.gm_audit.specs.Inside.{IsAuditing}
+use Rattle.gm_audit.specs.Inside.{HasForm, IsAuditing}
 use Rattle.gm_audit.proofs.SeenLemmas.{sees-push}
 
 pub in_text-none : (line : ℕ) (part : Option (ℕ × Why)) → in_text line part ≡ None → part ≡ None
 in_text-none line None h = refl
 in_text-none line (Some w) h = cc
-
-all-push : (P : Record → Type 0) (rs : List Record) (r : Record) → AllByRecursion P rs → P r
-    → AllByRecursion P (rs ++ r ∷ [])
-all-push P [] r all one = (one, tt)
-all-push P (x ∷ xs) r all one = (all.0, all-push P xs r all.1 one)
 
 new-push : (earlier rs : List Record) (r : Record) → AreNew earlier rs
     → is_held (earlier ++ rs) (kind_of r) (set_of r) ≡ false → AreNew earlier (rs ++ r ∷ [])
@@ -50,22 +48,26 @@ up_to-within high set ok g inside =
           | inr later ↦ at_most ks all.1 later
         ]
 
-pub within-readable : (p : Problem) (r : Record) → IsReadable p r → IsSubset (set_of r) (all_groups p.groups)
-within-readable p (Conflict set proof ws) h = up_to-within p.groups set h.0
-within-readable p (Correction set w ds) h = up_to-within p.groups set h.0
+pub within-form : (p : Problem) (r : Record) → HasForm p r → IsSubset (set_of r) (all_groups p.groups)
+within-form p r h = up_to-within p.groups (set_of r) h.set
+
+-- what is read has its form
+pub form-readable : (version : Version) (p : Problem) (r : Record) → IsReadable version p r → HasForm p r
+form-readable version p (Conflict set proof ws) (ok, good, count, each) =
+    record { set = ok; shaped = (count, All-from_recursion (λ (w : List Bool). length w ≡ p.vars) ws each) }
+form-readable version p (Correction set w rs) (ok, len, count, each) = record { set = ok; shaped = (len, count) }
 
 -- a record that passed joins the others
-pub auditing-push : (p : Problem) (a b : Auditor) (r : Record) → IsAuditing p a → IsReadable p r → Accepts p r
+pub auditing-push : (p : Problem) (a b : Auditor) (r : Record) → IsAuditing p a → HasForm p r → Accepts p a.records r
     → SeesOneMore (kind_of r) (set_of r) a.seen b.seen → sees a.seen (kind_of r) (set_of r) ≡ false
     → b.checker ≡ a.checker → b.records ≡ a.records ++ r ∷ [] → IsAuditing p b
-auditing-push p a b r ok readable accepts more new checker records =
+auditing-push p a b r ok form accepts more new checker records =
     record {
       basis = checker ∙ ok.basis;
       seen = subst (SeesAll b.seen) (sym records) (sees-push a.records r a.seen b.seen ok.seen more);
-      readable = subst (AllByRecursion (IsReadable p)) (sym records) (all-push (IsReadable p) a.records r ok.readable readable);
       accepted =
-          subst (AllByRecursion (IsAccepted p)) (sym records)
-          (all-push (IsAccepted p) a.records r ok.accepted (record { within = within-readable p r readable; accepts = accepts }));
+          subst (AllAccepted p) (sym records)
+          (accepted-push p a.records r ok.accepted (record { within = within-form p r form; accepts = accepts }));
       distinct =
           subst (AreNew []) (sym records)
           (new-push [] a.records r ok.distinct (sym (ok.seen.at (kind_of r) (set_of r)) ∙ new));
@@ -73,11 +75,11 @@ auditing-push p a b r ok readable accepts more new checker records =
 
 -- the same, where its kind and its set were looked at beside it
 pub passed-push : (p : Problem) (a b : Auditor) (r : Record) (kind : Kind) (set : List ℕ) (seen : SeenSets) → IsAuditing p a
-    → IsReadable p r → Accepts p r → kind ≡ kind_of r → set ≡ set_of r → SeesOneMore kind set a.seen seen
+    → HasForm p r → Accepts p a.records r → kind ≡ kind_of r → set ≡ set_of r → SeesOneMore kind set a.seen seen
     → sees a.seen kind set ≡ false → b.checker ≡ a.checker → b.seen ≡ seen → b.records ≡ a.records ++ r ∷ []
     → IsAuditing p b
-passed-push p a b r kind set seen ok readable accepts of is more new checker sees_is records =
-    auditing-push p a b r ok readable accepts
+passed-push p a b r kind set seen ok form accepts of is more new checker sees_is records =
+    auditing-push p a b r ok form accepts
     (subst (λ s. SeesOneMore (kind_of r) (set_of r) a.seen s) (sym sees_is)
     (subst (λ s. SeesOneMore (kind_of r) s a.seen seen) is (subst (λ k. SeesOneMore k set a.seen seen) of more)))
     (sym (ap (λ k. sees a.seen k (set_of r)) of) ∙ sym (ap (sees a.seen kind) is) ∙ new)

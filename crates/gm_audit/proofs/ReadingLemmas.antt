@@ -1,8 +1,8 @@
 -- What was read of a text so far, and what the text is refused for.
-use Rattle.std.proofs.Common.{◌≡◌, ℕ, zero, suc, ◌+◌, ◌^◌, ◌<◌, ◌≤◌, true, false, List, [], ◌∷◌, ◌++◌, map, length, Option, Some, None, refl, sym, ◌∙◌, ap, subst, arith, append_assoc, append-nil, length-append}
+use Rattle.std.proofs.Common.{◌≡◌, ℕ, zero, suc, ◌+◌, ◌^◌, ◌<◌, ◌≤◌, true, false, List, [], ◌∷◌, ◌++◌, map, length, Option, Some, None, refl, sym, ◌∙◌, ap, ap₂, subst, arith, append_assoc, append-nil, length-append}
 use Rattle.std.specs.Prelude.{IfSome, Result, Ok, Err, IfOk, codes}
 use Rattle.std.specs.Option.{option_or}
-use Rattle.std.specs.List.{flat_map}
+use Rattle.std.specs.List.{flat_map, AllByRecursion}
 use Rattle.std.specs.declared.alloc.AllocError.{AllocError}
 use Rattle.std.proofs.lemmas.Grind.{flat_map-append}
 use Rattle.std.proofs.lemmas.List.Concat.{flat_map-cons}
@@ -13,6 +13,7 @@ use Rattle.evidence_rec.specs.declared.record.Record.{Record}
 use Rattle.evidence_rec.specs.declared.record.Record.TheVariants.{Conflict, Correction}
 use Rattle.evidence_rec.specs.Records.{founds}
 use Rattle.evidence_rec.specs.Seeding.{shows_all_explored}
+use Rattle.evidence_text.specs.declared.version.Version.{Version}
 use Rattle.evidence_text.specs.declared.offence.Offence.{Offence}
 use Rattle.evidence_text.specs.declared.answer.Answer.{Answer}
 use Rattle.evidence_text.specs.declared.answer.Answer.TheVariants as answer
@@ -21,6 +22,7 @@ use Rattle.evidence_text.specs.Lines.{lines_of, unended}
 use Rattle.evidence_text.specs.Reading.{Below, head_at, piece_at, offence}
 use Rattle.evidence_text.specs.Readable.{IsReadable, IsReadableEnd}
 use Rattle.evidence_text.specs.Reader.{Reader, reader_of, head_of, head_answer, behind_head, piece_of, piece_answer, behind_piece}
+use Rattle.evidence_rec.proofs.AcceptedLemmas.{AllByRecursion-push}
 use Rattle.evidence_text.proofs.StandsLemmas.{piece-stands, head-stands}
 use Rattle.gm_audit.specs.declared.answer.Audited.{Audited}
 use Rattle.gm_audit.specs.declared.answer.Audited.TheVariants.{Yes, No}
@@ -49,30 +51,32 @@ pub record IsReading (p : Problem) (text : List ℕ) (r : Reader) (records : Lis
   pub rest : r.rest ≡ unended text
   pub begun : r.begun ≡ true
   pub clean : r.offence ≡ None
-  pub lines : lines_of text ≡ head_line p ∷ (flat_map record_lines records ++ r.left.lines)
+  pub lines : lines_of text ≡ head_line r.version p ∷ (flat_map record_lines records ++ r.left.lines)
+  pub readable : AllByRecursion (IsReadable r.version p) records
   pub most : ℕ
   pub enough : length r.left.lines ≤ most
-  pub refusal : whole_refusal p text ≡ contents_refusal p records (contents_at most p (unended text) r.left)
+  pub refusal : whole_refusal p text ≡ contents_refusal p records (contents_at most r.version p (unended text) r.left)
 
 -- ---- the head
 
-reading-begins : (p : Problem) (text : List ℕ) (new : Reader) (h : Result Below Offence) → head_at p 1 (lines_of text) ≡ h
+reading-begins : (p : Problem) (text : List ℕ) (new : Reader) (h : Result (Version × Below) Offence) → head_at p 1 (lines_of text) ≡ h
     → Ok tt ≡ head_answer h → new ≡ behind_head (reader_of p text) h → IsReading p text new []
 reading-begins p text new (Err o) e ok is = cc
-reading-begins p text new (Ok b) e ok is =
+reading-begins p text new (Ok (version, b)) e ok is =
     record {
       problem = ap (λ (r : Reader). r.problem) is;
       rest = ap (λ (r : Reader). r.rest) is;
       begun = ap (λ (r : Reader). r.begun) is;
       clean = ap (λ (r : Reader). r.offence) is;
       lines =
-          head-stands p 1 (lines_of text) b e
-          ∙ ap (λ (ls : List Line). head_line p ∷ ls) (sym (ap (λ (r : Reader). r.left.lines) is));
+          head-stands p 1 (lines_of text) version b e
+          ∙ ap₂ (λ (v : Version) (ls : List Line). head_line v p ∷ ls) (sym (ap (λ (r : Reader). r.version) is)) (sym (ap (λ (r : Reader). r.left.lines) is));
+      readable = tt;
       most = length b.lines;
       enough = let same = ap (λ (r : Reader). length r.left.lines) is in omega arith;
       refusal =
           ap (text_refusal p text) e
-          ∙ ap (λ (c : Below). contents_refusal p [] (contents_at (length b.lines) p (unended text) c)) (sym (ap (λ (r : Reader). r.left) is));
+          ∙ ap₂ (λ (v : Version) (c : Below). contents_refusal p [] (contents_at (length b.lines) v p (unended text) c)) (sym (ap (λ (r : Reader). r.version) is)) (sym (ap (λ (r : Reader). r.left) is));
     }
 
 -- behind the head, by what its reader ensures
@@ -81,23 +85,23 @@ pub reading-begun : (p : Problem) (text : List ℕ) (made new : Reader) (said : 
     → said ≡ Ok tt → IsReading p text new []
 reading-begun p text made new said is answers goes ok =
     let fresh : made.begun ≡ false = ap (λ (r : Reader). r.begun) is in
-    let h : Result Below Offence = head_of made in
+    let h : Result (Version × Below) Offence = head_of made in
     reading-begins p text new h (sym (ap head_of is)) (sym ok ∙ answers fresh)
     (goes fresh ∙ ap (λ (r : Reader). behind_head r h) is)
 
 -- ---- a record
 
-pub at-piece : (m : ℕ) (p : Problem) (rest : List ℕ) (b : Below) (got : Piece) → piece_at p rest b.at b.lines ≡ got
-    → contents_at (suc m) p rest b ≡ contents_by b.at got (contents_at m p rest)
+pub at-piece : (m : ℕ) (version : Version) (p : Problem) (rest : List ℕ) (b : Below) (got : Piece) → piece_at version p rest b.at b.lines ≡ got
+    → contents_at (suc m) version p rest b ≡ contents_by b.at got (contents_at m version p rest)
 unfolding contents_at
-at-piece m p rest b got e = ap (λ (g : Piece). contents_by b.at g (contents_at m p rest)) e
+at-piece m version p rest b got e = ap (λ (g : Piece). contents_by b.at g (contents_at m version p rest)) e
 
 -- what stands at a reader's place, as its own parts have it
 piece-is : (p : Problem) (text : List ℕ) (r : Reader) (records : List Record) (got : Piece) → IsReading p text r records
-    → piece_of r ≡ got → piece_at p (unended text) r.left.at r.left.lines ≡ got
+    → piece_of r ≡ got → piece_at r.version p (unended text) r.left.at r.left.lines ≡ got
 piece-is p text r records got h e =
-    ap (λ (q : Problem). piece_at q (unended text) r.left.at r.left.lines) (sym h.problem)
-    ∙ ap (λ (bs : List ℕ). piece_at r.problem bs r.left.at r.left.lines) (sym h.rest) ∙ e
+    ap (λ (q : Problem). piece_at r.version q (unended text) r.left.at r.left.lines) (sym h.problem)
+    ∙ ap (λ (bs : List ℕ). piece_at r.version r.problem bs r.left.at r.left.lines) (sym h.rest) ∙ e
 
 pub some-lines : (r : Record) → 0 < length (record_lines r)
 some-lines (Conflict set proof ws) = omega arith
@@ -141,11 +145,11 @@ record-line old new r got is behind =
 -- it stands before the lines that are left then
 pub record-stands : (p : Problem) (text : List ℕ) (old new : Reader) (records : List Record) (r : Record) (got : Piece)
     → p.vars + p.groups < 2 ^ 31 → IsReading p text old records → piece_of old ≡ got → answer.Record r ≡ piece_answer got
-    → new ≡ behind_piece old got → IsReadable p r × (old.left.lines ≡ record_lines r ++ new.left.lines)
+    → new ≡ behind_piece old got → IsReadable old.version p r × (old.left.lines ≡ record_lines r ++ new.left.lines)
 record-stands p text old new records r got small h e is behind =
     let (b, same, by) = record-at r got 0 (λ b. record { records = []; ending = Err (offence 0 Truncated) }) is in
     let (good, lines) =
-    piece-stands p (unended text) old.left.at old.left.lines (answer.Record r) b (omega arith) (piece-is p text old records got h e ∙ same) in
+    piece-stands old.version p (unended text) old.left.at old.left.lines (answer.Record r) b (omega arith) (piece-is p text old records got h e ∙ same) in
     let left-is : new.left ≡ b = ap (λ (x : Reader). x.left) (behind ∙ ap (behind_piece old) same) in
     (good, lines ∙ ap (λ (c : Below). record_lines r ++ c.lines) (sym left-is))
 
@@ -156,20 +160,20 @@ pub refused-record : (p : Problem) (text : List ℕ) (old : Reader) (records : L
 refused-record p text old records r ls got o h e is lines refused = by h.most h.enough h.refusal
   where
     by : (m : ℕ) → length old.left.lines ≤ m
-        → whole_refusal p text ≡ contents_refusal p records (contents_at m p (unended text) old.left) → whole_refusal p text ≡ Some o
+        → whole_refusal p text ≡ contents_refusal p records (contents_at m old.version p (unended text) old.left) → whole_refusal p text ≡ Some o
     by zero le all =
         absurd (let some = some-lines r in let count = ap length lines ∙ length-append (record_lines r) ls in omega arith)
     by (suc m) le all =
-        let (b, same, stands) = record-at r got old.left.at (contents_at m p (unended text)) is in
-        all ∙ ap (contents_refusal p records) (at-piece m p (unended text) old.left got (piece-is p text old records got h e) ∙ stands)
-        ∙ record-refused p records old.left.at r (contents_at m p (unended text) b) o refused
+        let (b, same, stands) = record-at r got old.left.at (contents_at m old.version p (unended text)) is in
+        all ∙ ap (contents_refusal p records) (at-piece m old.version p (unended text) old.left got (piece-is p text old records got h e) ∙ stands)
+        ∙ record-refused p records old.left.at r (contents_at m old.version p (unended text) b) o refused
 
 -- it joins the records, and what is left is behind it
 pub reading-record : (p : Problem) (text : List ℕ) (old new : Reader) (records more : List Record) (r : Record) (got : Piece)
     → IsReading p text old records → piece_of old ≡ got → answer.Record r ≡ piece_answer got → new ≡ behind_piece old got
     → old.left.lines ≡ record_lines r ++ new.left.lines → placed_refusal p records (placed old.left.at r) ≡ None
-    → more ≡ records ++ r ∷ [] → IsReading p text new more
-reading-record p text old new records more r got h e is behind lines passed grown = by h.most h.enough h.refusal
+    → IsReadable old.version p r → more ≡ records ++ r ∷ [] → IsReading p text new more
+reading-record p text old new records more r got h e is behind lines passed good grown = by h.most h.enough h.refusal
   where
     after : Below
     after = (record-at r got 0 (λ b. record { records = []; ending = Err (offence 0 Truncated) }) is).0
@@ -178,10 +182,13 @@ reading-record p text old new records more r got h e is behind lines passed grow
     new-is =
         behind ∙ ap (behind_piece old) (record-at r got 0 (λ b. record { records = []; ending = Err (offence 0 Truncated) }) is).1
 
-    whole : lines_of text ≡ head_line p ∷ (flat_map record_lines more ++ new.left.lines)
+    same-version : new.version ≡ old.version
+    same-version = ap (λ (x : Reader). x.version) new-is
+
+    whole : lines_of text ≡ head_line new.version p ∷ (flat_map record_lines more ++ new.left.lines)
     whole =
         h.lines
-        ∙ ap (λ (ls : List Line). head_line p ∷ ls)
+        ∙ ap₂ (λ (v : Version) (ls : List Line). head_line v p ∷ ls) (sym same-version)
         (ap (λ (ls : List Line). flat_map record_lines records ++ ls) lines
         ∙ sym (append_assoc (flat_map record_lines records) (record_lines r) new.left.lines)
         ∙ ap (λ (ls : List Line). ls ++ new.left.lines) (pushed ∙ ap (flat_map record_lines) (sym grown)))
@@ -192,11 +199,11 @@ reading-record p text old new records more r got h e is behind lines passed grow
             ∙ ap (λ (ls : List Line). flat_map record_lines records ++ ls) (flat_map-cons record_lines r [] ∙ append-nil (record_lines r)))
 
     by : (m : ℕ) → length old.left.lines ≤ m
-        → whole_refusal p text ≡ contents_refusal p records (contents_at m p (unended text) old.left) → IsReading p text new more
+        → whole_refusal p text ≡ contents_refusal p records (contents_at m old.version p (unended text) old.left) → IsReading p text new more
     by zero le all =
         absurd (let some = some-lines r in let count = ap length lines ∙ length-append (record_lines r) new.left.lines in omega arith)
     by (suc m) le all =
-        let (b, same, stands) = record-at r got old.left.at (contents_at m p (unended text)) is in
+        let (b, same, stands) = record-at r got old.left.at (contents_at m old.version p (unended text)) is in
         let left-is : new.left ≡ b = ap (λ (x : Reader). x.left) (behind ∙ ap (behind_piece old) same) in
         record {
           problem = ap (λ (x : Reader). x.problem) new-is ∙ h.problem;
@@ -204,13 +211,16 @@ reading-record p text old new records more r got h e is behind lines passed grow
           begun = ap (λ (x : Reader). x.begun) new-is ∙ h.begun;
           clean = ap (λ (x : Reader). x.offence) new-is ∙ h.clean;
           lines = whole;
+          readable =
+              subst (λ (v : Version). AllByRecursion (IsReadable v p) more) (sym same-version)
+              (subst (AllByRecursion (IsReadable old.version p)) (sym grown) (AllByRecursion-push (IsReadable old.version p) records r h.readable good));
           most = m;
           enough = (let some = some-lines r in let count = ap length lines ∙ length-append (record_lines r) new.left.lines in omega arith);
           refusal =
-              all ∙ ap (contents_refusal p records) (at-piece m p (unended text) old.left got (piece-is p text old records got h e) ∙ stands)
-              ∙ record-passed p records old.left.at r (contents_at m p (unended text) b) passed
-              ∙ ap (λ (c : Below). contents_refusal p (records ++ r ∷ []) (contents_at m p (unended text) c)) (sym left-is)
-              ∙ ap (λ (rs : List Record). contents_refusal p rs (contents_at m p (unended text) new.left)) (sym grown);
+              all ∙ ap (contents_refusal p records) (at-piece m old.version p (unended text) old.left got (piece-is p text old records got h e) ∙ stands)
+              ∙ record-passed p records old.left.at r (contents_at m old.version p (unended text) b) passed
+              ∙ ap (λ (c : Below). contents_refusal p (records ++ r ∷ []) (contents_at m old.version p (unended text) c)) (sym left-is)
+              ∙ ap₂ (λ (rs : List Record) (v : Version). contents_refusal p rs (contents_at m v p (unended text) new.left)) (sym grown) (sym same-version);
         }
 
 -- fewer lines are left then
@@ -238,13 +248,13 @@ ended p text old records closing got h e is lines = by h.most h.enough h.refusal
     end-at (Ok (answer.End other, b)) more is = let same : other ≡ closing = cc in ap (λ (d : Option Derivation). record { records = []; ending = Ok (old.left.at, d) }) same
 
     by : (m : ℕ) → length old.left.lines ≤ m
-        → whole_refusal p text ≡ contents_refusal p records (contents_at m p (unended text) old.left)
+        → whole_refusal p text ≡ contents_refusal p records (contents_at m old.version p (unended text) old.left)
         → whole_refusal p text ≡ ending_refusal p records (Ok (old.left.at, closing))
     by zero le all = absurd (let some = some-end closing in let count = ap length lines in omega arith)
     by (suc m) le all =
         all
         ∙ ap (contents_refusal p records)
-        (at-piece m p (unended text) old.left got (piece-is p text old records got h e) ∙ end-at got (contents_at m p (unended text)) is)
+        (at-piece m old.version p (unended text) old.left got (piece-is p text old records got h e) ∙ end-at got (contents_at m old.version p (unended text)) is)
         ∙ nothing-left p records (Ok (old.left.at, closing))
 
 -- the end stands there, and nothing behind it
@@ -253,7 +263,7 @@ pub end-stands : (p : Problem) (text : List ℕ) (old : Reader) (records : List 
     → IsReadableEnd p closing × (old.left.lines ≡ end_lines closing) × (unended text ≡ [])
 end-stands p text old records closing got small h e is =
     let (b, same) = end-of got is in
-    piece-stands p (unended text) old.left.at old.left.lines (answer.End closing) b (omega arith) (piece-is p text old records got h e ∙ same)
+    piece-stands old.version p (unended text) old.left.at old.left.lines (answer.End closing) b (omega arith) (piece-is p text old records got h e ∙ same)
   where
     end-of : (got : Piece) → answer.End closing ≡ piece_answer got → (b : Below) × (got ≡ Ok (answer.End closing, b))
     end-of (Err o) is = cc
@@ -269,14 +279,14 @@ end-line old new closing (Ok (answer.Offence o, b)) is behind = cc
 end-line old new closing (Ok (answer.End other, b)) is behind = ap (λ (x : Reader). x.line) behind
 
 -- where no line is left
-pub at-none : (p : Problem) (rest : List ℕ) (at : ℕ) → piece_at p rest at [] ≡ Err (offence at Truncated)
+pub at-none : (version : Version) (p : Problem) (rest : List ℕ) (at : ℕ) → piece_at version p rest at [] ≡ Err (offence at Truncated)
 unfolding piece_at
-at-none p rest at = refl
+at-none version p rest at = refl
 
-pub at-zero : (p : Problem) (rest : List ℕ) (b : Below)
-    → contents_at zero p rest b ≡ record { records = []; ending = Err (offence b.at Truncated) }
+pub at-zero : (version : Version) (p : Problem) (rest : List ℕ) (b : Below)
+    → contents_at zero version p rest b ≡ record { records = []; ending = Err (offence b.at Truncated) }
 unfolding contents_at
-at-zero p rest b = refl
+at-zero version p rest b = refl
 
 -- an offence of the text
 pub offended : (p : Problem) (text : List ℕ) (old : Reader) (records : List Record) (o : Offence) (got : Piece)
@@ -294,15 +304,15 @@ offended p text old records o got h e is = by h.most h.enough h.refusal
     no-lines [] le = refl
     no-lines (l ∷ ls) le = absurd (omega arith)
 
-    truncated : (b : Below) → length b.lines ≤ 0 → piece_at p (unended text) b.at b.lines ≡ Err (offence b.at Truncated)
-    truncated b le = ap (piece_at p (unended text) b.at) (no-lines b.lines le) ∙ at-none p (unended text) b.at
+    truncated : (b : Below) → length b.lines ≤ 0 → piece_at old.version p (unended text) b.at b.lines ≡ Err (offence b.at Truncated)
+    truncated b le = ap (piece_at old.version p (unended text) b.at) (no-lines b.lines le) ∙ at-none old.version p (unended text) b.at
 
     by : (m : ℕ) → length old.left.lines ≤ m
-        → whole_refusal p text ≡ contents_refusal p records (contents_at m p (unended text) old.left) → whole_refusal p text ≡ Some o
+        → whole_refusal p text ≡ contents_refusal p records (contents_at m old.version p (unended text) old.left) → whole_refusal p text ≡ Some o
     by zero le all =
         let it : got ≡ Err (offence old.left.at Truncated) = sym (piece-is p text old records got h e) ∙ truncated old.left le in
         let same : o ≡ offence old.left.at Truncated = offence-of (is ∙ ap piece_answer it) in
-        all ∙ ap (contents_refusal p records) (at-zero p (unended text) old.left) ∙ nothing-left p records (Err (offence old.left.at Truncated))
+        all ∙ ap (contents_refusal p records) (at-zero old.version p (unended text) old.left) ∙ nothing-left p records (Err (offence old.left.at Truncated))
         ∙ ap Some (sym same)
       where
         offence-of : {q : Offence} → answer.Offence o ≡ answer.Offence q → o ≡ q
@@ -310,7 +320,7 @@ offended p text old records o got h e is = by h.most h.enough h.refusal
     by (suc m) le all =
         all
         ∙ ap (contents_refusal p records)
-        (at-piece m p (unended text) old.left got (piece-is p text old records got h e) ∙ ending-at got old.left.at (contents_at m p (unended text)) is)
+        (at-piece m old.version p (unended text) old.left got (piece-is p text old records got h e) ∙ ending-at got old.left.at (contents_at m old.version p (unended text)) is)
         ∙ nothing-left p records (Err o)
 
 -- ---- what the last answer says
@@ -330,12 +340,13 @@ yes-of p text old a closing line (Ok (No at why)) h ok end lines rest says kept 
 yes-of p text old a closing line (Ok (Yes complete records)) h ok end lines rest says kept =
     subst (λ (rs : List Record). AuditYes p text rs complete) (sym kept.0)
     (record {
+      version = old.version;
       closing = closing;
       is_complete = kept.1;
       text_is =
-          evidence-from_lines p text a.records closing
-          (h.lines ∙ ap (λ (ls : List Line). head_line p ∷ (flat_map record_lines a.records ++ ls)) lines) rest;
-      readable = ok.readable;
+          evidence-from_lines old.version p text a.records closing
+          (h.lines ∙ ap (λ (ls : List Line). head_line old.version p ∷ (flat_map record_lines a.records ++ ls)) lines) rest;
+      readable = h.readable;
       readable_end = end;
       accepted = ok.accepted;
       distinct = ok.distinct;

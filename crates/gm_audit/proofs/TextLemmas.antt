@@ -8,6 +8,7 @@ use Rattle.std.proofs.lemmas.List.Splits.{length-slice_split}
 use Rattle.gm_base.specs.Problem.{Problem}
 use Rattle.sat_base.specs.Derivation.{Derivation}
 use Rattle.evidence_rec.specs.declared.record.Record.{Record}
+use Rattle.evidence_text.specs.declared.version.Version.{Version}
 use Rattle.evidence_text.specs.Text.{Word, Line, spaced, line_text, text_of, head_line, record_lines, end_lines, evidence_text}
 use Rattle.evidence_text.proofs.PlainLemmas.{whole-text}
 use Rattle.evidence_text.specs.Lines.{is_newline, is_blank, before_lines, ended_lines, unended_from, unended, words_of, lines_of}
@@ -80,8 +81,8 @@ text-from_lines (b ∷ bs) =
         (text-cons (words_of l) (map words_of ls) ∙ ap (λ (cs : List ℕ). cs ++ text_of (map words_of ls)) (line-from_words l))) ∙ h)
 
 -- a text of a head, of records and of an end, with nothing behind it
-pub evidence-from_lines : (p : Problem) (t : List ℕ) (rs : List Record) (closing : Option Derivation)
-    → lines_of t ≡ head_line p ∷ (flat_map record_lines rs ++ end_lines closing) → unended t ≡ [] → t ≡ evidence_text p rs closing
-evidence-from_lines p t rs closing lines rest =
+pub evidence-from_lines : (version : Version) (p : Problem) (t : List ℕ) (rs : List Record) (closing : Option Derivation)
+    → lines_of t ≡ head_line version p ∷ (flat_map record_lines rs ++ end_lines closing) → unended t ≡ [] → t ≡ evidence_text version p rs closing
+evidence-from_lines version p t rs closing lines rest =
     sym (text-from_lines t) ∙ ap (λ (bs : List ℕ). text_of (lines_of t) ++ bs) rest ∙ append-nil (text_of (lines_of t))
-    ∙ ap text_of lines ∙ whole-text p rs closing
+    ∙ ap text_of lines ∙ whole-text version p rs closing

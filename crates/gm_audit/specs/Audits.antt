@@ -2,11 +2,13 @@
 use Rattle.std.specs.Prelude.{◌≡◌, ◌↔◌, ℕ, ◌≤◌, Bool, true, List, [], length, Option, Some, None, IfSome, is_some}
 use Rattle.std.specs.List.{AllByRecursion}
 use Rattle.gm_base.specs.Problem.{Problem, IsProblem}
-use Rattle.sat_base.specs.Derivation.{Derivation, HasIds}
+use Rattle.sat_base.specs.Derivation.{Derivation, HasIds, max_id}
 use Rattle.evidence_rec.specs.declared.record.Record.{Record}
-use Rattle.evidence_rec.specs.Records.{founds, IsAccepted}
+use Rattle.evidence_rec.specs.Records.{founds, AllAccepted}
 use Rattle.evidence_rec.specs.Seeding.{shows_all_explored}
 use Rattle.evidence_rec.specs.Held.{AreNew, AreExactlyAll}
+use Rattle.evidence_text.specs.declared.version.Version.{Version}
+use Rattle.evidence_text.specs.declared.version.Version.TheVariants.{Two}
 use Rattle.evidence_text.specs.declared.offence.Offence.{Offence}
 use Rattle.evidence_text.specs.Text.{evidence_text}
 use Rattle.evidence_text.specs.Reading.{offence}
@@ -15,16 +17,17 @@ use Rattle.gm_audit.specs.declared.answer.Audited.{Audited}
 use Rattle.gm_audit.specs.declared.answer.Audited.TheVariants.{Yes, No}
 use Rattle.gm_audit.specs.Refusals.{max_bytes, first_refusal}
 
--- these bytes are the evidence text of the records; each of them is accepted; no two of one kind have one set; and where
+-- these bytes are the evidence text, of either version, of the records; each of them is accepted with those before it; no two of one kind have one set; and where
 -- the text is complete, it ends in a derivation of the empty clause from their block clauses
 pub record AuditYes (p : Problem) (text : List ℕ) (records : List Record) (complete : Bool) : Type 0 where
+  pub version : Version
   pub closing : Option Derivation
   pub is_complete : complete ≡ is_some closing
-  pub text_is : text ≡ evidence_text p records closing
+  pub text_is : text ≡ evidence_text version p records closing
   -- each number is one that a text can hold
-  pub readable : AllByRecursion (IsReadable p) records
+  pub readable : AllByRecursion (IsReadable version p) records
   pub readable_end : IsReadableEnd p closing
-  pub accepted : AllByRecursion (IsAccepted p) records
+  pub accepted : AllAccepted p records
   pub distinct : AreNew [] records
   pub closes : IfSome closing (λ d. shows_all_explored p.groups (founds records) d ≡ true)
 
@@ -68,11 +71,13 @@ YesIsOne =
     → AuditYes p text others other
     → (records ≡ others) × (complete ≡ other)
 
--- what is written of distinct accepted records, and of what closes them, shows what it says
+-- what is written of distinct records, each accepted with those before it, and of what closes them, shows what it says
 abbrev pub WrittenIsYes : Type 0
 WrittenIsYes =
     (p : Problem) (records : List Record) (closing : Option Derivation)
-    → AllByRecursion (λ (r : Record). IsAccepted p r × HasRecordIds r) records
+    → length records ≤ max_id
+    → AllAccepted p records
+    → AllByRecursion HasRecordIds records
     → AreNew [] records
     → IfSome closing (λ d. (shows_all_explored p.groups (founds records) d ≡ true) × HasIds d)
-    → AuditYes p (evidence_text p records closing) records (is_some closing)
+    → AuditYes p (evidence_text Two p records closing) records (is_some closing)

@@ -13,6 +13,7 @@ use Rattle.evidence_rec.specs.declared.record.Record.{Record}
 use Rattle.evidence_rec.specs.Records.{kind_of, set_of, founds}
 use Rattle.evidence_rec.specs.Held.{is_held}
 use Rattle.evidence_rec.specs.Refusals.{at_line, steps_refusal, record_refusal}
+use Rattle.evidence_text.specs.declared.version.Version.{Version}
 use Rattle.evidence_text.specs.declared.offence.Offence.{Offence}
 use Rattle.evidence_text.specs.declared.answer.Answer.{Answer}
 use Rattle.evidence_text.specs.declared.answer.Answer.TheVariants as answer
@@ -46,9 +47,9 @@ contents_by line (Ok (answer.Offence o, b)) behind = record { records = []; endi
 contents_by line (Err o) behind = record { records = []; ending = Err o }
 
 -- what stands in so many lines at most, where these bytes stand behind the last; a record has a line of its own at least
-unfoldable pub contents_at : ℕ → Problem → List ℕ → Below → Contents
-contents_at zero p rest b = record { records = []; ending = Err (offence b.at Truncated) }
-contents_at (suc most) p rest b = contents_by b.at (piece_at p rest b.at b.lines) (contents_at most p rest)
+unfoldable pub contents_at : ℕ → Version → Problem → List ℕ → Below → Contents
+contents_at zero version p rest b = record { records = []; ending = Err (offence b.at Truncated) }
+contents_at (suc most) version p rest b = contents_by b.at (piece_at version p rest b.at b.lines) (contents_at most version p rest)
 
 -- ---- what it is refused for
 
@@ -60,7 +61,7 @@ in_text line part = option_map (λ (w : ℕ × Why). offence (line + w.0) w.1) p
 abbrev pub placed_refusal : Problem → List Record → Placed → Option Offence
 placed_refusal p earlier r =
     if is_held earlier (kind_of r.kept) (set_of r.kept) then Some (offence r.line RepeatedSet)
-    else in_text r.line (record_refusal p r.kept)
+    else in_text r.line (record_refusal p earlier r.kept)
 
 -- the first of the records, behind these earlier ones, that is refused
 abbrev pub records_refusal : Problem → List Record → List Placed → Option Offence
@@ -93,8 +94,8 @@ abbrev pub contents_refusal : Problem → List Record → Contents → Option Of
 contents_refusal p earlier c = option_or (records_refusal p earlier c.records) (ending_refusal p (earlier ++ kept_in c.records) c.ending)
 
 -- what stands behind the head, or the head's own offence
-abbrev pub text_refusal : Problem → List ℕ → Result Below Offence → Option Offence
-text_refusal p text (Ok b) = contents_refusal p [] (contents_at (length b.lines) p (unended text) b)
+abbrev pub text_refusal : Problem → List ℕ → Result (Version × Below) Offence → Option Offence
+text_refusal p text (Ok (version, b)) = contents_refusal p [] (contents_at (length b.lines) version p (unended text) b)
 text_refusal p text (Err o) = Some o
 
 -- how many bytes are read

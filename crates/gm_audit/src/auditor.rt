@@ -1,6 +1,5 @@
 //! What is kept of a text from record to record: one checker for all records, the sets that stood there, and the records.
 ghost use Rattle.std.specs.Prelude.{◌≡◌, ◌∷◌, ◌++◌, [], IfOk, None, Ok};
-ghost use Rattle.evidence_text.specs.Readable.{IsReadable};
 ghost use Rattle.gm_audit.specs.Refusals.{placed_refusal, ending_refusal};
 ghost use Rattle.gm_audit.specs.Audits.{refusal_of, TellsKept};
 
@@ -22,7 +21,7 @@ pub struct Auditor {
 }
 
 impl Auditor {
-    ghost use Rattle.gm_audit.specs.Inside.{IsAuditing};
+    ghost use Rattle.gm_audit.specs.Inside.{IsAuditing, HasForm};
 
     /// No record so far.
     pub fn new(alloc: Global, problem: &Problem) -> Result<Auditor, AllocError>
@@ -45,7 +44,7 @@ impl Auditor {
         line: u64,
     ) -> Result<Option<Offence>, AllocError>
         requires auditing { IsAuditing problem.now self.old }
-        requires readable { IsReadable problem.now found }
+        requires form { HasForm problem.now found }
         ensures refusal { IfOk result (λ refusal. refusal ≡ placed_refusal problem.now self.old.records (record { line = line; kept = found })) }
         ensures records { IfOk result (λ refusal. refusal ≡ None → self.new.records ≡ self.old.records ++ found ∷ []) }
         ensures auditing { IfOk result (λ refusal. refusal ≡ None → IsAuditing problem.now self.new) }
@@ -71,7 +70,7 @@ impl Auditor {
         line: u64,
     ) -> Result<Option<Offence>, AllocError>
         requires auditing { IsAuditing problem.now self.old }
-        requires readable { IsReadable problem.now found.now }
+        requires form { HasForm problem.now found.now }
         ensures refusal { IfOk result (λ refusal. refusal ≡ placed_refusal problem.now self.old.records (record { line = line; kept = found.now })) }
         ensures records { self.new.records ≡ self.old.records }
         ensures auditing { IfOk result (λ refusal. refusal ≡ None → IsAuditing problem.now (record self.new { records = self.old.records ++ found.now ∷ [] })) }
@@ -83,7 +82,7 @@ impl Auditor {
                 why: Why::RepeatedSet,
             }));
         }
-        let verdict = self.checker.check(alloc, problem, found)?;
+        let verdict = self.checker.check(alloc, problem, &self.records, found)?;
         let refusal = offence_of(line, verdict)?;
         Ok(refusal)
     }

@@ -8,7 +8,7 @@ ghost use Rattle.std.specs.List.{AllByRecursion};
 ghost use Rattle.gm_base.specs.Sets.{IsSubset, all_groups};
 ghost use Rattle.gm_base.specs.Explored.{block_clause, block_of};
 ghost use Rattle.sat_base.specs.Derivation.{numbered, all_known};
-ghost use Rattle.evidence_rec.specs.Records.{found_of, founds, set_of, IsAccepted};
+ghost use Rattle.evidence_rec.specs.Records.{found_of, founds, set_of, AllAccepted};
 ghost use Rattle.evidence_rec.specs.Verdicts.{refusal_by};
 ghost use Rattle.evidence_rec.specs.Refusals.{steps_refusal, at_line};
 ghost use Rattle.gm_audit.specs.Refusals.{in_text, empty_refusal, closing_refusal};
@@ -27,7 +27,7 @@ pub fn closing_offence(
     line: u64,
     proof: &Derivation,
 ) -> Result<Option<Offence>, AllocError>
-    requires { AllByRecursion (IsAccepted problem.now) records.now }
+    requires { AllAccepted problem.now records.now }
     ensures { IfOk result (λ refusal. refusal ≡ in_text line (closing_refusal problem.now.groups (founds records.now) proof.now)) }
 {
     let mut checker = block_checker(alloc, problem, records)?;
@@ -79,7 +79,7 @@ fn empty_refusal(checker: &Checker, goal: u64) -> Option<Why>
 
 // A checker of steps from the block clauses of the records.
 fn block_checker(alloc: Global, problem: &Problem, records: &Records) -> Result<Checker, AllocError>
-    requires { AllByRecursion (IsAccepted problem.now) records.now }
+    requires { AllAccepted problem.now records.now }
     ensures vars { IfOk result (λ checker. checker.vars ≡ problem.now.groups) }
     ensures inputs { IfOk result (λ checker. checker.inputs ≡ length records.now) }
     ensures known { IfOk result (λ checker. checker.known ≡ numbered 1 (map block_clause (founds records.now))) }

@@ -1,4 +1,4 @@
--- Accepted evidence shows a minimal conflict or a minimal correction: where some assignment satisfied a refuted set, the
+-- What refutes a set shows that it can't be satisfied, and accepted evidence a minimal conflict: where some assignment satisfied a refuted set, the
 -- same assignment with the selectors of the set on would make all clauses of the derivation true, and its goal false.
 use Rattle.std.proofs.Common.{◌≡◌, ℕ, zero, suc, ◌+◌, ◌-◌, ◌<◌, ◌≤◌, Bool, true, false, not, ◌||◌, List, [], ◌∷◌, ◌++◌, map, length, get_or, refl, sym, ◌∙◌, ap, subst, inl, inr, arith, eqb}
 use Rattle.std.specs.Prelude.{ℤ, pos, negsuc, neg_ℤ}
@@ -10,16 +10,16 @@ use Rattle.std.proofs.lemmas.List.{get_or_append_left, get_or-append-add}
 use Rattle.std.proofs.lemmas.List.FromFn.{get_or-map-range_with_len}
 use Rattle.std.proofs.lemmas.List.Folds.{list_any-append}
 use Rattle.gm_base.specs.declared.clause.Clause.{Clause}
-use Rattle.gm_base.specs.Sets.{IsGroupSet, has, all_groups, without, complement}
+use Rattle.gm_base.specs.Sets.{IsGroupSet, has, all_groups, without}
 use Rattle.sat_base.specs.Literals.{IsLiteral, literal_true, clause_true}
 use Rattle.gm_base.specs.Problem.{Problem, IsProblem, IsClause, Sat, satisfies, is_present}
-use Rattle.gm_base.specs.Minimal.{IsConflict, IsCorrection}
+use Rattle.gm_base.specs.Minimal.{IsConflict}
 use Rattle.sat_base.specs.Derivation.{Derivation, numbered}
-use Rattle.gm_base.specs.Evidence.{left_out, with_selector, selector_form, refutes, is_witness, each_passes, AcceptsConflict, AcceptsCorrection}
+use Rattle.gm_base.specs.Evidence.{left_out, with_selector, selector_form, refutes, is_witness, each_passes, AcceptsConflict}
 use Rattle.sat_base.specs.Members.{In}
 use Rattle.sat_base.proofs.Members.{In-append_cases, any_at, any_from}
-use Rattle.gm_base.proofs.SetLemmas.{IsGroupSet-complement, AscendsAbove-has}
-use Rattle.gm_base.proofs.Singles.{IsConflict-from_singles, IsCorrection-from_singles}
+use Rattle.gm_base.proofs.SetLemmas.{AscendsAbove-has}
+use Rattle.gm_base.proofs.Singles.{IsConflict-from_singles}
 use Rattle.sat_base.proofs.Soundness.{Good, AllGood, derives-sound}
 
 -- more values at the end change no literal over the first variables
@@ -133,7 +133,7 @@ pub Sat-from_witness : (p : Problem) (set : List ℕ) (w : List Bool) → is_wit
 Sat-from_witness p set w h =
     let parts = and_parts (eqb (length w) p.vars) (satisfies p set w) h in (w, eqb-true (length w) p.vars parts.0, parts.1)
 
-each_passes-at : {X : Type 0} (test : ℕ → X → Bool) (set : List ℕ) (xs : List X) (g : ℕ) → each_passes test set xs ≡ true → has set g ≡ true → (x : X) × (test g x ≡ true)
+pub each_passes-at : {X : Type 0} (test : ℕ → X → Bool) (set : List ℕ) (xs : List X) (g : ℕ) → each_passes test set xs ≡ true → has set g ≡ true → (x : X) × (test g x ≡ true)
 each_passes-at test [] xs g e h = absurd (false≢true h)
 each_passes-at test (k ∷ ks) [] g e h = absurd (false≢true e)
 each_passes-at test (k ∷ ks) (x ∷ xs) g e h =
@@ -148,11 +148,3 @@ pub IsConflict-from_evidence : (p : Problem) (set : List ℕ) (proof : Derivatio
 IsConflict-from_evidence p set proof ws ok h =
     IsConflict-from_singles p set (refutes-sound p set proof ok h.is_set h.refuted)
     (λ g i. let (w, e) = each_passes-at (λ g w. is_witness p (without set g) w) set ws g h.witnessed i in Sat-from_witness p (without set g) w e)
-
-pub IsCorrection-from_evidence : (p : Problem) (set : List ℕ) (w : List Bool) (proofs : List Derivation) → IsProblem p
-    → AcceptsCorrection p set w proofs → IsCorrection p set
-IsCorrection-from_evidence p set w proofs ok h =
-    IsCorrection-from_singles p set (Sat-from_witness p (complement p.groups set) w h.witnessed)
-    (λ g i.
-    let (d, e) = each_passes-at (λ (g : ℕ) (d : Derivation). refutes p (complement p.groups (without set g)) d) set proofs g h.refuted i in
-    refutes-sound p (complement p.groups (without set g)) d ok (IsGroupSet-complement p.groups (without set g) (complement p.groups (without set g)) refl) e)

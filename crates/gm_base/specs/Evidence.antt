@@ -4,7 +4,7 @@ use Rattle.std.specs.Prelude.{◌≡◌, ℕ, ◌+◌, Bool, true, false, ◌==�
 use Rattle.std.specs.Ordering.{int_eq}
 use Rattle.std.specs.List.{list_any}
 use Rattle.gm_base.specs.declared.clause.Clause.{Clause}
-use Rattle.gm_base.specs.Sets.{IsGroupSet, without, complement}
+use Rattle.gm_base.specs.Sets.{IsGroupSet, without}
 use Rattle.gm_base.specs.Problem.{Problem, satisfies}
 use Rattle.sat_base.specs.Derivation.{Derivation, derives_within}
 
@@ -39,10 +39,3 @@ pub record AcceptsConflict (p : Problem) (set : List ℕ) (proof : Derivation) (
   pub is_set : IsGroupSet set
   pub refuted : refutes p set proof ≡ true
   pub witnessed : each_passes (λ g w. is_witness p (without set g) w) set witnesses ≡ true
-
--- a minimal correction: a witness of all groups outside the set, and for each group of the set a refutation of them
--- together with it
-pub record AcceptsCorrection (p : Problem) (set : List ℕ) (witness : List Bool) (proofs : List Derivation) : Type 0 where
-  pub is_set : IsGroupSet set
-  pub witnessed : is_witness p (complement p.groups set) witness ≡ true
-  pub refuted : each_passes (λ g d. refutes p (complement p.groups (without set g)) d) set proofs ≡ true

@@ -2,7 +2,7 @@
 use Rattle.std.specs.Prelude.{◌≡◌, ℕ, Bool, true, false, List, [], ◌∷◌, take, pos, negsuc, ℤ}
 use Rattle.std.proofs.Common.{refl}
 use Rattle.sat_base.specs.Derivation.{Derivation, derives_within}
-use Rattle.gm_base.specs.Evidence.{selector_form, refutes, AcceptsConflict, AcceptsCorrection}
+use Rattle.gm_base.specs.Evidence.{selector_form, refutes, AcceptsConflict}
 use Rattle.gm_base.specs.declared.kind.Kind.TheVariants.{Conflict, Correction}
 use Rattle.gm_base.specs.Explored.{Found, block_clause, is_explored, groups_true, is_model}
 use Rattle.gm_base.specs.Rows.{four_clauses}
@@ -30,12 +30,6 @@ first_conflict = record { is_set = (omega arith, (omega arith, tt)); refuted = r
 pub second_conflict :
     AcceptsConflict four_clauses (1 ∷ 3 ∷ 4 ∷ []) second_proof ((false ∷ false ∷ []) ∷ (true ∷ false ∷ []) ∷ (true ∷ true ∷ []) ∷ [])
 second_conflict = record { is_set = (omega arith, (omega arith, (omega arith, tt))); refuted = refl; witnessed = refl }
-
-pub first_correction : AcceptsCorrection four_clauses (1 ∷ []) (false ∷ false ∷ []) (first_proof ∷ [])
-first_correction = record { is_set = (omega arith, tt); witnessed = refl; refuted = refl }
-
-pub second_correction : AcceptsCorrection four_clauses (2 ∷ 3 ∷ []) (true ∷ false ∷ []) (first_proof ∷ second_proof ∷ [])
-second_correction = record { is_set = (omega arith, (omega arith, tt)); witnessed = refl; refuted = refl }
 
 -- refused: hints in the wrong order, a step without its last hint, a proof that leaves out another group
 pub hints_out_of_order : refutes four_clauses (1 ∷ 2 ∷ []) (one_step 5 (negsuc 2 ∷ negsuc 3 ∷ []) (2 ∷ 2 ∷ [])) ≡ false

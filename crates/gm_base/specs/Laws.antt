@@ -5,7 +5,7 @@ use Rattle.gm_base.specs.Sets.{has, IsSubset, IsProperSubset, IsGroupSet, all_gr
 use Rattle.sat_base.specs.Members.{In}
 use Rattle.gm_base.specs.Problem.{Problem, IsProblem, Sat}
 use Rattle.sat_base.specs.Derivation.{Derivation}
-use Rattle.gm_base.specs.Evidence.{AcceptsConflict, AcceptsCorrection}
+use Rattle.gm_base.specs.Evidence.{AcceptsConflict}
 use Rattle.gm_base.specs.Explored.{Found, is_explored, is_model, groups_true}
 use Rattle.gm_base.specs.Minimal.{IsConflict, IsCorrection, is_conflict, is_correction, is_sat}
 
@@ -48,14 +48,6 @@ ConflictByEvidence =
     → IsProblem p
     → AcceptsConflict p set proof witnesses
     → IsConflict p set
-
--- accepted evidence shows a minimal correction
-abbrev pub CorrectionByEvidence : Type 0
-CorrectionByEvidence =
-    (p : Problem) (set : List ℕ) (witness : List Bool) (proofs : List Derivation)
-    → IsProblem p
-    → AcceptsCorrection p set witness proofs
-    → IsCorrection p set
 
 -- an ascending set of the problem's groups
 abbrev pub IsSetOf : Problem → List ℕ → Type 0

@@ -1,5 +1,5 @@
 //! Laws over the definitions alone. Each is the contract of a function that has no code.
-ghost use Rattle.gm_base.specs.Laws.{GroupsKeepUnsat, ClausesKeepUnsat, ConflictBySingles, CorrectionBySingles, TestsDecide, ConflictByEvidence, CorrectionByEvidence, HoldsOrMisses, HitEachOther, ModelsAreUnexplored};
+ghost use Rattle.gm_base.specs.Laws.{GroupsKeepUnsat, ClausesKeepUnsat, ConflictBySingles, CorrectionBySingles, TestsDecide, ConflictByEvidence, HoldsOrMisses, HitEachOther, ModelsAreUnexplored};
 
 /// More groups keep unsatisfiability.
 pub fn groups_keep_unsat()
@@ -22,10 +22,9 @@ pub fn tests_decide()
     ensures { TestsDecide }
 {}
 
-/// Accepted evidence shows a minimal conflict or a minimal correction, whoever made it.
+/// Accepted evidence shows a minimal conflict, whoever made it.
 pub fn accepted_is_minimal()
-    ensures conflict { ConflictByEvidence }
-    ensures correction { CorrectionByEvidence }
+    ensures { ConflictByEvidence }
 {}
 
 /// Each set of groups holds a minimal conflict or misses a minimal correction, and these are each other's minimal hitting

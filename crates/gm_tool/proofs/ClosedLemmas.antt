@@ -12,7 +12,7 @@ use Rattle.map_core.specs.declared.closing.Closing.{Closing}
 use Rattle.map_core.specs.Closings.{HoldsAll, verdict_by}
 use Rattle.map_core.specs.Core.{State}
 use Rattle.map_core.specs.Sound.{IsSound}
-use Rattle.evidence_rec.proofs.HeldLemmas.{all-minimal}
+use Rattle.evidence_rec.proofs.HeldLemmas.{accepted-minimal}
 use Rattle.gm_tool.specs.declared.enumeration.Bounds.{Bounds}
 use Rattle.gm_tool.specs.Closed.{IsClosedFor, IsBudgetSpent, IsEnumerated, HasLimit, AreDistinctMinimal, full_report, held_report, report_for, is_complete}
 use Rattle.gm_tool.specs.Endings.{status_by}
@@ -22,7 +22,7 @@ use Rattle.gm_tool.proofs.ReportLemmas.{of-problem}
 -- a sound state's records are of minimal sets, each of which stands there once
 AreDistinctMinimal-from : (s : State) → IsSound s → AreDistinctMinimal s.opening.problem s.records
 AreDistinctMinimal-from s ok =
-    record { minimal = all-minimal s.opening.problem s.records ok.opening.problem ok.accepted; distinct = ok.distinct }
+    record { minimal = accepted-minimal s.opening.problem s.records ok.opening.problem ok.accepted; distinct = ok.distinct }
 
 -- the verdict of each status
 pub complete_by : (v : Verdict) → status_by v ≡ 0 → v ≡ verdict.Complete

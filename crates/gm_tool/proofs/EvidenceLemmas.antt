@@ -6,10 +6,11 @@ use Rattle.sat_base.specs.Derivation.{Derivation, HasIds}
 use Rattle.gm_base.specs.Problem.{Problem}
 use Rattle.lrat_steps.specs.Log.{LogStep}
 use Rattle.evidence_rec.specs.declared.record.Record.{Record}
-use Rattle.evidence_rec.specs.Records.{IsAccepted, founds}
+use Rattle.evidence_rec.specs.Records.{founds, AllAccepted}
 use Rattle.evidence_rec.specs.Seeding.{shows_all_explored}
+use Rattle.evidence_text.specs.declared.version.Version.TheVariants.{Two}
 use Rattle.evidence_text.specs.Readable.{HasRecordIds, IsReadable, IsReadableEnd}
-use Rattle.evidence_text.proofs.AcceptedLemmas.{accepted-readable, closing-readable}
+use Rattle.evidence_text.proofs.AcceptedLemmas.{records-readable, closing-readable}
 use Rattle.map_core.specs.declared.closing.Verdict.{Verdict}
 use Rattle.map_core.specs.declared.closing.Verdict.TheVariants as verdict
 use Rattle.map_core.specs.declared.closing.Closing.{Closing}
@@ -34,10 +35,6 @@ shown-by : (v : Verdict) (o : Option Derivation) (P Q : Derivation → Type 0)
 shown-by v None P Q m f = tt
 shown-by v (Some d) P Q m f = f d m.1
 
-records-readable : (p : Problem) (rs : List Record) → AllByRecursion (IsAccepted p) rs → AllByRecursion HasRecordIds rs → AllByRecursion (IsReadable p) rs
-records-readable p [] accepted ids = tt
-records-readable p (r ∷ rs) accepted ids = (accepted-readable p r accepted.0 ids.0, records-readable p rs accepted.1 ids.1)
-
 end-readable : (p : Problem) (rs : List Record) (o : Option Derivation) → IfSome o (λ d. shows_all_explored p.groups (founds rs) d ≡ true) → IfSome o HasIds
     → IsReadableEnd p o
 end-readable p rs None shows ids = tt
@@ -46,10 +43,11 @@ end-readable p rs (Some d) shows ids = closing-readable p (founds rs) d shows id
 pub valid-from : {p : Problem} {first : List Record} {b : Bounds} {logs : List (List LogStep)} (closing : Closing) → IsClosedFor p first b logs closing
     → HasSmallIds closing → IsValid p closing
 valid-from {p} closing h small = record {
+  version = Two;
   closing = closing.proof;
   is_complete = complete-by closing.verdict closing.proof Shows h.left.closing_is.proof;
   text_is = refl;
-  readable = records-readable p closing.records (accepted-in h) small.records;
+  readable = records-readable p closing.records small.few (accepted-in h) small.records;
   readable_end = end-readable p closing.records closing.proof closes small.proof;
   accepted = accepted-in h;
   distinct = distinct-in h;

@@ -18,7 +18,7 @@ use Rattle.report_text.specs.Report.{report_text}
 use Rattle.report_text.specs.Sorted.{IsSortedOf}
 use Rattle.report_text.specs.Reports.{IsReportOf}
 use Rattle.evidence_rec.specs.declared.record.Record.{Record}
-use Rattle.evidence_rec.specs.Records.{IsAccepted}
+use Rattle.evidence_rec.specs.Records.{AllAccepted}
 use Rattle.map_core.specs.Core.{is_held}
 use Rattle.map_core.specs.Sound.{AreNew}
 use Rattle.map_core.specs.Closings.{HoldsAll}
@@ -271,7 +271,7 @@ records_report p complete records =
 
 -- the report of the sets of distinct accepted records is that of the minimal sets that are held
 pub held_report-from : (p : Problem) (complete : Bool) (records : List Record) (text : List ℕ) → IsProblem p
-    → AllByRecursion (IsAccepted p) records → AreNew [] records
+    → AllAccepted p records → AreNew [] records
     → IsReportOf p.groups complete (conflicts_in records) (corrections_in records) text
     → text ≡ records_report p complete records
 held_report-from p complete records text ok all new report =

@@ -6,7 +6,7 @@ use Rattle.gm_base.specs.Problem.{Problem, IsProblem}
 use Rattle.lrat_steps.specs.Log.{LogStep}
 use Rattle.report_text.specs.Reports.{IsReportOf}
 use Rattle.evidence_rec.specs.declared.record.Record.{Record}
-use Rattle.evidence_rec.specs.Records.{IsAccepted}
+use Rattle.evidence_rec.specs.Records.{AllAccepted}
 use Rattle.map_core.specs.declared.entry.Opening.{Opening}
 use Rattle.map_core.specs.declared.closing.Verdict.{Verdict}
 use Rattle.map_core.specs.declared.closing.Verdict.TheVariants as verdict
@@ -35,10 +35,10 @@ report-by h verdict.Budget is = refl
 
 -- the records are accepted, and no two are of one kind and one set
 pub accepted-in : {p : Problem} {first : List Record} {b : Bounds} {logs : List (List LogStep)} {closing : Closing} → IsClosedFor p first b logs closing
-    → AllByRecursion (IsAccepted p) closing.records
+    → AllAccepted p closing.records
 accepted-in {closing = closing} h =
-    subst (λ q. AllByRecursion (IsAccepted q) closing.records) (of-problem h)
-    (subst (AllByRecursion (IsAccepted h.left.state.opening.problem)) (sym h.left.closing_is.records) h.left.closing_is.sound.accepted)
+    subst (λ q. AllAccepted q closing.records) (of-problem h)
+    (subst (AllAccepted h.left.state.opening.problem) (sym h.left.closing_is.records) h.left.closing_is.sound.accepted)
 
 pub distinct-in : {p : Problem} {first : List Record} {b : Bounds} {logs : List (List LogStep)} {closing : Closing} → IsClosedFor p first b logs closing → AreNew [] closing.records
 distinct-in h = subst (AreNew []) (sym h.left.closing_is.records) h.left.closing_is.sound.distinct

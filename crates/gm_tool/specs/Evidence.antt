@@ -1,8 +1,9 @@
 -- The evidence of what is left of an enumeration.
-use Rattle.std.specs.Prelude.{IfSome, ℕ, List}
+use Rattle.std.specs.Prelude.{IfSome, ℕ, ◌≤◌, List, length}
 use Rattle.std.specs.List.{AllByRecursion}
-use Rattle.sat_base.specs.Derivation.{HasIds}
+use Rattle.sat_base.specs.Derivation.{HasIds, max_id}
 use Rattle.gm_base.specs.Problem.{Problem}
+use Rattle.evidence_text.specs.declared.version.Version.TheVariants.{Two}
 use Rattle.evidence_text.specs.Readable.{HasRecordIds}
 use Rattle.evidence_text.specs.Text.{evidence_text}
 use Rattle.map_core.specs.declared.closing.Closing.{Closing}
@@ -11,13 +12,14 @@ use Rattle.gm_tool.specs.Closed.{is_complete}
 
 -- its records in the order in which they are held, and what closes them
 abbrev pub evidence_of : Problem → Closing → List ℕ
-evidence_of p closing = evidence_text p closing.records closing.proof
+evidence_of p closing = evidence_text Two p closing.records closing.proof
 
 -- it shows what each record says, and that none is missing where the enumeration is complete
 abbrev pub IsValid : Problem → Closing → Type 0
 IsValid p closing = AuditYes p (evidence_of p closing) closing.records (is_complete closing.verdict)
 
--- its ids are ones that a text can hold
+-- its ids, and the numbers of its records, are ones that a text can hold
 pub record HasSmallIds (closing : Closing) : Type 0 where
+  pub few : length closing.records ≤ max_id
   pub records : AllByRecursion HasRecordIds closing.records
   pub proof : IfSome closing.proof HasIds

@@ -3,7 +3,7 @@ use Rattle.std.specs.Prelude.{◌≡◌, ℕ, Bool, true, List, [], Option, Some
 use Rattle.std.specs.List.{AllByRecursion}
 use Rattle.gm_base.specs.Problem.{Problem}
 use Rattle.evidence_rec.specs.declared.record.Record.{Record}
-use Rattle.evidence_rec.specs.Records.{IsAccepted}
+use Rattle.evidence_rec.specs.Records.{AllAccepted}
 use Rattle.evidence_rec.specs.Held.{AreNew, AreExactlyAll}
 use Rattle.gm_audit.specs.Audits.{AuditYes}
 use Rattle.gm_audit.specs.Refusals.{first_refusal}
@@ -25,5 +25,5 @@ GoesOnFrom p (Some name) held complete first = AreShown p (held name) complete f
 
 -- records that an enumeration may begin with: each is accepted, and no two are of one kind and one set
 pub record AreGoodFirst (p : Problem) (first : List Record) : Type 0 where
-  pub accepted : AllByRecursion (IsAccepted p) first
+  pub accepted : AllAccepted p first
   pub distinct : AreNew [] first

@@ -1,7 +1,6 @@
 //! The enumeration of a problem, from its beginning to what is left of it.
 ghost use Rattle.std.specs.Prelude.{◌≡◌, ◌<◌, ◌≤◌, map, All, Ok, IfOk, length};
-ghost use Rattle.std.specs.List.{AllByRecursion};
-ghost use Rattle.evidence_rec.specs.Records.{IsAccepted};
+ghost use Rattle.evidence_rec.specs.Records.{AllAccepted};
 ghost use Rattle.gm_words.specs.Requests.{AreGoodJobs};
 ghost use Rattle.worker_pool.specs.Workers.{IsFresh};
 ghost use Rattle.gm_tool.specs.Closed.{IsLeft};
@@ -90,7 +89,7 @@ fn fresh_oracles<R: Threads + Sync>(
     first: &[Record],
     count: u32,
 ) -> Result<Vec<KnownSets<GroupOracle>>, AllocError>
-    requires { AllByRecursion (IsAccepted problem.now) first.now }
+    requires { AllAccepted problem.now first.now }
     ensures count { IfOk result (λ oracles. length oracles.items ≡ count) }
     ensures fresh { IfOk result (λ oracles. All (λ o. IsFresh problem.now o) oracles.items) }
 {
@@ -99,7 +98,7 @@ fn fresh_oracles<R: Threads + Sync>(
         alloc,
         count as usize,
         &|_: usize| -> Result<KnownSets<GroupOracle>, AllocError>
-            requires { AllByRecursion (IsAccepted problem.now) first.now }
+            requires { AllAccepted problem.now first.now }
             ensures { IfOk result (IsFresh problem.entry.now) }
         { fresh_oracle(alloc, problem, first) },
     )?;
@@ -122,7 +121,7 @@ fn fresh_oracle(
     problem: &Problem,
     first: &[Record],
 ) -> Result<KnownSets<GroupOracle>, AllocError>
-    requires { AllByRecursion (IsAccepted problem.now) first.now }
+    requires { AllAccepted problem.now first.now }
     ensures { IfOk result (IsFresh problem.now) }
 {
     let solver = GroupOracle::new(alloc, problem)?;
@@ -133,7 +132,7 @@ fn fresh_oracle(
 
 // Tells an oracle what is known at first.
 fn know_all(alloc: Global, oracle: &mut KnownSets<GroupOracle>, first: &[Record])
-    requires { AllByRecursion (IsAccepted oracle.old.problem) first.now }
+    requires { AllAccepted oracle.old.problem first.now }
     ensures { oracle.new ≡ oracle.old }
 {
     for found in first {

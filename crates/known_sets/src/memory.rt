@@ -8,7 +8,7 @@
 //! Shrinking asks one question for each group of a set, and growing one for each group outside of a set, and there may be
 //! thousands. So the groups of the last refuted set and of the last satisfied set are marked, and a question that names such
 //! a set and the group is looked up without a look at the rest of the set.
-ghost use Rattle.std.specs.Prelude.{◌≡◌, true, IfOk, IfSome};
+ghost use Rattle.std.specs.Prelude.{◌≡◌, true, IfOk, IfSome, List};
 ghost use Rattle.gm_base.specs.Sets.{without, with_group, IsSubset, all_groups};
 ghost use Rattle.gm_base.specs.Problem.{Problem};
 ghost use Rattle.gm_base.specs.Evidence.{refutes, is_witness};
@@ -183,9 +183,10 @@ impl Memory {
         self.refuted.hold(alloc, set, proof)
     }
 
-    /// Remembers a record.
+    /// Remembers a record: what refutes a conflict, or what satisfies all groups but a correction. A refutation in a
+    /// correction is left alone, and so is the conflict that it may name.
     pub fn keep_record(&mut self, alloc: Global, found: &Record)
-        ensures { (p : Problem) → IsRightFor p self.old → IsAccepted p found.now → IsRightFor p self.new }
+        ensures { (p : Problem) (earlier : List Record) → IsRightFor p self.old → IsAccepted p earlier found.now → IsRightFor p self.new }
     {
         match found {
             Record::Conflict { set, proof, .. } => {

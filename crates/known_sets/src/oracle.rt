@@ -76,9 +76,9 @@ impl<O: Oracle> KnownSets<O> {
         &self.oracle
     }
 
-    /// Remembers a record, whoever found it.
+    /// Remembers a record, whoever found it, that is accepted with some before it.
     pub fn know(&mut self, alloc: Global, found: &Record)
-        requires { IsAccepted self.old.problem found.now }
+        requires { (earlier : List Record) × IsAccepted self.old.problem earlier found.now }
         ensures { self.new ≡ self.old }
     {
         self.memory.keep_record(alloc, found);

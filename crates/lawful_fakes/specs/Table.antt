@@ -7,7 +7,7 @@ use Rattle.gm_base.specs.Problem.{Problem}
 use Rattle.gm_base.specs.Evidence.{refutes}
 use Rattle.lrat_steps.specs.Log.{LogStep}
 use Rattle.evidence_rec.specs.declared.record.Record.{Record}
-use Rattle.evidence_rec.specs.Records.{IsAccepted}
+use Rattle.evidence_rec.specs.Records.{IsAcceptedAlone}
 use Rattle.evidence_rec.specs.Asking.{OracleState, IsHonestOver, asked_once}
 use Rattle.lawful_fakes.specs.declared.table_oracle.Refuted.{Refuted}
 
@@ -19,7 +19,7 @@ pub record IsRefutation (p : Problem) (set part : List ℕ) (proof : Derivation)
 
 -- accepted conflicts, an honest log, and a refutation of the set of the last answer
 pub record KnowsTable (p : Problem) (conflicts : List Record) (log : List LogStep) (last : Option Refuted) : Type 0 where
-  pub accepted : AllByRecursion (IsAccepted p) conflicts
+  pub accepted : AllByRecursion (IsAcceptedAlone p) conflicts
   pub honest : IsHonestOver p log
   pub refuted : IfSome last (λ (r : Refuted). refutes p r.set r.proof ≡ true)
 

@@ -1,8 +1,8 @@
 //! Records that a trial wrote.
 ghost use Rattle.std.specs.Prelude.{◌≡◌, All, IfOk, OnOk, IsTrue, List, Bool, length};
-ghost use Rattle.evidence_rec.specs.Records.{IsShaped, IsAccepted};
+ghost use Rattle.evidence_rec.specs.Records.{IsShaped, IsAcceptedAlone};
 
-use evidence_rec::{Record, Witnesses, check_record};
+use evidence_rec::{Record, Records, Witnesses, check_record};
 use gm_base::{GroupSet, Problem};
 use std::alloc::{AllocError, AllocFailed, Global};
 
@@ -26,9 +26,9 @@ impl<T: Drop> From<AllocFailed<T>> for Lacking {
     }
 }
 
-/// The record, where its evidence shows what it says.
+/// The record, where its evidence shows what it says with no record before it.
 pub fn checked(alloc: Global, problem: &Problem, record: Record) -> Result<Record, Lacking>
-    ensures accepted { IfOk result (IsAccepted problem.now) }
+    ensures accepted { IfOk result (IsAcceptedAlone problem.now) }
     ensures same { IfOk result (λ r. r ≡ «record») }
 {
     accept(alloc, problem, &record)?;
@@ -37,7 +37,7 @@ pub fn checked(alloc: Global, problem: &Problem, record: Record) -> Result<Recor
 
 // Refuses a record whose evidence does not show what it says.
 fn accept(alloc: Global, problem: &Problem, record: &Record) -> Result<(), Lacking>
-    ensures { OnOk result (IsAccepted problem.now «record».now) }
+    ensures { OnOk result (IsAcceptedAlone problem.now «record».now) }
 {
     if is_accepted(alloc, problem, record)? {
         Ok(())
@@ -47,13 +47,14 @@ fn accept(alloc: Global, problem: &Problem, record: &Record) -> Result<(), Lacki
 }
 
 fn is_accepted(alloc: Global, problem: &Problem, record: &Record) -> Result<bool, AllocError>
-    ensures { IfOk result (λ is. IsTrue is → IsAccepted problem.now «record».now) }
+    ensures { IfOk result (λ is. IsTrue is → IsAcceptedAlone problem.now «record».now) }
 {
     let all = GroupSet::new(alloc).complement(alloc, problem.groups())?;
     if !record.set().is_subset(&all) || !is_shaped(problem, record) {
         return Ok(false);
     }
-    let verdict = check_record(alloc, problem, record)?;
+    let none = Records::new(alloc);
+    let verdict = check_record(alloc, problem, &none, record)?;
     Ok(verdict.is_ok())
 }
 

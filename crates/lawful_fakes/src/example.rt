@@ -6,12 +6,12 @@ ghost use Rattle.std.specs.Prelude.{◌≡◌, ◌≤◌, ◌++◌, ◌∷◌, [
 ghost use Rattle.sat_base.specs.Derivation.{max_id};
 ghost use Rattle.gm_base.specs.Sets.{IsSubset, all_groups};
 ghost use Rattle.lrat_steps.specs.Log.{learned_count};
-ghost use Rattle.evidence_rec.specs.Records.{IsAccepted};
+ghost use Rattle.evidence_rec.specs.Records.{IsAcceptedAlone};
 ghost use Rattle.evidence_rec.specs.Asking.{IsHonestOver};
 
 use crate::evidence::{Lacking, checked};
 use crate::table_oracle::TableOracle;
-use evidence_rec::{Proofs, Record, Witnesses};
+use evidence_rec::{Proofs, Record, Refutation, Witnesses};
 use gm_base::{
     Assign, AssignBuilder, Clause, Clauses, Derivation, DerivationBuilder, GroupSet, Lit, Lits,
     Problem,
@@ -128,14 +128,14 @@ fn refutation(alloc: Global, of_two: bool) -> Result<Derivation, Lacking> {
 fn refutations(alloc: Global, count: usize) -> Result<Proofs, Lacking> {
     let mut proofs = Proofs::new(alloc);
     for at in 0..count {
-        proofs.push(refutation(alloc, at == 0)?)?;
+        proofs.push(Refutation::Steps(refutation(alloc, at == 0)?))?;
     }
     Ok(proofs)
 }
 
 /// The conflict of the first two groups, or that of the three others.
 pub fn conflict(alloc: Global, problem: &Problem, of_two: bool) -> Result<Record, Lacking>
-    ensures { IfOk result (IsAccepted problem.now) }
+    ensures { IfOk result (IsAcceptedAlone problem.now) }
 {
     let groups: &[u32] = if of_two { &[1, 2] } else { &[1, 3, 4] };
     let pairs: &[(bool, bool)] = if of_two {
@@ -158,7 +158,7 @@ pub fn correction(
     groups: &[u32],
     values: (bool, bool),
 ) -> Result<Record, Lacking>
-    ensures { IfOk result (IsAccepted problem.now) }
+    ensures { IfOk result (IsAcceptedAlone problem.now) }
 {
     let record = Record::Correction {
         set: set_of(alloc, problem.groups(), groups)?,

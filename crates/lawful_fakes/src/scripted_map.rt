@@ -7,7 +7,7 @@ ghost use Rattle.sat_base.specs.Members.{In};
 ghost use Rattle.lawful_fakes.specs.Script.{found_in};
 
 use crate::block::{Block, any_takes_out, map_problem};
-use evidence_rec::{MapEngine, Record, Seed, Witnesses, block_lits, check_record};
+use evidence_rec::{MapEngine, Record, Records, Seed, Witnesses, block_lits, check_record};
 use gm_base::{Derivation, GroupSet, Purse, Side};
 use lrat_steps::{Log, LogStep};
 use sat_base::Row;
@@ -213,6 +213,7 @@ fn is_ended(
         proof: ending.copy()?,
         witnesses: Witnesses::new(alloc),
     };
-    let verdict = check_record(alloc, &problem, &record)?;
+    let none = Records::new(alloc);
+    let verdict = check_record(alloc, &problem, &none, &record)?;
     Ok(verdict.is_ok())
 }

@@ -5,7 +5,7 @@ ghost use Rattle.gm_base.specs.Sets.{IsSubset, all_groups};
 ghost use Rattle.gm_base.specs.Problem.{IsClause};
 ghost use Rattle.gm_base.specs.Evidence.{refutes, is_witness, with_selector};
 ghost use Rattle.lrat_steps.specs.Log.{Input, learned_count};
-ghost use Rattle.evidence_rec.specs.Records.{IsAccepted};
+ghost use Rattle.evidence_rec.specs.Records.{IsAcceptedAlone};
 ghost use Rattle.evidence_rec.specs.Asking.{OracleState, TellsAsked, IsSpent, IsHonestOver, refuted_by, asked_once};
 ghost use Rattle.lawful_fakes.specs.Table.{IsRefutation, unanswered};
 
@@ -74,7 +74,7 @@ impl TableOracle {
 
     /// Tells it one more conflict.
     pub fn learn(&mut self, conflict: Record) -> Result<(), AllocError>
-        requires { IsAccepted self.old.problem conflict }
+        requires { IsAcceptedAlone self.old.problem conflict }
         ensures { self.new ≡ self.old }
     {
         self.conflicts.push(conflict)
@@ -158,7 +158,7 @@ fn refutation_of(
     set: &GroupSet,
     whole: bool,
 ) -> Result<Refuted, AllocError>
-    requires { AllByRecursion (IsAccepted problem.now) conflicts.now }
+    requires { AllByRecursion (IsAcceptedAlone problem.now) conflicts.now }
     ensures { IfOk result (λ r. IsRefutation problem.now set.now r.set r.proof) }
 {
     for record in conflicts.as_slice() {
@@ -176,7 +176,7 @@ fn refuted_by(
     set: &GroupSet,
     whole: bool,
 ) -> Result<Option<Refuted>, AllocError>
-    requires { IsAccepted problem.now «record».now }
+    requires { IsAcceptedAlone problem.now «record».now }
     ensures { IfOk result (λ found. IfSome found (λ r. IsRefutation problem.now set.now r.set r.proof)) }
 {
     let _groups = set.as_slice();

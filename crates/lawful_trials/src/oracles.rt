@@ -13,7 +13,7 @@
 //! The lines of the text are asked of it: see `asking.rt`.
 ghost use Rattle.std.specs.Prelude.{◌≡◌, IfOk};
 ghost use Rattle.evidence_rec.specs.Asking.{IsHonestOver};
-ghost use Rattle.evidence_rec.specs.Records.{IsAccepted};
+ghost use Rattle.evidence_rec.specs.Records.{IsAcceptedAlone};
 
 use crate::asking::{Counted, talk};
 use crate::moves::Played;
@@ -127,7 +127,7 @@ fn tell<O: Counted>(
     found: Result<Record, Lacking>,
 ) -> Played
     requires problem { known.old.problem ≡ problem.now }
-    requires accepted { IfOk found (IsAccepted problem.now) }
+    requires accepted { IfOk found (IsAcceptedAlone problem.now) }
     ensures { known.new.problem ≡ problem.now }
 {
     match found {

@@ -9,7 +9,7 @@
 //! A record is one of the four clauses': `conflict 1 2`, `conflict 1 3 4`, `correction 1 : 00`, `correction 2 3 : 10` or
 //! `correction 2 4 : 11`.
 ghost use Rattle.std.specs.Prelude.{◌≡◌, IfOk};
-ghost use Rattle.evidence_rec.specs.Records.{IsAccepted};
+ghost use Rattle.evidence_rec.specs.Records.{IsAcceptedAlone};
 ghost use Rattle.evidence_rec.specs.Seeding.{new_engine};
 
 use crate::words::{has_word, number_at, numbers_in, pairs_in, parts_in, set_in};
@@ -79,7 +79,7 @@ fn ids_in(alloc: Global, step: &Step<'_>, part: usize) -> Result<Vec<u64>, Lacki
 
 /// The record that a line ends with.
 pub fn record_in(alloc: Global, problem: &Problem, step: &Step<'_>) -> Result<Record, Lacking>
-    ensures { IfOk result (IsAccepted problem.now) }
+    ensures { IfOk result (IsAcceptedAlone problem.now) }
 {
     let numbers = numbers_in(alloc, step, 0)?;
     match numbers.as_slice() {
@@ -95,7 +95,7 @@ fn record_of(
     groups: &[u32],
     step: &Step<'_>,
 ) -> Result<Record, Lacking>
-    ensures { IfOk result (IsAccepted problem.now) }
+    ensures { IfOk result (IsAcceptedAlone problem.now) }
 {
     if !has_word(step, "conflict") {
         return correction_of(alloc, problem, groups, step);
@@ -113,7 +113,7 @@ fn correction_of(
     groups: &[u32],
     step: &Step<'_>,
 ) -> Result<Record, Lacking>
-    ensures { IfOk result (IsAccepted problem.now) }
+    ensures { IfOk result (IsAcceptedAlone problem.now) }
 {
     let pairs = pairs_in(alloc, step, 1)?;
     match pairs.first() {

@@ -1,7 +1,7 @@
 -- The numbers and names of the reasons for which evidence is refused.
 use Rattle.std.specs.Prelude.{ℕ, List, codes}
 use Rattle.lrat_check.specs.declared.why.Why.{Why}
-use Rattle.lrat_check.specs.declared.why.Why.TheVariants.{BadLine, BadNumber, Truncated, OtherProblem, TrailingText, TooLong, UnknownHint, NotUnit, NotFalse, HintsLeft, IdNotRising, BadLiteral, UnknownClause, NotRefuting, WitnessFails, RepeatedSet}
+use Rattle.lrat_check.specs.declared.why.Why.TheVariants.{BadLine, BadNumber, Truncated, OtherProblem, TrailingText, TooLong, UnknownHint, NotUnit, NotFalse, HintsLeft, IdNotRising, BadLiteral, UnknownClause, NotRefuting, WitnessFails, RepeatedSet, UnknownRecord, NotInside}
 
 abbrev pub number_of : Why → ℕ
 number_of BadLine = 1
@@ -20,6 +20,8 @@ number_of UnknownClause = 16
 number_of NotRefuting = 17
 number_of WitnessFails = 18
 number_of RepeatedSet = 19
+number_of UnknownRecord = 20
+number_of NotInside = 21
 
 abbrev pub name_of : Why → List ℕ
 name_of BadLine = codes "BadLine"
@@ -38,3 +40,5 @@ name_of UnknownClause = codes "UnknownClause"
 name_of NotRefuting = codes "NotRefuting"
 name_of WitnessFails = codes "WitnessFails"
 name_of RepeatedSet = codes "RepeatedSet"
+name_of UnknownRecord = codes "UnknownRecord"
+name_of NotInside = codes "NotInside"

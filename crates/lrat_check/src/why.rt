@@ -52,10 +52,14 @@ pub enum Why {
     WitnessFails,
     /// A set that stood before.
     RepeatedSet,
+    /// A number that is no earlier record's.
+    UnknownRecord,
+    /// An earlier record that is a correction, or a conflict with another group of this correction.
+    NotInside,
 }
 
 impl Why {
-    /// Its number, from 1 to 6 for the form of the text, from 10 to 19 for what the text says.
+    /// Its number, from 1 to 6 for the form of the text, from 10 to 21 for what the text says.
     pub fn number(&self) -> u32
         ensures { result ≡ number_of self.now }
     {
@@ -76,6 +80,8 @@ impl Why {
             Why::NotRefuting => 17,
             Why::WitnessFails => 18,
             Why::RepeatedSet => 19,
+            Why::UnknownRecord => 20,
+            Why::NotInside => 21,
         }
     }
 
@@ -100,6 +106,8 @@ impl Why {
             Why::NotRefuting => "NotRefuting",
             Why::WitnessFails => "WitnessFails",
             Why::RepeatedSet => "RepeatedSet",
+            Why::UnknownRecord => "UnknownRecord",
+            Why::NotInside => "NotInside",
         }
     }
 }

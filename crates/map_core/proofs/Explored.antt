@@ -7,9 +7,10 @@ use Rattle.gm_base.specs.Minimal.{IsConflict, IsCorrection}
 use Rattle.gm_base.specs.Explored.{explores, is_explored, IsUnexplored}
 use Rattle.gm_base.specs.declared.kind.Kind.TheVariants.{Conflict as OfConflict, Correction as OfCorrection}
 use Rattle.evidence_rec.specs.declared.record.Record.{Record}
-use Rattle.evidence_rec.specs.Records.{kind_of, set_of, found_of, founds}
+use Rattle.evidence_rec.specs.Records.{kind_of, set_of, found_of, founds, IsRight}
 use Rattle.evidence_rec.specs.Seeding.{IsTop}
 use Rattle.evidence_rec.specs.Held.{is_held, Decides}
+use Rattle.evidence_rec.proofs.AcceptedLemmas.{accepted-right, alone-right}
 use Rattle.evidence_rec.proofs.Explored.{unsat_above, sat_outside, decides_all, conflict-held, correction-held, all_held, held_at_end}
 use Rattle.map_core.specs.declared.entry.Call.{Call}
 use Rattle.map_core.specs.declared.entry.Call.TheVariants.{Take, Refill, Post, Retire}
@@ -20,9 +21,13 @@ use Rattle.map_core.specs.Core.{State, turn_at, settle, Does, CoreStep}
 use Rattle.map_core.specs.Sound.{IsSound}
 use Rattle.map_core.proofs.Steps.{grown, is_longer, explored-append}
 
+-- the records of a state are right
+all_right : (s : State) → IsSound s → AllByRecursion (IsRight s.opening.problem) s.records
+all_right s ok = accepted-right s.opening.problem s.records ok.opening.problem ok.accepted
+
 pub sound_decides : (s : State) (set : List ℕ) → IsSound s → IsSubset set (all_groups s.opening.problem.groups)
     → AllByRecursion (λ (r : Record). explores (found_of r) set ≡ true → Decides s.opening.problem (kind_of r) set) s.records
-sound_decides s set ok within = decides_all s.opening.problem set ok.opening.problem within s.records ok.accepted
+sound_decides s set ok within = decides_all s.opening.problem set within s.records (all_right s ok)
 
 -- what is explored stays so
 pub steps_explore : (s t : State) (e : Entry) (set : List ℕ) → CoreStep s e t
@@ -39,8 +44,8 @@ pub held_is_minimal : (s : State) (set : List ℕ) → IsSound s
     → (is_held s.records OfConflict set ≡ true → IsConflict s.opening.problem set)
     × (is_held s.records OfCorrection set ≡ true → IsCorrection s.opening.problem set)
 held_is_minimal s set ok = (
-  conflict-held s.opening.problem s.records set ok.opening.problem ok.accepted,
-  correction-held s.opening.problem s.records set ok.opening.problem ok.accepted,
+  conflict-held s.opening.problem s.records set (all_right s ok),
+  correction-held s.opening.problem s.records set (all_right s ok),
 )
 
 -- a set explored by a held conflict and a held correction would be both unsatisfiable and satisfiable
@@ -61,7 +66,7 @@ pub exhausted_holds_all : (s : State) (set : List ℕ) → IsSound s → s.exhau
     → (IsConflict s.opening.problem set → is_held s.records OfConflict set ≡ true)
     × (IsCorrection s.opening.problem set → is_held s.records OfCorrection set ≡ true)
 exhausted_holds_all s set ok marked is_set within =
-    all_held s.opening.problem s.records set ok.opening.problem ok.accepted (ok.exhausted marked) is_set within
+    all_held s.opening.problem s.records set (all_right s ok) (ok.exhausted marked) is_set within
 
 -- a post answered New would add a record that is held
 not_new : (s : State) (t : Turn) (call : Call) (engine : Option ℕ) (u : Turn) (records : List Record) → IsSound s
@@ -71,7 +76,8 @@ not_new s t Take (Some n) u records ok marked h = h.0.1
 not_new s t (Refill asked) engine u records ok marked h = h.1
 not_new s t (Post kind groups) engine u records ok marked h =
     let (r, of, is) = h.1.3 in
-    let held = held_at_end s.opening.problem s.records r ok.opening.problem ok.accepted (ok.exhausted marked) of.accepted in
+    let held = held_at_end s.opening.problem s.records r (all_right s ok) (ok.exhausted marked)
+    (alone-right s.opening.problem r ok.opening.problem of.accepted) in
     let same = ap (is_held s.records kind) (sym of.set_is) ∙ ap (λ k. is_held s.records k (set_of r)) (sym of.kind_is) in
     false≢true (sym h.1.0 ∙ same ∙ held)
 not_new s t Retire engine u records ok marked h = cc (h.1)

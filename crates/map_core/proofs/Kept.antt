@@ -30,6 +30,7 @@ use Rattle.map_core.specs.Asked.{GivesProof}
 use Rattle.map_core.specs.Closings.{HaveEnded}
 use Rattle.map_core.specs.Kept.{state_of, KeepsProof, IsDriven, IsKept, IsReady}
 use Rattle.map_core.proofs.Steps.{Adds, grown, is_longer, runs_sound, run-push, last-same}
+use Rattle.evidence_rec.proofs.AcceptedLemmas.{accepted-right, alone-right}
 use Rattle.evidence_rec.proofs.Explored.{held_at_end}
 
 -- what holds of every state that a run reaches holds of a core
@@ -206,7 +207,8 @@ keeps-more : (s : State) (r : Record) (records : List Record) (proof : Option De
 keeps-more s r records None ok adds h = h
 keeps-more s r records (Some d) ok adds h =
     absurd
-    (false≢true (sym adds.fresh ∙ held_at_end s.opening.problem s.records r ok.opening.problem ok.accepted (ok.exhausted h.0) adds.accepted))
+    (false≢true (sym adds.fresh ∙ held_at_end s.opening.problem s.records r (accepted-right s.opening.problem s.records ok.opening.problem ok.accepted) (ok.exhausted h.0)
+    (alone-right s.opening.problem r ok.opening.problem adds.accepted)))
 
 -- the step that a call makes
 pub step_made : (tops : Bool) (problem : Problem) (first budget limit : ℕ) (common common' : Common)

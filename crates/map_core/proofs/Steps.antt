@@ -12,7 +12,8 @@ use native.Mathlib.Decide.{ℕ_discrete}
 use Rattle.gm_base.specs.Explored.{AllExplored, is_explored, explores}
 use Rattle.gm_base.specs.declared.kind.Kind.{Kind}
 use Rattle.evidence_rec.specs.declared.record.Record.{Record}
-use Rattle.evidence_rec.specs.Records.{kind_of, set_of, found_of, founds, IsAccepted}
+use Rattle.evidence_rec.proofs.AcceptedLemmas.{accepted-push, accepted-alone}
+use Rattle.evidence_rec.specs.Records.{kind_of, set_of, found_of, founds, IsAcceptedAlone, AllAccepted}
 use Rattle.map_core.specs.declared.entry.Call.{Call}
 use Rattle.map_core.specs.declared.entry.Call.TheVariants.{Take, Refill, Post, Retire}
 use Rattle.map_core.specs.declared.entry.Reply.{Reply}
@@ -28,7 +29,7 @@ use Rattle.map_core.proofs.Turns.{TurnFacts, turn_facts}
 
 -- one accepted record more, that was not held, where there was room for it
 pub record Adds (s : State) (records : List Record) (r : Record) : Type 0 where
-  pub accepted : IsAccepted s.opening.problem r
+  pub accepted : IsAcceptedAlone s.opening.problem r
   pub fresh : is_held s.records (kind_of r) (set_of r) ≡ false
   pub room : is_full s.opening s.records ≡ false
   pub is : records ≡ s.records ++ r ∷ []
@@ -193,10 +194,10 @@ after_sound s e u records ok alive f more =
       opening = ok.opening;
       count = length-set s.workers i me ∙ ok.count;
       accepted = elim more [
-        | inl same ↦ subst (AllByRecursion (IsAccepted s.opening.problem)) (sym same) ok.accepted
+        | inl same ↦ subst (AllAccepted s.opening.problem) (sym same) ok.accepted
         | inr (r, adds) ↦
-            subst (AllByRecursion (IsAccepted s.opening.problem)) (sym adds.is)
-            (AllByRecursion-push (IsAccepted s.opening.problem) s.records r ok.accepted adds.accepted)
+            subst (AllAccepted s.opening.problem) (sym adds.is)
+            (accepted-push s.opening.problem s.records r ok.accepted (accepted-alone s.opening.problem s.records r adds.accepted))
       ];
       distinct = elim more [
         | inl same ↦ subst (AreNew []) (sym same) ok.distinct

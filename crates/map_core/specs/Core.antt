@@ -11,7 +11,7 @@ use Rattle.gm_base.specs.Explored.{Found}
 use Rattle.gm_base.specs.declared.kind.Kind.{Kind}
 use Rattle.gm_base.specs.declared.kind.Kind.TheVariants.{Conflict, Correction}
 use Rattle.evidence_rec.specs.declared.record.Record.{Record}
-use Rattle.evidence_rec.specs.Records.{kind_of, set_of, founds, IsAccepted}
+use Rattle.evidence_rec.specs.Records.{kind_of, set_of, founds, IsAcceptedAlone}
 pub use Rattle.evidence_rec.specs.Held.{same_kind, same_set, and_also, is_held}
 use Rattle.gm_base.specs.Explored.{AllExplored}
 use Rattle.evidence_rec.specs.Seeding.{IsSeed}
@@ -164,7 +164,7 @@ Refills t _ new = ⊥
 pub record IsRecordOf (p : Problem) (kind : Kind) (set : List ℕ) (r : Record) : Type 0 where
   pub kind_is : kind_of r ≡ kind
   pub set_is : set_of r ≡ set
-  pub accepted : IsAccepted p r
+  pub accepted : IsAcceptedAlone p r
 
 abbrev pub Posts : Problem → Bool → List Record → Turn → Kind → List ℕ → Reply → Turn → List Record → Type 0
 Posts p full held t kind set Already new records = (is_held held kind set ≡ true) × (new ≡ t) × (records ≡ held)

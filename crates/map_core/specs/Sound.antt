@@ -3,7 +3,7 @@ use Rattle.std.specs.Prelude.{◌≡◌, ℕ, ◌+◌, ◌<◌, ◌≤◌, max, 
 use Rattle.std.specs.List.{list_any, AllByRecursion}
 use Rattle.gm_base.specs.Problem.{IsProblem}
 use Rattle.evidence_rec.specs.declared.record.Record.{Record}
-use Rattle.evidence_rec.specs.Records.{founds, IsAccepted}
+use Rattle.evidence_rec.specs.Records.{founds, AllAccepted}
 pub use Rattle.evidence_rec.specs.Held.{AreNew}
 use Rattle.gm_base.specs.Explored.{AllExplored}
 use Rattle.map_core.specs.declared.entry.Entry.{Entry}
@@ -18,7 +18,7 @@ pub record IsOpening (o : Opening) : Type 0 where
   pub problem : IsProblem o.problem
   pub some : 0 < o.workers
   pub few : o.workers ≤ 64
-  pub accepted : AllByRecursion (IsAccepted o.problem) o.records
+  pub accepted : AllAccepted o.problem o.records
   pub distinct : AreNew [] o.records
 
 abbrev pub purse_of : Worker → ℕ
@@ -40,7 +40,7 @@ pub record IsSound (s : State) : Type 0 where
   pub opening : IsOpening s.opening
   pub count : length s.workers ≡ s.opening.workers
   -- every record is accepted, no set of a kind is held twice, and the opening's come first
-  pub accepted : AllByRecursion (IsAccepted s.opening.problem) s.records
+  pub accepted : AllAccepted s.opening.problem s.records
   pub distinct : AreNew [] s.records
   pub begins : (more : List Record) × (s.records ≡ s.opening.records ++ more)
   pub at_most : length s.records ≤ max s.opening.limit (length s.opening.records)

@@ -4,7 +4,7 @@ ghost use Rattle.gm_base.specs.Sets.{IsSubset, all_groups};
 ghost use Rattle.gm_base.specs.Problem.{Problem};
 ghost use Rattle.gm_base.specs.Explored.{block_of};
 ghost use Rattle.lrat_steps.specs.Log.{learned_count};
-ghost use Rattle.evidence_rec.specs.Records.{kind_of, set_of, found_of, founds, IsAccepted};
+ghost use Rattle.evidence_rec.specs.Records.{kind_of, set_of, found_of, founds, IsAcceptedAlone};
 ghost use Rattle.evidence_rec.specs.Seeding.{IsHonestMap, blocked};
 ghost use Rattle.map_core.specs.Core.{Posts};
 ghost use Rattle.map_core.specs.Index.{holds, Gains, IsSameHeld, IsIndex};
@@ -105,7 +105,7 @@ pub fn admit<M: MapEngine>(
     requires index { IsIndex held.old records.old.items }
     requires blocked { (M.state engine.old).blocks ≡ founds records.old.items }
     requires within { IsSubset (set_of finding) (all_groups (M.state engine.old).groups) }
-    ensures posts { (p : Problem) → IsAccepted p finding → Posts p full records.old.items turn (kind_of finding) (set_of finding) (post_reply result.reply) result.turn records.new.items }
+    ensures posts { (p : Problem) → IsAcceptedAlone p finding → Posts p full records.old.items turn (kind_of finding) (set_of finding) (post_reply result.reply) result.turn records.new.items }
     ensures handed_in { result.reply ≡ New → records.new.items ≡ records.old.items ++ finding ∷ [] }
     ensures set { result.set ≡ set_of finding }
     ensures exhausted { result.turn.common.exhausted ≡ turn.common.exhausted }
@@ -157,7 +157,7 @@ fn keep<M: MapEngine>(
     requires index { IsIndex held.old records.old.items }
     requires blocked { (M.state engine.old).blocks ≡ founds records.old.items }
     requires within { IsSubset (set_of finding) (all_groups (M.state engine.old).groups) }
-    ensures posts { (p : Problem) (full : Bool) → full ≡ false → IsAccepted p finding → Posts p full records.old.items turn (kind_of finding) (set_of finding) (post_reply result.reply) result.turn records.new.items }
+    ensures posts { (p : Problem) (full : Bool) → full ≡ false → IsAcceptedAlone p finding → Posts p full records.old.items turn (kind_of finding) (set_of finding) (post_reply result.reply) result.turn records.new.items }
     ensures handed_in { result.reply ≡ New → records.new.items ≡ records.old.items ++ finding ∷ [] }
     ensures set { result.set ≡ set_of finding }
     ensures exhausted { result.turn.common.exhausted ≡ turn.common.exhausted }

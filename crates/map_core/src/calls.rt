@@ -5,7 +5,7 @@
 //! changes. The history has room for one entry more of each worker that has not ended, so a retirement takes no memory.
 ghost use Rattle.std.specs.Prelude.{◌≡◌, ◌+◌, ◌<◌, ◌^◌, length, false, [], ◌∷◌, ◌++◌, ◌↔◌, IfOk, IsTrue};
 ghost use Rattle.gm_base.specs.Sets.{IsSubset, all_groups};
-ghost use Rattle.evidence_rec.specs.Records.{kind_of, set_of, IsAccepted};
+ghost use Rattle.evidence_rec.specs.Records.{kind_of, set_of, IsAcceptedAlone};
 ghost use Rattle.map_core.specs.Sound.{IsOpening};
 ghost use Rattle.map_core.specs.Opens.{opening_of};
 ghost use Rattle.map_core.specs.Own.{CanCall, calls_of};
@@ -160,7 +160,7 @@ impl<M: MapEngine> MapCore<M> {
     /// Keeps a record, where no record of its kind and set is held.
     pub fn post(&mut self, w: u32, used: u64, finding: Record) -> Posted
         requires may { CanCall self.old.opening w used (calls_of w self.old.history) }
-        requires accepted { IsAccepted self.old.opening.problem finding }
+        requires accepted { IsAcceptedAlone self.old.opening.problem finding }
         ensures step { Steps self.old w (Post (kind_of finding) (set_of finding)) used (post_reply result) self.new }
         ensures handed_in { result ≡ New → self.new.records ≡ self.old.records ++ finding ∷ [] }
         ensures short { length self.new.history < 2 ^ 63 }

@@ -9,14 +9,17 @@ use Rattle.sat_base.specs.Derivation.{Derivation}
 use Rattle.sat_base.specs.Literals.{clause_true}
 use Rattle.gm_base.specs.Problem.{Problem, satisfies, is_present}
 use Rattle.gm_base.specs.Index.{group_true}
-use Rattle.gm_base.specs.Evidence.{refutes, is_witness, each_passes, AcceptsCorrection}
+use Rattle.gm_base.specs.Evidence.{refutes, is_witness, each_passes}
+use Rattle.evidence_rec.specs.declared.record.Refutation.{Refutation}
+use Rattle.evidence_rec.specs.declared.record.Refutation.TheVariants.{Steps, Earlier}
+use Rattle.evidence_rec.specs.Records.{shows_refuted, AcceptsCorrection}
 use Rattle.sat_base.proofs.Members.{all_at, all_from}
 use Rattle.gm_base.proofs.SetLemmas.{has-without, has-complement-parts, has-complement-from, complement_twice-IsSubset, IsGroupSet-complement, AscendsAbove-at}
 use Rattle.evidence_rec.proofs.WithLemmas.{has-with_group, with_group-itself, with_group-cases, IsSubset-with_group}
 use Rattle.evidence_rec.proofs.EvidenceLemmas.{is_witness-subset, each_passes-push, length-each_passes}
 use Rattle.evidence_rec.proofs.RefutesLemmas.{refutes-subset}
 use Rattle.mss_grow.specs.declared.growth.Growth.{Growth}
-use Rattle.mss_grow.specs.Growth.{IsGrowth, left_out}
+use Rattle.mss_grow.specs.Growth.{is_derivation_of, IsGrowth, left_out}
 
 -- Groups of lists
 
@@ -114,11 +117,15 @@ with-subset small large g sub h inside =
     ]
 
 -- what stands for a smaller set stands for a larger one
-proofs-serve : (p : Problem) (small large out : List ℕ) (proofs : List Derivation) → IsSubset small large → each_passes (λ g d. refutes p (g ∷ small) d) out proofs ≡ true
-    → each_passes (λ g d. refutes p (g ∷ large) d) out proofs ≡ true
+proofs-serve : (p : Problem) (small large out : List ℕ) (proofs : List Refutation) → IsSubset small large → each_passes (λ g r. is_derivation_of p (g ∷ small) r) out proofs ≡ true
+    → each_passes (λ g r. is_derivation_of p (g ∷ large) r) out proofs ≡ true
 proofs-serve p small large out proofs sub h =
-    each_passes-weaken (λ g d. refutes p (g ∷ small) d) (λ g d. refutes p (g ∷ large) d) out proofs
-    (λ g d _ ok. refutes-subset p (g ∷ small) (g ∷ large) d (with-subset small large g sub) ok) h
+    each_passes-weaken (λ g r. is_derivation_of p (g ∷ small) r) (λ g r. is_derivation_of p (g ∷ large) r) out proofs
+    (λ g r _ ok. one g r ok) h
+  where
+    one : (g : ℕ) (r : Refutation) → is_derivation_of p (g ∷ small) r ≡ true → is_derivation_of p (g ∷ large) r ≡ true
+    one g (Steps d) ok = refutes-subset p (g ∷ small) (g ∷ large) d (with-subset small large g sub) ok
+    one g (Earlier i) ok = absurd (false≢true ok)
 
 left_out-still : (set passed : List ℕ) (g : ℕ) → has passed g ≡ false → left_out (with_group set g) passed ≡ left_out set passed
 left_out-still set [] g out = refl
@@ -176,14 +183,14 @@ put_in p set passed old g w not_passed h witnessed =
           ];
       witnessed = witnessed;
       refuted =
-          subst (λ out. each_passes (λ k d. refutes p (k ∷ more) d) out old.proofs ≡ true) (sym (left_out-with old.set passed g not_passed))
+          subst (λ out. each_passes (λ k r. is_derivation_of p (k ∷ more) r) out old.proofs ≡ true) (sym (left_out-with old.set passed g not_passed))
           (proofs-serve p old.set more (left_out old.set passed) old.proofs (IsSubset-with_group old.set g) h.refuted);
     }
 
 -- it does not
 pub leave : (p : Problem) (set passed core : List ℕ) (old : Growth) (g : ℕ) (proof : Derivation) → has set g ≡ false → has passed g ≡ false → IsGrowth p set passed old
     → IsSubset core (with_group old.set g) → refutes p core proof ≡ true
-    → IsGrowth p set (passed ++ g ∷ []) (record { set = old.set; witness = old.witness; proofs = old.proofs ++ proof ∷ [] })
+    → IsGrowth p set (passed ++ g ∷ []) (record { set = old.set; witness = old.witness; proofs = old.proofs ++ Steps proof ∷ [] })
 leave p set passed core old g proof not_given not_passed h sub refuted =
     let out : has old.set g ≡ false =
     false_from_ne_true (has old.set g) (λ i. elim (append-cases set passed g (h.within g i)) [
@@ -195,8 +202,8 @@ leave p set passed core old g proof not_given not_passed h sub refuted =
       within = λ k i. more-passed set passed g k (h.within k i);
       witnessed = h.witnessed;
       refuted =
-          subst (λ gs. each_passes (λ k d. refutes p (k ∷ old.set) d) gs (old.proofs ++ proof ∷ []) ≡ true) (sym (left_out-more old.set passed g out))
-          (each_passes-push (λ k d. refutes p (k ∷ old.set) d) (left_out old.set passed) old.proofs g proof h.refuted
+          subst (λ gs. each_passes (λ k r. is_derivation_of p (k ∷ old.set) r) gs (old.proofs ++ Steps proof ∷ []) ≡ true) (sym (left_out-more old.set passed g out))
+          (each_passes-push (λ k r. is_derivation_of p (k ∷ old.set) r) (left_out old.set passed) old.proofs g (Steps proof) h.refuted
           (refutes-subset p core (g ∷ old.set) proof (λ k i. sym (has-with_group old.set g k) ∙ sub k i) refuted));
     }
 
@@ -241,12 +248,12 @@ with-rest groups set g within left k inside =
     ]
 
 refuted-at_end : (p : Problem) (set : List ℕ) (growth : Growth) → IsGrowth p set (complement p.groups set) growth
-    → each_passes (λ g d. refutes p (g ∷ growth.set) d) (complement p.groups growth.set) growth.proofs ≡ true
+    → each_passes (λ g r. is_derivation_of p (g ∷ growth.set) r) (complement p.groups growth.set) growth.proofs ≡ true
 refuted-at_end p set growth h =
-    subst (λ gs. each_passes (λ g d. refutes p (g ∷ growth.set) d) gs growth.proofs ≡ true) (left_out-twice set growth.set h.given (all_groups p.groups)) h.refuted
+    subst (λ gs. each_passes (λ g r. is_derivation_of p (g ∷ growth.set) r) gs growth.proofs ≡ true) (left_out-twice set growth.set h.given (all_groups p.groups)) h.refuted
 
 pub AcceptsCorrection-from_growth : (p : Problem) (set out : List ℕ) (growth : Growth) → IsGrowth p set (complement p.groups set) growth → IsSubset set (all_groups p.groups)
-    → out ≡ complement p.groups growth.set → AcceptsCorrection p out growth.witness growth.proofs
+    → out ≡ complement p.groups growth.set → AcceptsCorrection p [] out growth.witness growth.proofs
 AcceptsCorrection-from_growth p set out growth h sub is =
     let left = complement p.groups growth.set in
     let within : IsSubset growth.set (all_groups p.groups) =
@@ -254,21 +261,26 @@ AcceptsCorrection-from_growth p set out growth h sub is =
       | inl given ↦ sub k given
       | inr passed ↦ (has-complement-parts p.groups set k passed).1
     ] in
-    subst (λ gs. AcceptsCorrection p gs growth.witness growth.proofs) (sym is)
+    subst (λ gs. AcceptsCorrection p [] gs growth.witness growth.proofs) (sym is)
     (record {
       is_set = IsGroupSet-complement p.groups growth.set left refl;
       witnessed = is_witness-subset p (complement p.groups left) growth.set growth.witness (complement_twice-IsSubset p.groups growth.set) h.witnessed;
       refuted =
-          each_passes-weaken (λ g d. refutes p (g ∷ growth.set) d) (λ g d. refutes p (complement p.groups (without left g)) d) left growth.proofs
-          (λ g d here ok. refutes-subset p (g ∷ growth.set) (complement p.groups (without left g)) d (with-rest p.groups growth.set g within here) ok)
+          each_passes-weaken (λ g r. is_derivation_of p (g ∷ growth.set) r) (shows_refuted p [] left) left growth.proofs
+          (λ g r here ok. shown g r (with-rest p.groups growth.set g within here) ok)
           (refuted-at_end p set growth h);
     })
+  where
+    shown : (g : ℕ) (r : Refutation) → IsSubset (g ∷ growth.set) (complement p.groups (without (complement p.groups growth.set) g))
+        → is_derivation_of p (g ∷ growth.set) r ≡ true → shows_refuted p [] (complement p.groups growth.set) g r ≡ true
+    shown g (Steps d) sub ok = refutes-subset p (g ∷ growth.set) (complement p.groups (without (complement p.groups growth.set) g)) d sub ok
+    shown g (Earlier i) sub ok = absurd (false≢true ok)
 
 pub IsShaped-from_growth : (p : Problem) (set out : List ℕ) (growth : Growth) → IsGrowth p set (complement p.groups set) growth → out ≡ complement p.groups growth.set
     → (length growth.witness ≡ p.vars) × (length growth.proofs ≡ length out)
 IsShaped-from_growth p set out growth h is = (
   length-witness p growth.set growth.witness h.witnessed,
-  length-each_passes (λ g d. refutes p (g ∷ growth.set) d) (complement p.groups growth.set) growth.proofs (refuted-at_end p set growth h) ∙ ap length (sym is),
+  length-each_passes (λ g r. is_derivation_of p (g ∷ growth.set) r) (complement p.groups growth.set) growth.proofs (refuted-at_end p set growth h) ∙ ap length (sym is),
 )
 
 pub outside-given : (p : Problem) (set out passed : List ℕ) (growth : Growth) → IsGrowth p set passed growth → out ≡ complement p.groups growth.set

@@ -18,7 +18,7 @@ ghost use Rattle.mss_grow.specs.Grown.{TellsGrown};
 
 use crate::grown::Grown;
 use crate::growth::Growth;
-use evidence_rec::{Asked, Oracle, Proofs, Record};
+use evidence_rec::{Asked, Oracle, Proofs, Record, Refutation};
 use gm_base::{Assign, GroupSet, Problem, Purse};
 use std::alloc::{AllocError, Global};
 
@@ -91,7 +91,7 @@ fn settle<O: Oracle>(
         Asked::Unsat(_core) => {
             // The oracle derives its last answer alone, so the proof is taken before the next question.
             let proof = oracle.proof(alloc)?;
-            growth.proofs.push(proof)?;
+            growth.proofs.push(Refutation::Steps(proof))?;
             Ok(None)
         }
         Asked::Dry => {

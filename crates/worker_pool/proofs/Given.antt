@@ -3,7 +3,7 @@ use Rattle.std.proofs.Common.{◌≡◌, ℕ, List, [], ◌∷◌, ◌++◌, Opt
 use Rattle.std.specs.List.{AllByRecursion}
 use Rattle.gm_base.specs.Problem.{Problem}
 use Rattle.evidence_rec.specs.declared.record.Record.{Record}
-use Rattle.evidence_rec.specs.Records.{founds, IsAccepted}
+use Rattle.evidence_rec.specs.Records.{founds, AllAccepted}
 use Rattle.evidence_rec.specs.Seeding.{IsSeed}
 use Rattle.map_core.specs.declared.entry.Call.{Call}
 use Rattle.map_core.specs.declared.entry.Call.TheVariants.{Take, Refill, Post, Retire}
@@ -39,7 +39,7 @@ at_job o mid t before e turn n seed ok run step job =
     record {
       problem = ok.problem;
       records = mid.records;
-      accepted = subst (λ (x : Opening). AllByRecursion (IsAccepted x.problem) mid.records) sound.2 sound.0.accepted;
+      accepted = subst (λ (x : Opening). AllAccepted x.problem mid.records) sound.2 sound.0.accepted;
       is_seed = subst (λ (x : Opening). IsSeed x.tops x.problem.groups (founds mid.records) seed) sound.2 is;
     }
 

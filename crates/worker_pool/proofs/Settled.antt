@@ -13,9 +13,9 @@ use Rattle.gm_base.proofs.SetLemmas.{AscendsAbove-same, has-complement, has-with
 use Rattle.gm_base.proofs.SatLemmas.{Sat-subset}
 use Rattle.evidence_rec.specs.declared.record.Record.{Record}
 use Rattle.evidence_rec.specs.declared.record.Record.TheVariants.{Conflict, Correction}
-use Rattle.evidence_rec.specs.Records.{kind_of, set_of, found_of, founds, Accepts, IsAccepted}
+use Rattle.evidence_rec.specs.Records.{kind_of, set_of, found_of, founds, Accepts, IsAcceptedAlone, AllAccepted, IsRight}
 use Rattle.evidence_rec.specs.Seeding.{IsTop}
-use Rattle.evidence_rec.proofs.VerdictLemmas.{minimal-from_accepts}
+use Rattle.evidence_rec.proofs.AcceptedLemmas.{minimal-from_accepts, accepted-right, alone-right}
 use Rattle.evidence_rec.proofs.Explored.{unsat_above}
 use Rattle.mus_shrink.specs.Shrunk.{IsConflictWithin}
 use Rattle.mss_grow.specs.Grown.{IsCorrectionOutside}
@@ -56,8 +56,8 @@ IsCorrection-within p set c g inside =
     c.sat))
 
 -- what shrinking ends with
-pub shrunk : (p : Problem) (core seed : List ℕ) (made : Record) → IsSubset seed (all_groups p.groups) → IsSubset core seed → IsConflictWithin p core made → Accepts p made
-    → IsAccepted p made × (explores (found_of made) seed ≡ true)
+pub shrunk : (p : Problem) (core seed : List ℕ) (made : Record) → IsSubset seed (all_groups p.groups) → IsSubset core seed → IsConflictWithin p core made → Accepts p [] made
+    → IsAcceptedAlone p made × (explores (found_of made) seed ≡ true)
 shrunk p core seed (Conflict part proof witnesses) within sub inside accepts = (
   record { within = λ g h. within g (sub g (inside g h)); accepts = accepts },
   within_explores part seed (λ g h. sub g (inside g h)),
@@ -65,26 +65,26 @@ shrunk p core seed (Conflict part proof witnesses) within sub inside accepts = (
 shrunk p core seed (Correction part witness proofs) within sub inside accepts = absurd inside
 
 -- what growing ends with
-pub grown : (p : Problem) (seed : List ℕ) (made : Record) → IsProblem p → IsCorrectionOutside seed made → Accepts p made
-    → IsAccepted p made × (explores (found_of made) seed ≡ true)
+pub grown : (p : Problem) (seed : List ℕ) (made : Record) → IsProblem p → IsCorrectionOutside seed made → Accepts p [] made
+    → IsAcceptedAlone p made × (explores (found_of made) seed ≡ true)
 grown p seed (Conflict part proof witnesses) ok outside accepts = absurd outside
 grown p seed (Correction part witness proofs) ok outside accepts = (
-  record { within = IsCorrection-within p part (minimal-from_accepts p (Correction part witness proofs) ok accepts); accepts = accepts },
+  record { within = IsCorrection-within p part (minimal-from_accepts p [] (Correction part witness proofs) ok tt accepts); accepts = accepts },
   outside_explores part seed outside,
 )
 
-accepted_at : (p : Problem) (rs : List Record) (r : Record) → AllByRecursion (IsAccepted p) rs → In r rs → IsAccepted p r
-accepted_at p [] r h i = absurd i
-accepted_at p (q ∷ qs) r h (inl e) = subst (IsAccepted p) (sym e) h.0
-accepted_at p (q ∷ qs) r h (inr i) = accepted_at p qs r h.1 i
+right_at : (p : Problem) (rs : List Record) (r : Record) → AllByRecursion (IsRight p) rs → In r rs → IsRight p r
+right_at p [] r h i = absurd i
+right_at p (q ∷ qs) r h (inl e) = subst (IsRight p) (sym e) h.0
+right_at p (q ∷ qs) r h (inr i) = right_at p qs r h.1 i
 
 -- no accepted record explores a satisfiable set around a set that none of them explores
-rest_unexplored : (p : Problem) (rs : List Record) (seed rest : List ℕ) → IsProblem p → AllByRecursion (IsAccepted p) rs → is_explored (founds rs) seed ≡ false
+rest_unexplored : (p : Problem) (rs : List Record) (seed rest : List ℕ) → IsProblem p → AllAccepted p rs → is_explored (founds rs) seed ≡ false
     → IsSubset seed rest → Sat p rest → is_explored (founds rs) rest ≡ false
 rest_unexplored p rs seed rest problem accepted unexplored sub sat = false_from_ne_true (is_explored (founds rs) rest) explored
   where
     one : (r : Record) → In r rs → explores (found_of r) rest ≡ true → ⊥
-    one (Conflict part proof ws) i x = unsat_above p part rest (minimal-from_accepts p (Conflict part proof ws) problem (accepted_at p rs (Conflict part proof ws) accepted i).accepts) x sat
+    one (Conflict part proof ws) i x = unsat_above p part rest (right_at p rs (Conflict part proof ws) (accepted-right p rs problem accepted) i).minimal x sat
     one (Correction part w proofs) i x =
         let outside : (g : ℕ) → has part g ≡ true → has seed g ≡ false = λ g h. false_from_ne_true (has seed g) (λ on. false≢true (sym (explores_outside part rest g x h) ∙ sub g on)) in
         false≢true (sym unexplored ∙ any_at (λ f. explores f seed) (founds rs) (found_of (Correction part w proofs)) (In-map found_of (Correction part w proofs) rs i) (outside_explores part seed outside))
@@ -96,16 +96,16 @@ rest_unexplored p rs seed rest problem accepted unexplored sub sat = false_from_
         one r j (sym (ap (λ y. explores y rest) same) ∙ x)
 
 -- of a satisfiable top, an accepted record that explores it is the correction of all groups outside it
-whole_of : (p : Problem) (rs : List Record) (seed : List ℕ) (made : Record) → IsProblem p → AllByRecursion (IsAccepted p) rs → IsUnexplored p.groups (founds rs) seed
-    → IsTop p.groups (founds rs) seed → Sat p seed → IsAccepted p made → explores (found_of made) seed ≡ true
+whole_of : (p : Problem) (rs : List Record) (seed : List ℕ) (made : Record) → IsProblem p → AllAccepted p rs → IsUnexplored p.groups (founds rs) seed
+    → IsTop p.groups (founds rs) seed → Sat p seed → IsAcceptedAlone p made → explores (found_of made) seed ≡ true
     → (kind_of made ≡ OfCorrection) × (set_of made ≡ complement p.groups seed)
 whole_of p rs seed (Conflict set proof ws) problem accepted free top sat ok e =
-    absurd (unsat_above p set seed (minimal-from_accepts p (Conflict set proof ws) problem ok.accepts) e sat)
+    absurd (unsat_above p set seed (alone-right p (Conflict set proof ws) problem ok).minimal e sat)
 whole_of p rs seed (Correction set w proofs) problem accepted free top sat ok e =
     (refl, AscendsAbove-same 0 set (complement p.groups seed) ok.accepts.is_set (IsGroupSet-complement p.groups seed (complement p.groups seed) refl) there back)
   where
     correction : IsCorrection p set
-    correction = minimal-from_accepts p (Correction set w proofs) problem ok.accepts
+    correction = (alone-right p (Correction set w proofs) problem ok).minimal
 
     rest : List ℕ
     rest = complement p.groups set
@@ -131,7 +131,7 @@ whole_of p rs seed (Correction set w proofs) problem accepted free top sat ok e 
         (λ out. top rest rest_free (sub, (g, has-complement-from p.groups set g parts.1 out, not-true (has seed g) parts.0)))
 
 -- an accepted record that explores a seed settles it
-pub settles : {p : Problem} {tops : Bool} {seed : List ℕ} → IsGiven p tops seed → (made : Record) → IsAccepted p made → explores (found_of made) seed ≡ true
+pub settles : {p : Problem} {tops : Bool} {seed : List ℕ} → IsGiven p tops seed → (made : Record) → IsAcceptedAlone p made → explores (found_of made) seed ≡ true
     → Settles p tops seed (kind_of made) (set_of made)
 settles {p} {tops} {seed} given made ok e =
     record {

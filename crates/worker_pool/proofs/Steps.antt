@@ -7,7 +7,7 @@ use Rattle.lrat_steps.specs.Log.{LogStep, db_of, learned_count}
 use Rattle.lrat_steps.specs.Undecided.{Undecided}
 use Rattle.lrat_steps.proofs.PaidLemmas.{left-within}
 use Rattle.evidence_rec.specs.declared.record.Record.{Record}
-use Rattle.evidence_rec.specs.Records.{kind_of, set_of, found_of, IsAccepted}
+use Rattle.evidence_rec.specs.Records.{kind_of, set_of, found_of, IsAcceptedAlone}
 use Rattle.evidence_rec.specs.Asking.{OracleState, IsSpent, selectors}
 use Rattle.map_core.specs.declared.entry.Call.{Call}
 use Rattle.map_core.specs.declared.entry.Call.TheVariants.{Take, Refill, Post, Retire}
@@ -203,15 +203,15 @@ refill_ends {b} {p} {seed} {asked} {o} {n} {s} {used = used} r w spent rest unde
 
 -- a post of a record that explores the seed: no job any more, or the end
 post_worker : {b : LockView Opening} {p : Problem} {seed : List ℕ} {o n : OracleState} {s t : SeatView Entry Opening} {before left used : ℕ} {reply : Reply} (made : Record) → IsGiven p b.opening.tops seed
-    → IsAt b p (At seed) o s → IsSpent o n before left → used + left ≡ before → IsAccepted n.problem made × (explores (found_of made) seed ≡ true)
+    → IsAt b p (At seed) o s → IsSpent o n before left → used + left ≡ before → IsAcceptedAlone n.problem made × (explores (found_of made) seed ≡ true)
     → IsCall b.opening s (Post (kind_of made) (set_of made)) used reply t → IsWorker b p n t
 post_worker {b} {p} {seed} {o} {n} {used = used} made given w spent rest told call =
     worker_called b p n w.worker spent.problem (learned used spent rest)
     (subst (λ x. MayCome p b.opening.tops x (Post (kind_of made) (set_of made))) (sym w.stands)
-    (settles given made (subst (λ q. IsAccepted q made) (spent.problem ∙ w.worker.asks_of) told.0) told.1)) call
+    (settles given made (subst (λ q. IsAcceptedAlone q made) (spent.problem ∙ w.worker.asks_of) told.0) told.1)) call
 
 pub post_goes_on : {b : LockView Opening} {p : Problem} {seed : List ℕ} {o n : OracleState} {s t : SeatView Entry Opening} {before left used : ℕ} (made : Record) (r : Posted) → IsGiven p b.opening.tops seed
-    → IsAt b p (At seed) o s → IsSpent o n before left → used + left ≡ before → IsAccepted n.problem made × (explores (found_of made) seed ≡ true)
+    → IsAt b p (At seed) o s → IsSpent o n before left → used + left ≡ before → IsAcceptedAlone n.problem made × (explores (found_of made) seed ≡ true)
     → IsCall b.opening s (Post (kind_of made) (set_of made)) used (post_reply r) t → worker_of t.mine ≡ worker_after (worker_of s.mine) used (post_reply r)
     → (r ≡ posted.New) ⊎ (r ≡ posted.Already) → IsAt b p Free n t
 post_goes_on {s = s} {used = used} made r given w spent rest told call after is =
@@ -222,7 +222,7 @@ post_goes_on {s = s} {used = used} made r given w spent rest told call after is 
     }
 
 pub post_ends : {b : LockView Opening} {p : Problem} {seed : List ℕ} {o n : OracleState} {s t : SeatView Entry Opening} {before left used : ℕ} (made : Record) (r : Posted) → IsGiven p b.opening.tops seed
-    → IsAt b p (At seed) o s → IsSpent o n before left → used + left ≡ before → IsAccepted n.problem made × (explores (found_of made) seed ≡ true)
+    → IsAt b p (At seed) o s → IsSpent o n before left → used + left ≡ before → IsAcceptedAlone n.problem made × (explores (found_of made) seed ≡ true)
     → IsCall b.opening s (Post (kind_of made) (set_of made)) used (post_reply r) t → worker_of t.mine ≡ worker_after (worker_of s.mine) used (post_reply r)
     → r ≢ posted.New → r ≢ posted.Already → IsOver b p n t
 post_ends {p = p} {n = n} {s = s} {used = used} made r given w spent rest told call after new already =

@@ -9,7 +9,7 @@ use Rattle.gm_base.specs.declared.kind.Kind.TheVariants.{Correction}
 use Rattle.lrat_steps.specs.Log.{LogStep, db_of}
 use Rattle.lrat_steps.specs.Undecided.{Undecided}
 use Rattle.evidence_rec.specs.declared.record.Record.{Record}
-use Rattle.evidence_rec.specs.Records.{founds, IsAccepted}
+use Rattle.evidence_rec.specs.Records.{founds, AllAccepted}
 use Rattle.evidence_rec.specs.Seeding.{IsSeed}
 use Rattle.evidence_rec.specs.Asking.{selectors}
 use Rattle.map_core.specs.declared.entry.Call.{Call}
@@ -78,5 +78,5 @@ EndsUndecided p log mine =
 pub record IsGiven (p : Problem) (tops : Bool) (seed : List ℕ) : Type 0 where
   pub problem : IsProblem p
   pub records : List Record
-  pub accepted : AllByRecursion (IsAccepted p) records
+  pub accepted : AllAccepted p records
   pub is_seed : IsSeed tops p.groups (founds records) seed

@@ -1,7 +1,7 @@
 //! A record that is made piece by piece.
 use crate::derivations::{id_at, push_step};
 use crate::sets::set_from;
-use evidence_rec::{Proofs, Record, Witnesses};
+use evidence_rec::{Proofs, Record, Refutation, Witnesses};
 use gm_base::{Assign, AssignBuilder, DerivationBuilder, GroupSet, Kind, Problem};
 use std::alloc::{AllocError, Global};
 use trial_script::{Step, known};
@@ -47,12 +47,12 @@ impl Draft {
 
 fn conflict_of(set: GroupSet, proofs: Proofs, witnesses: Witnesses) -> Option<Record> {
     match proofs.into_vec().pop() {
-        Some(proof) => Some(Record::Conflict {
+        Some(Refutation::Steps(proof)) => Some(Record::Conflict {
             set,
             proof,
             witnesses,
         }),
-        None => None,
+        Some(Refutation::Earlier(_)) | None => None,
     }
 }
 
@@ -78,6 +78,7 @@ pub fn call_draft(
         "conflict" => begin_draft(draft, Kind::Conflict, alloc, step),
         "correction" => begin_draft(draft, Kind::Correction, alloc, step),
         "proof" => begin_proof(draft, alloc, step),
+        "earlier" => name_earlier(draft, alloc, step),
         "step" => match &mut draft.open {
             Some(proof) => push_step(proof, alloc, step),
             None => Ok(false),
@@ -116,10 +117,20 @@ fn begin_proof(draft: &mut Draft, alloc: Global, step: &Step<'_>) -> Result<bool
     Ok(true)
 }
 
+/// Puts the number of an earlier record behind the refutations.
+fn name_earlier(draft: &mut Draft, alloc: Global, step: &Step<'_>) -> Result<bool, AllocError> {
+    end_proof(draft, alloc)?;
+    match step.amount(1) {
+        Some(number) => known(draft.proofs.push(Refutation::Earlier(number))),
+        None => Ok(false),
+    }
+}
+
 /// Puts the proof that is open behind the others.
 fn end_proof(draft: &mut Draft, alloc: Global) -> Result<(), AllocError> {
     if let Some(open) = draft.open.take() {
-        draft.proofs.push(open.finish(alloc)?)?;
+        let proof = open.finish(alloc)?;
+        draft.proofs.push(Refutation::Steps(proof))?;
     }
     Ok(())
 }

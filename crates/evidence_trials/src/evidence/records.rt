@@ -8,9 +8,10 @@ use lawful_fakes::is_shaped;
 use std::alloc::{AllocError, Global};
 use trial_script::{known, show};
 
-/// Checks a record by a checker of its own, and tells the verdict.
+/// Checks a record behind these earlier ones by a checker of its own, and tells the verdict.
 pub fn check_one(
     problem: &Problem,
+    earlier: &Records,
     record: &Record,
     alloc: Global,
     out: &mut String,
@@ -18,7 +19,7 @@ pub fn check_one(
     if !is_shaped(problem, record) {
         return show("has another shape", out);
     }
-    match check_record(alloc, problem, record)? {
+    match check_record(alloc, problem, earlier, record)? {
         Verdict::Ok => show("accepted", out),
         Verdict::Refused { part, why } => {
             let number = why.number();
@@ -27,16 +28,18 @@ pub fn check_one(
     }
 }
 
-/// Checks all records by one checker, in their order, and tells which are accepted.
+/// Checks all records by one checker, each behind those before it, and tells which are accepted.
 pub fn check_kept(
     problem: &Problem,
-    kept: &Records,
+    kept: Records,
     alloc: Global,
     out: &mut String,
 ) -> Result<bool, AllocError> {
     let mut checker = RecordChecker::new(alloc, problem)?;
-    for record in kept.as_slice() {
-        check_next(&mut checker, problem, record, alloc, out)?;
+    let mut earlier = Records::new(alloc);
+    for record in kept.into_vec() {
+        check_next(&mut checker, problem, &earlier, &record, alloc, out)?;
+        earlier.push(record)?;
     }
     Ok(true)
 }
@@ -44,6 +47,7 @@ pub fn check_kept(
 fn check_next(
     checker: &mut RecordChecker,
     problem: &Problem,
+    earlier: &Records,
     record: &Record,
     alloc: Global,
     out: &mut String,
@@ -54,7 +58,7 @@ fn check_next(
     if !is_shaped(problem, record) {
         return show("has another shape", out);
     }
-    let verdict = checker.check(alloc, problem, record)?;
+    let verdict = checker.check(alloc, problem, earlier, record)?;
     show(
         if verdict.is_ok() {
             "accepted"

@@ -57,12 +57,36 @@ fn show_reading(
 ) -> Result<bool, AllocError> {
     let mut written = Vec::new(alloc);
     match read_and_write(problem, alloc, text, &mut written)? {
-        Outcome::Whole if written.as_slice() == text => show("written as it was", out),
-        Outcome::Whole => show("written otherwise", out),
+        Outcome::Whole => show(likeness(text, written.as_slice()), out),
         Outcome::Refused(offence) => show_offence(offence, out),
         Outcome::Changed => show("refused, and otherwise when it was asked again", out),
         Outcome::Endless => show("more records than bytes", out),
     }
+}
+
+/// How a text was written again: the version, one digit behind `p gmev `, may be another.
+fn likeness(text: &[u8], written: &[u8]) -> &'static str {
+    if written == text {
+        "written as it was"
+    } else if is_raised(text, written) {
+        "written as it was, in version 2"
+    } else {
+        "written otherwise"
+    }
+}
+
+/// Whether the one text is the other with version 2 in place of version 1.
+fn is_raised(text: &[u8], written: &[u8]) -> bool {
+    if text.len() != written.len() || text.len() < 8 {
+        return false;
+    }
+    for at in 0..text.len() {
+        let byte = if at == 7 { b'2' } else { text[at] };
+        if written[at] != byte {
+            return false;
+        }
+    }
+    text[7] == b'1'
 }
 
 /// Tells what the head is answered with, twice.

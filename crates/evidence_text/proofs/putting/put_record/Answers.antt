@@ -4,26 +4,27 @@ use Rattle.std.proofs.lemmas.Result.{err_from_is_err_and}
 use Rattle.sat_base.specs.Derivation.{Derivation}
 use Rattle.evidence_rec.specs.declared.record.Record.{Record}
 use Rattle.evidence_rec.specs.declared.record.Record.TheVariants as record_of
-use Rattle.evidence_text.specs.Text.{line_text, text_of, set_line, witness_line, record_text, refutation_lines, refutations_lines, witnesses_lines}
+use Rattle.evidence_rec.specs.declared.record.Refutation.{Refutation}
+use Rattle.evidence_text.specs.Text.{line_text, text_of, set_line, witness_line, record_text, derivation_lines, refutations_lines, witnesses_lines}
 use Rattle.evidence_text.proofs.TextLemmas.{conflict_text, correction_text}
 use Rattle.evidence_text.proofs.PuttingLemmas.{put-then, puts-then, puts-part, puts-cut}
 use Rattle.evidence_text.proofs.putting.put_record.Goals as goal
 
 conflict-parts : (r : Record) (set : List ℕ) (d : Derivation) (ws : List (List Bool)) → r ≡ record_of.Conflict set d ws
-    → (line_text (set_line (codes "u") set) ++ text_of (refutation_lines 0 d)) ++ text_of (witnesses_lines set ws) ≡ record_text r
+    → (line_text (set_line (codes "u") set) ++ text_of (derivation_lines 0 d)) ++ text_of (witnesses_lines set ws) ≡ record_text r
 conflict-parts r set d ws is =
-    conflict_text [] (line_text (set_line (codes "u") set)) (set_line (codes "u") set) (refutation_lines 0 d) (witnesses_lines set ws) refl
+    conflict_text [] (line_text (set_line (codes "u") set)) (set_line (codes "u") set) (derivation_lines 0 d) (witnesses_lines set ws) refl
     ∙ ap record_text (sym is)
 
-correction-parts : (r : Record) (set : List ℕ) (w : List Bool) (ds : List Derivation) → r ≡ record_of.Correction set w ds
-    → (line_text (set_line (codes "m") set) ++ line_text (witness_line 0 w)) ++ text_of (refutations_lines set ds) ≡ record_text r
-correction-parts r set w ds is =
-    correction_text [] (set_line (codes "m") set) (witness_line 0 w) (refutations_lines set ds) ∙ ap record_text (sym is)
+correction-parts : (r : Record) (set : List ℕ) (w : List Bool) (rs : List Refutation) → r ≡ record_of.Correction set w rs
+    → (line_text (set_line (codes "m") set) ++ line_text (witness_line 0 w)) ++ text_of (refutations_lines set rs) ≡ record_text r
+correction-parts r set w rs is =
+    correction_text [] (set_line (codes "m") set) (witness_line 0 w) (refutations_lines set rs) ∙ ap record_text (sym is)
 
 pub returns-in_err-put_set-in-Conflict : goal.returns-in_err-put_set-in-Conflict
 returns-in_err-put_set-in-Conflict g c =
     let a = line_text (set_line (codes "u") c.in-Conflict.set) in
-    let b = text_of (refutation_lines 0 c.in-Conflict.proof) in
+    let b = text_of (derivation_lines 0 c.in-Conflict.proof) in
     let t = text_of (witnesses_lines c.in-Conflict.set c.in-Conflict.witnesses) in
     let is = conflict-parts c.args.made.now c.in-Conflict.set c.in-Conflict.proof c.in-Conflict.witnesses c.in-Conflict.is in
     let p = err_from_is_err_and c.from_residual.result c.from_residual.ensures.1 in
@@ -31,28 +32,28 @@ returns-in_err-put_set-in-Conflict g c =
     (puts-part (g.S.LineSink.took c.args.sink.now c.put_set.new.sink) (g.S.LineSink.stopped c.args.sink.now c.put_set.new.sink)
     c.args.waiting.now.items c.put_set.new.waiting.items a (b ++ t) _ _ (sym (append_assoc a b t) ∙ is) c.in_err-put_set-in-Conflict.ensures)
 
-pub returns-in_err-put_refutation-in-Conflict : goal.returns-in_err-put_refutation-in-Conflict
-returns-in_err-put_refutation-in-Conflict g c =
+pub returns-in_err-put_derivation-in-Conflict : goal.returns-in_err-put_derivation-in-Conflict
+returns-in_err-put_derivation-in-Conflict g c =
     let a = line_text (set_line (codes "u") c.in-Conflict.set) in
-    let b = text_of (refutation_lines 0 c.in-Conflict.proof) in
+    let b = text_of (derivation_lines 0 c.in-Conflict.proof) in
     let t = text_of (witnesses_lines c.in-Conflict.set c.in-Conflict.witnesses) in
     let is = conflict-parts c.args.made.now c.in-Conflict.set c.in-Conflict.proof c.in-Conflict.witnesses c.in-Conflict.is in
-    let p = err_from_is_err_and c.from_residual-in_err-put_refutation-in-Conflict.result c.from_residual-in_err-put_refutation-in-Conflict.ensures.1 in
+    let p = err_from_is_err_and c.from_residual-in_err-put_derivation-in-Conflict.result c.from_residual-in_err-put_derivation-in-Conflict.ensures.1 in
     rw (p.1, p.2)
-    (puts-cut g.met.S.LineSink.adds_up c.args.sink.now c.put_set.new.sink c.put_refutation.new.sink
-    c.args.waiting.now.items c.put_set.new.waiting.items c.put_refutation.new.waiting.items a b t _ _ is c.in_ok-put_set-in-Conflict.ensures c.in_err-put_refutation-in-Conflict.ensures)
+    (puts-cut g.met.S.LineSink.adds_up c.args.sink.now c.put_set.new.sink c.put_derivation.new.sink
+    c.args.waiting.now.items c.put_set.new.waiting.items c.put_derivation.new.waiting.items a b t _ _ is c.in_ok-put_set-in-Conflict.ensures c.in_err-put_derivation-in-Conflict.ensures)
 
-pub returns-in_ok-put_refutation-in-Conflict : goal.returns-in_ok-put_refutation-in-Conflict
-returns-in_ok-put_refutation-in-Conflict g c =
+pub returns-in_ok-put_derivation-in-Conflict : goal.returns-in_ok-put_derivation-in-Conflict
+returns-in_ok-put_derivation-in-Conflict g c =
     let a = line_text (set_line (codes "u") c.in-Conflict.set) in
-    let b = text_of (refutation_lines 0 c.in-Conflict.proof) in
+    let b = text_of (derivation_lines 0 c.in-Conflict.proof) in
     let t = text_of (witnesses_lines c.in-Conflict.set c.in-Conflict.witnesses) in
     let is = conflict-parts c.args.made.now c.in-Conflict.set c.in-Conflict.proof c.in-Conflict.witnesses c.in-Conflict.is in
     let lent = ap (λ gs. (a ++ b) ++ text_of (witnesses_lines gs c.in-Conflict.witnesses)) c.as_slice.ensures.groups in
-    puts-then g.met.S.LineSink.adds_up c.args.sink.now c.put_refutation.new.sink c.put_witnesses.new.sink
-    c.args.waiting.now.items c.put_refutation.new.waiting.items c.put_witnesses.new.waiting.items (a ++ b) _ _ c.put_witnesses.result (lent ∙ is)
-    (put-then (g.met.S.LineSink.adds_up.more c.args.sink.now c.put_set.new.sink c.put_refutation.new.sink)
-    c.args.waiting.now.items c.put_set.new.waiting.items c.put_refutation.new.waiting.items a b c.in_ok-put_set-in-Conflict.ensures c.in_ok-put_refutation-in-Conflict.ensures)
+    puts-then g.met.S.LineSink.adds_up c.args.sink.now c.put_derivation.new.sink c.put_witnesses.new.sink
+    c.args.waiting.now.items c.put_derivation.new.waiting.items c.put_witnesses.new.waiting.items (a ++ b) _ _ c.put_witnesses.result (lent ∙ is)
+    (put-then (g.met.S.LineSink.adds_up.more c.args.sink.now c.put_set.new.sink c.put_derivation.new.sink)
+    c.args.waiting.now.items c.put_set.new.waiting.items c.put_derivation.new.waiting.items a b c.in_ok-put_set-in-Conflict.ensures c.in_ok-put_derivation-in-Conflict.ensures)
     c.put_witnesses.ensures
 
 pub returns-in_err-put_set-in-Correction : goal.returns-in_err-put_set-in-Correction

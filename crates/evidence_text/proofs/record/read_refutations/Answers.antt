@@ -9,12 +9,12 @@ pub loop-g-preserved : goal.loop-g-preserved
 loop-g-preserved c =
     let i = c.loop-g.invariant in
     let groups = c.as_slice-g-items.result.now in
-    let left = left_of c.read_proof.new.lines in
+    let left = left_of c.read_refutation.new.lines in
     record {
       read =
-          ap (λ ds. after_front ds (refutations_at c.args.vars (drop (c.loop-g.g-index + 1) groups) left.at left.lines)) c.in_ok-push.ensures.items
-          ∙ refutations-goes c.args.vars groups c.loop-g.g-index c.loop-g.proofs.items c.in_ok-proof.proof (left_of c.loop-g.lines) left _ c.loop-g-test.true c.in_ok-proof.ensures.proof i.read;
-      rest = c.in_ok-proof.ensures.rest ∙ i.rest;
+          ap (λ rs. after_front rs (refutations_at c.args.version c.args.vars (drop (c.loop-g.g-index + 1) groups) left.at left.lines)) c.in_ok-push.ensures.items
+          ∙ refutations-goes c.args.version c.args.vars groups c.loop-g.g-index c.loop-g.proofs.items c.in_ok-refutation.refutation (left_of c.loop-g.lines) left _ c.loop-g-test.true c.in_ok-refutation.ensures.refutation i.read;
+      rest = c.in_ok-refutation.ensures.rest ∙ i.rest;
     }
 
 -- none is left
@@ -23,15 +23,15 @@ returns-clause-proofs c =
     let left = left_of c.loop-g.lines in
     let low = c.loop-g-test.false in
     let high = c.loop-g.auto.g-index-end in
-    ap (λ gs. refutations_at c.args.vars gs c.args.lines.now.at (left_of c.args.lines.now).lines) (sym c.as_slice-g-items.ensures.groups)
-    ∙ refutations-end c.args.vars c.as_slice-g-items.result.now c.loop-g.g-index c.loop-g.proofs.items left _ (omega arith) c.loop-g.invariant.read
-    ∙ ap (λ ds. Ok (ds, left)) (sym c.from_vec.ensures)
+    ap (λ gs. refutations_at c.args.version c.args.vars gs c.args.lines.now.at (left_of c.args.lines.now).lines) (sym c.as_slice-g-items.ensures.groups)
+    ∙ refutations-end c.args.version c.args.vars c.as_slice-g-items.result.now c.loop-g.g-index c.loop-g.proofs.items left _ (omega arith) c.loop-g.invariant.read
+    ∙ ap (λ rs. Ok (rs, left)) (sym c.from_vec.ensures)
 
 -- why the next one isn't read is why all aren't
-pub returns-in_err-proof-clause-proofs : goal.returns-in_err-proof-clause-proofs
-returns-in_err-proof-clause-proofs c =
-    let stop = c.in_err-proof.field-0.0 in
-    let handed = c.from_residual-in_err-proof.ensures in
-    stopped (λ ds. ds) c.from_residual-in_err-proof.result stop (left_of c.read_proof.new.lines) _ handed.0 handed.1
-    (subst (λ gs. Stops stop (refutations_at c.args.vars gs c.args.lines.now.at (left_of c.args.lines.now).lines)) c.as_slice-g-items.ensures.groups
-    (refutations-stop c.args.vars c.as_slice-g-items.result.now c.loop-g.g-index c.loop-g.proofs.items stop (left_of c.loop-g.lines) _ c.loop-g-test.true c.in_err-proof.ensures.proof c.loop-g.invariant.read))
+pub returns-in_err-refutation-clause-proofs : goal.returns-in_err-refutation-clause-proofs
+returns-in_err-refutation-clause-proofs c =
+    let stop = c.in_err-refutation.field-0.0 in
+    let handed = c.from_residual-in_err-refutation.ensures in
+    stopped (λ rs. rs) c.from_residual-in_err-refutation.result stop (left_of c.read_refutation.new.lines) _ handed.0 handed.1
+    (subst (λ gs. Stops stop (refutations_at c.args.version c.args.vars gs c.args.lines.now.at (left_of c.args.lines.now).lines)) c.as_slice-g-items.ensures.groups
+    (refutations-stop c.args.version c.args.vars c.as_slice-g-items.result.now c.loop-g.g-index c.loop-g.proofs.items stop (left_of c.loop-g.lines) _ c.loop-g-test.true c.in_err-refutation.ensures.refutation c.loop-g.invariant.read))

@@ -2,6 +2,7 @@ use Rattle.std.proofs.Common.{◌∙◌, ℕ, refl, sym, ap, subst}
 use Rattle.std.specs.Prelude.{Ok}
 use Rattle.evidence_text.specs.Reader.{piece_of}
 use Rattle.gm_audit.specs.Refusals.{placed_refusal, ending_refusal}
+use Rattle.gm_audit.proofs.KeptLemmas.{form-readable}
 use Rattle.gm_audit.proofs.ReadingLemmas.{IsReading, placed, whole_refusal, reading-begun, record-line, record-stands, record-shorter, refused-record, reading-record, ended, end-stands, end-line, offended, refusal-of, yes-of}
 use Rattle.gm_audit.proofs.auditing.audit_text.Goals as goal
 
@@ -48,7 +49,7 @@ pieces-preserved c =
           reading-record p c.args.bytes.now old c.next.new.self c.pieces.auditor.records c.add.new.self.records r (piece_of old) h refl is behind
           stands.1
           (sym (ap (λ (n : ℕ). placed_refusal p c.pieces.auditor.records (placed n r)) line) ∙ sym c.in_ok-offence-in-Record.ensures.refusal ∙ c.in_default-2.is)
-          (c.in_ok-offence-in-Record.ensures.records c.in_default-2.is);
+          stands.0 (c.in_ok-offence-in-Record.ensures.records c.in_default-2.is);
     }
 
 -- the end, or what closes the text is refused
@@ -77,10 +78,11 @@ returns-in-End-clause-yes c =
     h c.pieces.invariant.auditing stands.0 stands.1 stands.2 c.close.ensures.refusal c.close.ensures.records
 
 -- what is read has one item of evidence for each group
-pub add-requires-clause-readable : goal.add-requires-clause-readable
-add-requires-clause-readable c =
+pub add-requires-clause-form : goal.add-requires-clause-form
+add-requires-clause-form c =
     let old = c.pieces.reader in
     let h = c.pieces.invariant.reading in
+    form-readable old.version c.args.problem.now c.in-Record.found
     (record-stands c.args.problem.now c.args.bytes.now old c.next.new.self c.pieces.auditor.records c.in-Record.found (piece_of old)
     c.groups-groups.ensures.small h refl (sym c.in-Record.is ∙ c.in_ok-found.ensures.answer h.clean) (c.in_ok-found.ensures.behind h.clean)).0
 

@@ -1,5 +1,7 @@
 use Rattle.std.proofs.Common.{◌≡◌, List, ℕ, true, subst}
 use Rattle.gm_base.specs.Sets.{has, IsSubset, all_groups}
+use Rattle.evidence_rec.specs.declared.record.Record.{Record}
+use Rattle.evidence_rec.specs.Records.{Accepts}
 use Rattle.gm_base.proofs.SetLemmas.{has-complement-parts}
 use Rattle.lawful_fakes.proofs.evidence.is_accepted.Goals as goal
 
@@ -14,5 +16,5 @@ returns c = λ t.
     (subst (λ (s : List ℕ). has s g ≡ true) c.in_ok-all.ensures (c.is_subset.ensures.0 sub g h))).1 in
     record {
       within = subst (λ (s : List ℕ). IsSubset s (all_groups p.groups)) c.set.ensures within;
-      accepts = c.in_ok-verdict.ensures.accepts.0 (c.is_ok.ensures.0 t);
+      accepts = subst (λ (rs : List Record). Accepts p rs c.args.record.now) c.new-none.ensures (c.in_ok-verdict.ensures.accepts.0 (c.is_ok.ensures.0 t));
     }

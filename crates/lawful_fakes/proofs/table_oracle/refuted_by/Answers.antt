@@ -1,7 +1,7 @@
 use Rattle.std.proofs.Common.{◌≡◌, List, ℕ, subst, sym}
 use Rattle.sat_base.specs.Derivation.{Derivation}
 use Rattle.gm_base.specs.Sets.{IsSubset}
-use Rattle.evidence_rec.specs.Records.{IsAccepted}
+use Rattle.evidence_rec.specs.Records.{IsAcceptedAlone}
 use Rattle.lawful_fakes.specs.Table.{IsRefutation}
 use Rattle.lawful_fakes.proofs.TableLemmas.{refuted_part, refuted_whole}
 use Rattle.lawful_fakes.proofs.table_oracle.refuted_by.Goals as goal
@@ -14,7 +14,7 @@ returns-in_ok-copy-in-Conflict-2 c =
     let set = c.args.set.now in
     let conflict = c.in-Conflict.conflict in
     let proof = c.in-Conflict.proof in
-    let accepted = subst (IsAccepted p) c.in-Conflict.is c.requires in
+    let accepted = subst (IsAcceptedAlone p) c.in-Conflict.is c.requires in
     let within : IsSubset conflict set = c.is_subset.ensures.0 (let inside = c.if-not-is_subset.false in cc) in
     let core : IsRefutation p set c.if-whole.core.now proof =
     elim c.if-whole.branch [

@@ -1,7 +1,7 @@
 use Rattle.std.proofs.Common.{◌≡◌, true, Some, List, [], ◌∷◌, ◌++◌, subst, sym, ap, ◌∙◌}
 use Rattle.gm_base.specs.Sets.{IsSubset, IsGroupSet, all_groups, with_group}
 use Rattle.gm_base.specs.Problem.{Problem}
-use Rattle.sat_base.specs.Derivation.{Derivation}
+use Rattle.evidence_rec.specs.declared.record.Refutation.{Refutation}
 use Rattle.gm_base.specs.Index.{group_true}
 use Rattle.gm_base.specs.Evidence.{is_witness}
 use Rattle.evidence_rec.specs.Asking.{TellsAsked, IsDryAt, refuted_by}
@@ -53,7 +53,7 @@ returns-in_ok-push-in-Unsat-clause-settled g c set passed not_given not_passed h
     let core = c.in-Unsat._core in
     let answer = subst (TellsAsked new (with_group old.set c.args.g) c.ask_with.new.purse.left) c.in-Unsat.is c.in_ok-witness.ensures.answer in
     let refuted : new.refuted ≡ Some core = c.in_ok-witness.ensures.refuted ∙ ap refuted_by c.in-Unsat.is in
-    subst (λ (ds : List Derivation). IsGrowth new.problem set (passed ++ c.args.g ∷ []) (record { set = old.set; witness = old.witness; proofs = ds })) (sym c.in_ok-push-in-Unsat.ensures.ok)
+    subst (λ (ds : List Refutation). IsGrowth new.problem set (passed ++ c.args.g ∷ []) (record { set = old.set; witness = old.witness; proofs = ds })) (sym c.in_ok-push-in-Unsat.ensures.ok)
     (leave new.problem set passed core old c.args.g c.in_ok-proof-in-Unsat.proof not_given not_passed h answer.1 (c.in_ok-proof-in-Unsat.ensures core refuted))
 
 -- at an empty purse the set asked is told, and not passed over

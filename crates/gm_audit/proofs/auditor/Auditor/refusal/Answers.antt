@@ -14,7 +14,7 @@ returns-clause-auditing c =
     let found = c.args.found.now in
     let new : Auditor = record old { checker = c.check.new.self; seen = c.add.new.self; records = old.records ++ found ∷ [] } in
     passed-push c.args.problem.now old new found c.kind.result c.in_ok-set.set c.add.new.self
-    c.requires.auditing c.requires.readable
+    c.requires.auditing c.requires.form
     (c.in_ok-verdict.ensures.accepts.0
     (in_text-none c.args.line (refusal_by c.in_ok-verdict.verdict) (sym c.in_ok-refusal.ensures ∙ none)))
     c.kind.ensures

@@ -7,8 +7,8 @@ use Rattle.known_sets.proofs.MemoryLemmas.{All-inserted}
 use Rattle.known_sets.proofs.memory.Memory.keep_record.Goals as goal
 
 pub returns-in-Ok-copy : goal.returns-in-Ok-copy
-returns-in-Ok-copy c = λ p right h.
-    let accepted = subst (IsAccepted p) c.in-Correction.is h in
+returns-in-Ok-copy c = λ p earlier right h.
+    let accepted = subst (IsAccepted p earlier) c.in-Correction.is h in
     let out = c.in-Correction.set in
     let witness = c.in-Ok-copy.witness in
     record {

@@ -1,6 +1,6 @@
 use Rattle.std.proofs.Common.{◌≡◌, length, List, ℕ, [], ◌∷◌, ◌++◌, sym, ap, ◌∙◌, subst, refl, arith, None}
 use Rattle.gm_base.specs.declared.kind.Kind.{Kind}
-use Rattle.evidence_rec.specs.Records.{kind_of, set_of, IsAccepted}
+use Rattle.evidence_rec.specs.Records.{kind_of, set_of, IsAcceptedAlone}
 use Rattle.map_core.specs.Core.{State, CoreStep, turn_at, settle}
 use Rattle.map_core.specs.Kept.{IsReady, state_of}
 use Rattle.map_core.specs.Replies.{post_reply}
@@ -38,7 +38,7 @@ invariant_of-self g c =
     let e : Entry = made c.args.w c.args.used (kind_of c.args.finding) (set_of c.args.finding) (post_reply given.result.reply) in
     let is = c.settled-turn.ensures.turn ∙ ap (λ s. settle c.args.used (turn_at s c.args.w)) (sym c.self.view_is) in
     let accepted =
-    subst (λ (s : State). IsAccepted s.opening.problem c.args.finding) (sym c.self.view_is) c.requires.accepted in
+    subst (λ (s : State). IsAcceptedAlone s.opening.problem c.args.finding) (sym c.self.view_is) c.requires.accepted in
     let records : c.len.result ≡ length i.records.items = omega (arith, c.len.ensures, i.records.ok.0) in
     let posts =
     posts_here i.problem i.limit i.records.items (kind_of c.args.finding) (set_of c.args.finding)
@@ -75,7 +75,7 @@ returns-clause-step g c =
     let e : Entry = made c.args.w c.args.used (kind_of c.args.finding) (set_of c.args.finding) (post_reply given.result.reply) in
     let is = c.settled-turn.ensures.turn ∙ ap (λ s. settle c.args.used (turn_at s c.args.w)) (sym c.self.view_is) in
     let accepted =
-    subst (λ (s : State). IsAccepted s.opening.problem c.args.finding) (sym c.self.view_is) c.requires.accepted in
+    subst (λ (s : State). IsAcceptedAlone s.opening.problem c.args.finding) (sym c.self.view_is) c.requires.accepted in
     let records : c.len.result ≡ length i.records.items = omega (arith, c.len.ensures, i.records.ok.0) in
     let posts =
     posts_here i.problem i.limit i.records.items (kind_of c.args.finding) (set_of c.args.finding)

@@ -1,9 +1,9 @@
 use Rattle.std.proofs.Common.{[], map, refl}
 use Rattle.std.proofs.lemmas.Result.{err_from_is_err_and}
 use Rattle.evidence_text.specs.Text.{line_text, text_of, step_line, goal_line}
-use Rattle.evidence_text.proofs.TextLemmas.{refutation_text}
+use Rattle.evidence_text.proofs.TextLemmas.{derivation_text}
 use Rattle.evidence_text.proofs.PuttingLemmas.{puts-then, puts-part}
-use Rattle.evidence_text.proofs.putting.put_refutation.Goals as goal
+use Rattle.evidence_text.proofs.putting.put_derivation.Goals as goal
 
 pub returns-in_err-put_steps : goal.returns-in_err-put_steps
 returns-in_err-put_steps g c =
@@ -12,10 +12,10 @@ returns-in_err-put_steps g c =
     rw (p.1, p.2)
     (puts-part (g.S.LineSink.took c.args.sink.now c.put_steps.new.sink) (g.S.LineSink.stopped c.args.sink.now c.put_steps.new.sink)
     c.args.waiting.now.items c.put_steps.new.waiting.items (text_of (map step_line d.steps)) (line_text (goal_line c.args.group d.goal)) _ _
-    (refutation_text [] c.args.group d.goal d refl) c.in_err-put_steps.ensures)
+    (derivation_text [] c.args.group d.goal d refl) c.in_err-put_steps.ensures)
 
 pub returns : goal.returns
 returns g c =
     puts-then g.met.S.LineSink.adds_up c.args.sink.now c.put_steps.new.sink c.put_goal.new.sink
     c.args.waiting.now.items c.put_steps.new.waiting.items c.put_goal.new.waiting.items _ _ _ c.put_goal.result
-    (refutation_text [] c.args.group c.goal.result c.args.proof.now c.goal.ensures.goal) c.in_ok-put_steps.ensures c.put_goal.ensures
+    (derivation_text [] c.args.group c.goal.result c.args.proof.now c.goal.ensures.goal) c.in_ok-put_steps.ensures c.put_goal.ensures

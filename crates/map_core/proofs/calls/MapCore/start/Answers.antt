@@ -1,0 +1,16 @@
+use Rattle.std.proofs.Common.{◌≡◌, List, sym, ◌∙◌, subst}
+use Rattle.gm_base.specs.Problem.{Problem}
+use Rattle.evidence_rec.specs.declared.record.Record.{Record}
+use Rattle.evidence_rec.specs.Records.{AllAccepted}
+use Rattle.evidence_rec.proofs.AcceptedLemmas.{accepted-at}
+use Rattle.map_core.specs.Opens.{IsWithin}
+use Rattle.map_core.proofs.calls.MapCore.start.Goals as goal
+
+within-accepted : (p : Problem) (records : List Record) → AllAccepted p records → IsWithin p.groups records
+within-accepted p records all = record { at = λ at r is. (accepted-at p records at r all is).1.within }
+
+-- the sets of accepted records have groups of the problem alone
+pub enter_all-requires-clause-within : goal.enter_all-requires-clause-within
+enter_all-requires-clause-within g c =
+    subst (IsWithin (g.M.MapEngine.state c.args.engine).groups) (sym (c.as_slice.ensures.value ∙ c.into_vec-records.ensures))
+    (subst (λ n. IsWithin n c.args.records) (sym c.requires.groups) (within-accepted c.args.problem.now c.args.records c.requires.opening.accepted))
