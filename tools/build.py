@@ -105,7 +105,8 @@ def prove(top, below, log, told):
         if building.failed:
             break
         building.begin(crate)
-        if call(["rt", "run", "--", "list", "data/first.gcnf"] if crate == top else ["rt", "lib"], crate, building, lambda: False):
+        words = ["rt", "run" if crate == top else "lib", "--jobs", str(lanes(processors()))]
+        if call([*words, "--", "list", "data/first.gcnf"] if crate == top else words, crate, building, lambda: False):
             building.failed.append(crate)
         elif crate not in building.told_of:
             building.tell(crate)

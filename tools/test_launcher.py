@@ -36,7 +36,9 @@ if [ "$1" = all ]; then
     exit 0
 fi
 [ "$1" != lib ] || exit 0
-mkdir -p out && cp "$ROOM/program" out/gmus && shift 2 && out/gmus "$@"
+while [ "$1" != -- ]; do shift; done
+shift
+mkdir -p out && cp "$ROOM/program" out/gmus && out/gmus "$@"
 """
 
 # What the program is asked for in these tests; any other words end as a refused file does.
