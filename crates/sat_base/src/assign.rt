@@ -6,7 +6,8 @@
 //! shared once it is finished: a copy is one more reference to the same words. The values are bits of those words, and how
 //! many there are stands beside the pointer, so that a prefix is a shorter length over what is shared. Behind that length
 //! the words keep what was written: nothing may compare them whole.
-ghost use Rattle.std.specs.Prelude.{◌≡◌, ◌<◌, ◌≤◌, ◌-◌, false, not, IfOk, length, replicate, slice_index_or, slice_set, take};
+ghost use Rattle.std.specs.Prelude.{◌≡◌, ℕ, ◌<◌, ◌≤◌, ◌-◌, ◌*◌, ◌/◌, ◌%◌, ◌==◌, false, not, IfOk, length, replicate, slice_index_or, slice_set, take};
+ghost use Rattle.std.specs.Int.{bit_at};
 ghost use Rattle.sat_base.specs.Literals.{AreLiterals, clause_true, literal_true, var_of};
 
 use crate::bits::{read, write};
@@ -106,6 +107,14 @@ impl Assign {
         ensures { result ≡ length self.now }
     {
         self.len
+    }
+
+    /// 64 of its values as the bits of a word, the lowest bit first: those of the variables behind the first `64 * at`.
+    pub fn word(&self, at: usize) -> u64
+        requires { 64 * at < length self.now }
+        ensures { (i : ℕ) → i / 64 ≡ at → i < length self.now → slice_index_or self.now i false ≡ (bit_at result (i % 64) == 1) }
+    {
+        self.words.as_slice()[at]
     }
 
     /// The values of the first variables alone, of so many.

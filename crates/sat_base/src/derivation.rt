@@ -46,6 +46,14 @@ impl DerivationBuilder {
         }
     }
 
+    /// Makes it for another goal. What is read has its goal behind the steps.
+    pub fn aim_at(&mut self, goal: u64)
+        requires { goal ≤ max_id }
+        ensures { self.new ≡ record self.old { goal = goal } }
+    {
+        self.goal = goal;
+    }
+
     /// Adds a step at the end.
     pub fn push(&mut self, id: u64, lits: &[Lit], hints: &[u64]) -> Result<(), AllocError>
         requires id { id ≤ max_id }
@@ -57,11 +65,12 @@ impl DerivationBuilder {
         Ok(())
     }
 
-    /// The derivation, which is shared from now on.
+    /// The derivation, which is shared from now on, in just as much memory as its steps need.
     pub fn finish(self, alloc: Global) -> Result<Derivation, AllocError>
         ensures { IfOk result (λ derivation. derivation ≡ self) }
     {
-        let DerivationBuilder { goal, steps } = self;
+        let DerivationBuilder { goal, mut steps } = self;
+        steps.shrink_to_fit();
         let steps = Arc::new(alloc, steps)?;
         Ok(Derivation { goal, steps })
     }

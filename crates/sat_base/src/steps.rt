@@ -87,6 +87,15 @@ impl Steps {
         Ok(())
     }
 
+    /// Gives back the memory that no step needs.
+    pub(crate) fn shrink_to_fit(&mut self)
+        ensures { self.new ≡ self.old }
+    {
+        self.spans.shrink_to_fit();
+        self.lits.shrink_to_fit();
+        self.hints.shrink_to_fit();
+    }
+
     pub(crate) fn len(&self) -> usize
         ensures { result ≡ length self.now }
     {
