@@ -1,12 +1,13 @@
 -- Reading and writing a table by clause and place.
-use Rattle.std.proofs.Common.{◌≡◌, ◌≢◌, ℕ, suc, zero, ◌+◌, ◌-◌, ◌*◌, ◌/◌, ◌%◌, ◌<◌, ◌≤◌, inl, inr, List, [], ◌∷◌, ◌++◌, length, refl, ap, sym, ◌∙◌, arith, All, get_or, set, map, get_or-set_same, get_or-set_other}
+use Rattle.std.proofs.Common.{◌≡◌, ◌≢◌, ℕ, suc, zero, ◌+◌, ◌-◌, ◌*◌, ◌/◌, ◌%◌, ◌<◌, ◌≤◌, inl, inr, List, [], ◌∷◌, ◌++◌, length, refl, ap, ap₂, sym, ◌∙◌, arith, All, get_or, set, map, get_or-set_same, get_or-set_other}
 use Rattle.std.proofs.lemmas.Bool.{cases_eq, true_from_ne_false}
-use Rattle.std.specs.Prelude.{ℤ, pos, Option, Some, None, Bool, true, if◌then◌else◌, slice_index_or}
+use Rattle.std.specs.Prelude.{ℤ, pos, Option, Some, None, Bool, true, false, if◌then◌else◌, slice_index_or}
 use Rattle.std.proofs.lemmas.List.{get_or-map, map-set, length-map, map_push}
 use Rattle.std.proofs.Math.Seq.{map-set_same}
 use Rattle.clause_store.specs.declared.store.ClauseRecord.{ClauseRecord}
 use Rattle.std.specs.List.{AllByRecursion}
 use Rattle.clause_store.specs.Inner.{IsWithin, watched_by}
+use Rattle.clause_store.specs.Shapes.{is_watched}
 use Rattle.clause_store.specs.Links.{literal_by}
 
 half : (id p : ℕ) → p < 2 → (2 * id + p) / 2 ≡ id
@@ -129,7 +130,6 @@ pair-set P (x ∷ y ∷ []) a b e pa pb = at
 -- a record stays within what grows
 pub within-more : (vars count last more later : ℕ) (r : ClauseRecord) → count ≤ more → last ≤ later → IsWithin vars count last r → IsWithin vars more later r
 within-more vars count last more later r le le' w = record {
-  ordered = w.ordered;
   within = omega (arith, w.within, le);
   watched = w.watched;
   next = λ k d h. omega (arith, w.next k d h, le');
@@ -152,11 +152,24 @@ from_recursion P (x ∷ xs) a = at (from_recursion P xs a.1)
 pair_if : ClauseRecord → Bool → Option (ℤ × ℤ)
 pair_if r is = if is then Some (slice_index_or r.watched 0 (pos 0), slice_index_or r.watched 1 (pos 0)) else None
 
-is_watched-from : (r : ClauseRecord) → watched_by r ≢ None → r.is_watched ≡ true
+-- what a record watches that says that it does, and one that says that it does not
+pub watched_if : (r : ClauseRecord) → is_watched r.shape ≡ true → watched_by r ≡ Some (slice_index_or r.watched 0 (pos 0), slice_index_or r.watched 1 (pos 0))
 unfolding pair_if
-is_watched-from r some = true_from_ne_false r.is_watched (λ e. some (ap (pair_if r) e))
+watched_if r is = ap (pair_if r) is
 
-literal-row : (r : ClauseRecord) (p : ℕ) (e : ℤ) → p < 2 → length r.watched ≡ 2 → r.is_watched ≡ true → literal_by (watched_by r) p ≡ get_or r.watched p e
+pub unwatched_if : (r : ClauseRecord) → is_watched r.shape ≡ false → watched_by r ≡ None
+unfolding pair_if
+unwatched_if r is = ap (pair_if r) is
+
+-- a record with the same flag watches the same
+pub watched_same : (y r : ClauseRecord) → y.watched ≡ r.watched → is_watched y.shape ≡ is_watched r.shape → watched_by y ≡ watched_by r
+watched_same y r lits flag = ap₂ (λ (ls : List ℤ) (is : Bool). if is then Some (slice_index_or ls 0 (pos 0), slice_index_or ls 1 (pos 0)) else None) lits flag
+
+is_watched-from : (r : ClauseRecord) → watched_by r ≢ None → is_watched r.shape ≡ true
+unfolding pair_if
+is_watched-from r some = true_from_ne_false (is_watched r.shape) (λ e. some (ap (pair_if r) e))
+
+literal-row : (r : ClauseRecord) (p : ℕ) (e : ℤ) → p < 2 → length r.watched ≡ 2 → is_watched r.shape ≡ true → literal_by (watched_by r) p ≡ get_or r.watched p e
 unfolding pair_if
 literal-row r p e two long is = ap (λ b. literal_by (pair_if r b) p) is ∙ by p two
   where
@@ -171,7 +184,7 @@ watched-row rows r id from_one within is =
     behind None (map watched_by rows) id from_one ∙ get_or-map watched_by rows (id - 1) r None i ∙ sym (ap watched_by is)
 
 -- the record of a clause that watches something
-pub is_watched-at : (rows : List ClauseRecord) (r : ClauseRecord) (id : ℕ) → 0 < id → id ≤ length rows → r ≡ get_or rows (id - 1) r → get_or (None ∷ map watched_by rows) id None ≢ None → r.is_watched ≡ true
+pub is_watched-at : (rows : List ClauseRecord) (r : ClauseRecord) (id : ℕ) → 0 < id → id ≤ length rows → r ≡ get_or rows (id - 1) r → get_or (None ∷ map watched_by rows) id None ≢ None → is_watched r.shape ≡ true
 is_watched-at rows r id from_one within is some = is_watched-from r (λ none. some (watched-row rows r id from_one within is ∙ none))
 
 -- what a clause that is watched watches by a place

@@ -3,6 +3,7 @@ use Rattle.std.specs.Prelude.{true, ◌≡◌, ℕ, ℤ, ◌+◌, ◌-◌, ◌*�
 use Rattle.sat_base.specs.Literals.{IsLiteral}
 use Rattle.sat_base.specs.Database.{StoredClause}
 use Rattle.clause_store.specs.Clauses.{Clauses}
+use Rattle.clause_store.specs.Shapes.{literals_in, is_live, is_watched, most_literals}
 use Rattle.clause_store.specs.Thirds.{mix_of}
 use Rattle.clause_store.specs.Words.{AreSets}
 use Rattle.clause_store.specs.declared.store.ClauseRecord.{ClauseRecord}
@@ -10,17 +11,16 @@ use Rattle.clause_store.specs.declared.store.Store.TheInside.{Inside}
 
 -- the clause that a record cuts from the literals
 abbrev pub cut_by : List ℤ → ClauseRecord → StoredClause
-cut_by lits r = record { lits = slice_range lits r.start r.end; live = r.live }
+cut_by lits r = record { lits = slice_range lits r.start (r.start + literals_in r.shape); live = is_live r.shape }
 
 -- what a record watches
 abbrev pub watched_by : ClauseRecord → Option (ℤ × ℤ)
-watched_by r = if r.is_watched then Some (slice_index_or r.watched 0 (pos 0), slice_index_or r.watched 1 (pos 0)) else None
+watched_by r = if is_watched r.shape then Some (slice_index_or r.watched 0 (pos 0), slice_index_or r.watched 1 (pos 0)) else None
 
 -- its places are among so many literals, its watched literals over the variables, its links among so many ids
 pub record IsWithin (vars count last : ℕ) (r : ClauseRecord) : Type 0 where
-  pub ordered : r.start ≤ r.end
-  pub within : r.end ≤ count
-  pub watched : r.is_watched ≡ true → All (IsLiteral vars) r.watched
+  pub within : r.start + literals_in r.shape ≤ count
+  pub watched : is_watched r.shape ≡ true → All (IsLiteral vars) r.watched
   pub next : All (λ id. id ≤ last) r.next
   pub two_watched : length r.watched ≡ 2
   pub two_next : length r.next ≡ 2
@@ -29,7 +29,7 @@ pub record IsWithin (vars count last : ℕ) (r : ClauseRecord) : Type 0 where
 abbrev pub HasMix : List ℤ → ClauseRecord → Type 0
 HasMix lits r = length (cut_by lits r).lits ≡ 3 → r.third ≡ mix_of (cut_by lits r).lits
 
--- the greatest number of clauses, and of literals, that the records can count
+-- the greatest number of clauses, of which each id fits 32 bits
 abbrev pub most : ℕ
 most = 2 ^ 32 - 1
 
@@ -52,7 +52,7 @@ store_of a =
       parks = a.parks.items;
       false_id = a.false_id;
       room = min (vec_capacity a.records) most - vec_len a.records;
-      literal_room = min (vec_capacity a.lits) most - vec_len a.lits;
+      literal_room = min (vec_capacity a.lits - vec_len a.lits) most_literals;
     }
 
 pub record IsLaidOut (a : Inside) : Type 0 where
@@ -62,7 +62,6 @@ pub record IsLaidOut (a : Inside) : Type 0 where
   pub mixes : All (HasMix a.lits.items) a.records.items
   pub sets : AreSets a.words.items (literals_of a)
   pub counted : vec_len a.records ≤ most
-  pub lits_counted : vec_len a.lits ≤ most
   pub a_head_each : length a.heads.items ≡ 2 * a.vars + 2
   pub a_tail_each : length a.tails.items ≡ 2 * a.vars + 2
   pub a_park_each : length a.parks.items ≡ 2 * a.vars + 2

@@ -14,6 +14,7 @@
 
 mod links;
 mod positions;
+mod shape;
 mod store;
 mod thirds;
 mod words;

@@ -45,7 +45,7 @@ impl Store {
         ensures { result ≡ watched_at self.now id }
     {
         let record = &self.records[(id - 1) as usize];
-        if record.is_watched {
+        if record.shape.is_watched() {
             Some((record.watched[0], record.watched[1]))
         } else {
             None
@@ -124,7 +124,7 @@ impl Store {
         let record = &mut self.records[(id - 1) as usize];
         record.watched[0] = first;
         record.watched[1] = second;
-        record.is_watched = true;
+        record.shape = record.shape.watched();
     }
 
     fn unwatch(&mut self, id: u64)
@@ -134,7 +134,7 @@ impl Store {
         ensures rest { self.new ≡ record self.old { watched = self.new.watched } }
     {
         let record = &mut self.records[(id - 1) as usize];
-        record.is_watched = false;
+        record.shape = record.shape.unwatched();
     }
 
     /// Has the list of what the clause watches by a place go on with this clause, or end.

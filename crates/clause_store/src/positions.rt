@@ -27,7 +27,7 @@ impl Store {
         ensures within { result ≤ length (clause_at self.now.clauses id).lits }
     {
         let record = &self.records[(id - 1) as usize];
-        record.third.min(record.end - record.start) as usize
+        record.third.min(record.shape.literals()) as usize
     }
 
     /// Has the next search in a clause begin at this place.
@@ -36,6 +36,6 @@ impl Store {
         ensures { self.new ≡ self.old }
     {
         let record = &mut self.records[(id - 1) as usize];
-        record.third = third_or(record.third, place, record.end - record.start);
+        record.third = third_or(record.third, place, record.shape.literals());
     }
 }

@@ -1,7 +1,7 @@
 //! The clause store.
 //!
 //! The literals of all clauses stand one clause after the other in one list, and a small record of each clause says where
-//! its own begin and end. So a visit to a clause touches one record and one stretch of literals, and an id is a place:
+//! its own begin and how many they are. So a visit to a clause touches one record and one stretch of literals, and an id is a place:
 //! it is found without a search. A clause that is not live is kept because hints name it; propagation passes it by. So is
 //! one that is forgotten: only that it is live changes.
 //!
@@ -15,16 +15,19 @@
 //!
 //! Where there are at most 64 variables, a table beside the records has the literals of each clause as a set (`words.rt`).
 //!
-//! Places in the list of literals and ids are kept in 32 bits. A store that would outgrow them answers want of memory.
-ghost use Rattle.std.specs.Prelude.{◌≡◌, ℕ, ℤ, ◌+◌, ◌<◌, ◌≤◌, ◌^◌, ◌++◌, ◌∷◌, [], None, false, min, length, replicate, vec_len, vec_capacity, is_ok, if◌then◌else◌, IfOk, OnOk, OnErr, IsOk};
+//! Places in the list of literals are kept in 64 bits, which no list outgrows. Ids are kept in 32 bits, and the length of a
+//! clause in 30 beside its flags (`shape.rt`). A store that would outgrow these answers want of memory.
+ghost use Rattle.std.specs.Prelude.{◌≡◌, ℕ, ℤ, ◌+◌, ◌-◌, ◌<◌, ◌≤◌, ◌^◌, ◌++◌, ◌∷◌, [], None, false, min, length, replicate, vec_len, vec_capacity, is_ok, if◌then◌else◌, IfOk, OnOk, OnErr, IsOk};
 ghost use Rattle.sat_base.specs.Literals.{AreLiterals};
 ghost use Rattle.sat_base.specs.Database.{AreOver};
 ghost use Rattle.sat_base.specs.Forgotten.{forgotten};
 ghost use Rattle.clause_store.specs.Clauses.{clause_at, IsId, HasRoomFor};
 ghost use Rattle.clause_store.specs.Inner.{most};
+ghost use Rattle.clause_store.specs.Shapes.{literals_in, is_live, is_watched, most_literals};
 ghost use Rattle.clause_store.specs.Thirds.{mix_of};
 ghost use Rattle.clause_store.specs.Links.{watched_at, next_of, head_of, tail_of, park_of, KeepsLinks};
 
+use crate::shape::{MOST_LITERALS, Shape};
 use crate::thirds::mix;
 use crate::words::{keep_words, reserve_words};
 use lit_words::LitWords;
@@ -32,23 +35,21 @@ use sat_base::Lit;
 use std::alloc::{AllocError, Global};
 use std::marker::Model;
 
-// The greatest number of clauses, and of literals.
+// The greatest number of clauses.
 const MOST: usize = 4_294_967_295;
 
-/// What a clause watches and which clauses come next in the lists of those literals, where its literals stand, and whether
-/// it is live. It has 32 bytes. An id 0 stands for none. A visit that the other watched literal ends reads the first half
+/// What a clause watches and which clauses come next in the lists of those literals, where its literals begin, how many they
+/// are, and whether it is live. It has 32 bytes. An id 0 stands for none. A visit that the other watched literal ends reads the first half
 /// alone, which lies in one line of the cache.
 #[derive(Clone, Copy)]
 pub(crate) struct ClauseRecord {
     pub watched: [Lit; 2],
     pub next: [u32; 2],
-    pub start: u32,
-    pub end: u32,
+    pub start: u64,
     /// Of a clause of three literals: their rows in one number, from which two of them tell the third. Of another one: the
     /// place at which a search for a literal is to begin.
     pub third: u32,
-    pub live: bool,
-    pub is_watched: bool,
+    pub shape: Shape,
 }
 
 /// Clauses under ids from 1, each live or not, and for each literal a list of those that watch it.
@@ -142,7 +143,7 @@ impl Store {
         if count > (MOST - self.records.len()) as u64 {
             return Err(AllocError);
         }
-        if literals > (MOST - self.lits.len()) as u64 {
+        if literals > MOST_LITERALS as u64 {
             return Err(AllocError);
         }
         reserve_words(&mut self.words, self.vars, count as usize)?;
@@ -162,12 +163,10 @@ impl Store {
         ensures room { self.old.room ≤ self.new.room + 1 }
         ensures literal_room { self.old.literal_room ≤ self.new.literal_room + length lits.now }
     {
-        let start = self.lits.len() as u32;
+        let start = self.lits.len() as u64;
         add_lits(&mut self.lits, &mut self.records, lits)?;
-        let end = self.lits.len() as u32;
         keep_words(&mut self.words, self.vars, self.records.len(), lits);
-        self.records
-            .push_reserved(new_record(lits, start, end, live));
+        self.records.push_reserved(new_record(lits, start, live));
         Ok(self.records.len() as u64)
     }
 
@@ -192,7 +191,9 @@ impl Store {
         ensures over { AreLiterals self.now.vars result.now }
     {
         let record = &self.records[(id - 1) as usize];
-        &self.lits[record.start as usize..record.end as usize]
+        let start = record.start as usize;
+        let end = start + record.shape.literals() as usize;
+        &self.lits[start..end]
     }
 
     /// Has a clause be live no more. Its literals stay, since hints may name it, and so do what it watches and its places
@@ -203,7 +204,7 @@ impl Store {
         ensures rest { self.new ≡ record self.old { clauses = self.new.clauses } }
     {
         let record = &mut self.records[(id - 1) as usize];
-        record.live = false;
+        record.shape = record.shape.dead();
     }
 
     /// Whether a clause is live.
@@ -211,7 +212,7 @@ impl Store {
         requires { IsId self.now.clauses id }
         ensures { result ≡ (clause_at self.now.clauses id).live }
     {
-        self.records[(id - 1) as usize].live
+        self.records[(id - 1) as usize].shape.is_live()
     }
 }
 
@@ -221,19 +222,18 @@ fn add_lits(
     records: &mut Vec<ClauseRecord>,
     more: &[Lit],
 ) -> Result<(), AllocError>
-    requires lits { vec_len lits.old ≤ most }
     requires records { vec_len records.old ≤ most }
     ensures lits { lits.new.items ≡ (if is_ok result then lits.old.items ++ more.now else lits.old.items) }
     ensures len { vec_len lits.new ≡ (if is_ok result then vec_len lits.old + length more.now else vec_len lits.old) }
-    ensures small { vec_len lits.new ≤ most }
+    ensures short { OnOk result (length more.now ≤ most_literals) }
     ensures capacity { vec_capacity lits.old ≤ vec_capacity lits.new }
     ensures records { records.new.items ≡ records.old.items }
     ensures records_len { vec_len records.new ≡ vec_len records.old }
     ensures records_capacity { vec_capacity records.old ≤ vec_capacity records.new }
     ensures one_more { OnOk result (vec_len records.new < min (vec_capacity records.new) most) }
-    ensures succeeds { vec_len records.old < min (vec_capacity records.old) most → vec_len lits.old + length more.now ≤ min (vec_capacity lits.old) most → IsOk result }
+    ensures succeeds { vec_len records.old < min (vec_capacity records.old) most → length more.now ≤ min (vec_capacity lits.old - vec_len lits.old) most_literals → IsOk result }
 {
-    if records.len() == MOST || more.len() > MOST - lits.len() {
+    if records.len() == MOST || more.len() > MOST_LITERALS {
         return Err(AllocError);
     }
     records.reserve(1)?;
@@ -241,18 +241,20 @@ fn add_lits(
 }
 
 // The record of a clause that watches nothing.
-fn new_record(lits: &[Lit], start: u32, end: u32, live: bool) -> ClauseRecord
+fn new_record(lits: &[Lit], start: u64, live: bool) -> ClauseRecord
+    requires { length lits.now ≤ most_literals }
     ensures third { length lits.now ≡ 3 → result.third ≡ mix_of lits.now }
     ensures two { length result.watched ≡ 2 }
-    ensures rest { result ≡ record { watched = result.watched; next = 0 ∷ 0 ∷ []; start = start; end = end; third = result.third; live = live; is_watched = false } }
+    ensures literals { literals_in result.shape ≡ length lits.now }
+    ensures live { is_live result.shape ≡ live }
+    ensures unwatched { is_watched result.shape ≡ false }
+    ensures rest { result ≡ record { watched = result.watched; next = 0 ∷ 0 ∷ []; start = start; third = result.third; shape = result.shape } }
 {
     ClauseRecord {
         watched: [Lit::new(1), Lit::new(1)],
         next: [0, 0],
         start,
-        end,
         third: mix(lits),
-        live,
-        is_watched: false,
+        shape: Shape::new(lits.len(), live),
     }
 }

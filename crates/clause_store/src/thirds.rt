@@ -50,7 +50,7 @@ impl Store {
         ensures none { IfNone result (¬ AreTwoOfThree (clause_at self.now.clauses id).lits first second) }
     {
         let record = &self.records[(id - 1) as usize];
-        if record.end - record.start == 3 {
+        if record.shape.literals() == 3 {
             literal_of(record.third ^ row(first) ^ row(second))
         } else {
             None

@@ -34,7 +34,7 @@ returns-clause-rest c =
     let a = c.self.inside in
     let r = c.index_mut-record.result.now in
     let records = a.records.items in
-    let y : ClauseRecord = record { start = r.start; end = r.end; watched = r.watched; next = set r.next c.args.place c.number_of-next.result; third = r.third; live = r.live; is_watched = r.is_watched } in
+    let y : ClauseRecord = record { start = r.start; watched = r.watched; next = set r.next c.args.place c.number_of-next.result; third = r.third; shape = r.shape } in
     rw (
       ← c.self.view_is,
       map-kept (cut_by a.lits.items) records y r (c.args.id - 1) c.index_mut-record.ensures.value refl,
@@ -51,10 +51,9 @@ invariant_of-self c =
     let within : c.args.id ≤ length records = omega (arith, le, length-map records (cut_by a.lits.items)) in
     let i : c.args.id - 1 < length records = omega (arith, within, c.requires.id.from_one) in
     let safe = subst (λ (x : ClauseRecord). IsWithin a.vars (length a.lits.items) (length records) x) (sym c.index_mut-record.ensures.value) (inv.within (c.args.id - 1) r i) in
-    let y : ClauseRecord = record { start = r.start; end = r.end; watched = r.watched; next = set r.next c.args.place c.number_of-next.result; third = r.third; live = r.live; is_watched = r.is_watched } in
+    let y : ClauseRecord = record { start = r.start; watched = r.watched; next = set r.next c.args.place c.number_of-next.result; third = r.third; shape = r.shape } in
     let to : c.number_of-next.result ≤ length records = omega (arith, c.number_of-next.ensures, subst (λ (s : Clauses). link_of c.args.to ≤ length s.clauses) (sym c.self.view_is) c.requires.to.within, length-map records (cut_by a.lits.items)) in
     let fits : IsWithin a.vars (length a.lits.items) (length records) y = record {
-      ordered = safe.ordered;
       within = safe.within;
       watched = safe.watched;
       next = All-set (λ id. id ≤ length records) r.next c.args.place c.number_of-next.result to safe.next;

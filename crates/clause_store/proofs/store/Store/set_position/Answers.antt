@@ -13,7 +13,7 @@ returns c =
     let a = c.self.inside in
     let r = c.index_mut-record.result.now in
     let records = a.records.items in
-    let y : ClauseRecord = record { start = r.start; end = r.end; watched = r.watched; next = r.next; third = c.third_or-record.result; live = r.live; is_watched = r.is_watched } in
+    let y : ClauseRecord = record { start = r.start; watched = r.watched; next = r.next; third = c.third_or-record.result; shape = r.shape } in
     rw (
       ← c.self.view_is,
       map-kept (cut_by a.lits.items) records y r (c.args.id - 1) c.index_mut-record.ensures.value refl,
@@ -32,7 +32,7 @@ invariant_of-self c =
     let i : c.args.id - 1 < length records = omega (arith, le, length-map records (cut_by a.lits.items), c.requires.from_one) in
     let safe = subst (λ (x : ClauseRecord). IsWithin a.vars (length a.lits.items) (length records) x) (sym c.index_mut-record.ensures.value) (inv.within (c.args.id - 1) r i) in
     let mixed = subst (λ (x : ClauseRecord). HasMix a.lits.items x) (sym c.index_mut-record.ensures.value) (inv.mixes (c.args.id - 1) r i) in
-    let y : ClauseRecord = record { start = r.start; end = r.end; watched = r.watched; next = r.next; third = c.third_or-record.result; live = r.live; is_watched = r.is_watched } in
+    let y : ClauseRecord = record { start = r.start; watched = r.watched; next = r.next; third = c.third_or-record.result; shape = r.shape } in
     laid_set a (c.args.id - 1) y r inv c.index_mut-record.ensures.value refl
-    (record { ordered = safe.ordered; within = safe.within; watched = safe.watched; next = safe.next; two_watched = safe.two_watched; two_next = safe.two_next })
-    (λ three. c.third_or-record.ensures (sym (long_cut a.vars (length records) a.lits.items r safe) ∙ three) ∙ mixed three)
+    (record { within = safe.within; watched = safe.watched; next = safe.next; two_watched = safe.two_watched; two_next = safe.two_next })
+    (λ three. c.third_or-record.ensures (c.literals.ensures ∙ sym (long_cut a.vars (length records) a.lits.items r safe) ∙ three) ∙ mixed three)
