@@ -7,7 +7,7 @@ use Rattle.std.specs.Option.{option_map_or}
 use Rattle.std.proofs.lemmas.List.{append-nil}
 use Rattle.std.proofs.lemmas.Bool.{false≢true, and_parts, and_from, eqb-true, cases_Bool}
 use Rattle.sat_base.proofs.Members.{all_at, any_from}
-use Rattle.gm_base.specs.Sets.{IsSubset, has, all_groups, without, complement}
+use Rattle.gm_base.specs.Sets.{IsSubset, has, without, complement}
 use Rattle.gm_base.specs.Problem.{Problem, IsProblem, Sat}
 use Rattle.gm_base.specs.Evidence.{each_passes}
 use Rattle.gm_base.proofs.SetLemmas.{IsGroupSet-complement, has-complement-from}

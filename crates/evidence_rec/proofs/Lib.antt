@@ -12,3 +12,5 @@ pub mod SetListLemmas
 pub mod HeldLemmas
 pub mod ColumnLemmas
 pub mod WithLemmas
+pub mod ShortenLemmas
+pub mod ServingLemmas

@@ -14,7 +14,6 @@ use Rattle.lrat_check.specs.Refusal.{last_id, step_refusal}
 use Rattle.lrat_check.proofs.RefusalLemmas as refusing
 use Rattle.lrat_check.proofs.KnownLemmas.{last_id-push, last_id-numbered}
 use Rattle.evidence_rec.specs.Refusals.{at_line, steps_refusal, leaves_out, goal_refusal, refutation_refusal, witness_refusal, witnesses_refusal, reference_refusal, group_refusal, steps_in, refutations_refusal, record_refusal}
-use Rattle.std.specs.List.{AllByRecursion}
 use Rattle.evidence_rec.specs.Records.{found_of, numbered_record, is_inside, shows_refuted, IsShaped, Accepts, AllAccepted, IsMinimal}
 use Rattle.evidence_rec.proofs.AcceptedLemmas.{accepted-right, minimal-from_accepts}
 use Rattle.std.specs.declared.alloc.AllocError.{AllocError}

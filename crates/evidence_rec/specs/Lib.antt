@@ -9,3 +9,5 @@ pub mod Rows
 pub mod Blocks
 pub mod Held
 pub mod Columns
+pub mod Shorten
+pub mod Serving

@@ -15,6 +15,9 @@
 //! A [`RecordChecker`] is made once for many records about one problem. An [`Oracle`] answers whether groups can be
 //! satisfied together, and derives its refutations. A [`MapEngine`] finds sets of groups that no record explores yet.
 //!
+//! A correction is shortened where it names the least earlier conflict that serves, for each group that has one
+//! (`specs/Shorten.antt`). [`least_serving`] looks for it among all records before, and a [`ConflictIndex`] has it at hand.
+//!
 //! Start reading at `specs/Records.antt` and `specs/Refusals.antt`, which say what a record means and what it is refused
 //! for, and at `specs/Rows.antt`, which has a row for each reason. How the sets are found, and how records are written as
 //! text, is not for this crate.
@@ -31,6 +34,7 @@ mod oracle;
 mod record;
 mod refutation;
 mod selectors;
+mod serving;
 mod witnessing;
 
 pub use blocks::block_lits;
@@ -40,3 +44,4 @@ pub use lists::{Proofs, Records, Witnesses};
 pub use oracle::{Asked, Oracle};
 pub use record::{Record, Refutation};
 pub use refutation::steps_verdict;
+pub use serving::{ConflictIndex, least_serving};

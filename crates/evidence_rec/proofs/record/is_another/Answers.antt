@@ -1,4 +1,4 @@
-use Rattle.std.proofs.Common.{◌≡◌, not, ◌&&◌, sym, ◌∙◌, ap, eqb}
+use Rattle.std.proofs.Common.{not, ◌&&◌, sym, ◌∙◌, ap, eqb}
 use Rattle.std.proofs.lemmas.Bool.{false_from_ne_true, eqb-true, eq-eqb}
 use Rattle.gm_base.specs.Sets.{has}
 use Rattle.gm_base.proofs.SetLemmas.{has-without}
