@@ -1,10 +1,10 @@
 -- Lemmas on columns.
-use Rattle.std.proofs.Common.{◌≡◌, ◌≢◌, ℕ, zero, suc, ◌+◌, ◌-◌, ◌*◌, ◌^◌, ◌%◌, ◌<◌, ◌≤◌, min, max, Bool, true, false, not, ◌==◌, ◌&&◌, ◌||◌, cond, List, [], ◌∷◌, length, take, drop, refl, sym, ◌∙◌, ap, subst, inl, inr, arith, w64, eqb}
+use Rattle.std.proofs.Common.{◌≡◌, ◌≢◌, ℕ, zero, suc, ◌+◌, ◌-◌, ◌*◌, ◌^◌, ◌/◌, ◌%◌, ◌<◌, ◌≤◌, min, max, Bool, true, false, not, ◌==◌, ◌&&◌, ◌||◌, cond, List, [], ◌∷◌, ◌++◌, length, take, drop, refl, sym, ◌∙◌, ap, ap₂, subst, inl, inr, arith, w64, eqb}
 use Rattle.std.specs.Prelude.{ℤ, pos, negsuc, slice_index_or, None, All, bit_and, bit_or}
 use Rattle.std.specs.Int.{bit_at, bit_not}
 use Rattle.std.specs.List.{list_all}
 use Rattle.std.proofs.lemmas.Bool.{cases_eq, and_parts, and_from, eq-eqb}
-use Rattle.std.proofs.lemmas.List.{get_or-map, get_or-take, get_or-drop, take_all}
+use Rattle.std.proofs.lemmas.List.{get_or-map, get_or-take, get_or-drop, get_or_append_left, get_or-append-add, length-append, take_all, take_more, map-append}
 use Rattle.std.proofs.lemmas.Nat.Bits.{bit_at-lt, bit_at-zero, bit_at_or, bit_at_and, bit_at_not, bit_at_set_same, bit_at_set_other}
 use Rattle.sat_base.specs.Literals.{var_of, literal_true}
 use Rattle.gm_base.specs.Sets.{without}
@@ -13,7 +13,7 @@ use Rattle.gm_base.specs.Index.{group_true}
 use Rattle.gm_base.specs.Evidence.{is_witness}
 use Rattle.gm_base.proofs.IndexLemmas.{satisfies-from_groups}
 use Rattle.evidence_rec.specs.Refusals.{witnesses_refusal}
-use Rattle.evidence_rec.specs.Columns.{is_set, assignment, IsWitnessAt}
+use Rattle.evidence_rec.specs.Columns.{is_set, assignment, AreWords, IsWitnessAt}
 
 greater : (x y : ℕ) → x < 2 → y < 2 → (max x y == 1) ≡ ((x == 1) || (y == 1))
 greater zero zero l m = refl
@@ -85,14 +85,13 @@ refusal-none p set line [] ws same each = refl
 refusal-none p set line (g ∷ gs) [] same each = absurd (omega arith)
 refusal-none p set line (g ∷ gs) (w ∷ ws) same each = rw (each zero (omega arith)) (refusal-none p set (line + 1) gs ws (omega arith) (λ at lt. each (suc at) (omega arith)))
 
--- the bits below `at` say of which assignments the literal holds, and no other is set
-abbrev pub IsColumnTo : List (List Bool) → ℤ → ℕ → ℕ → Type 0
-IsColumnTo assigns lit at column =
-    ((k : ℕ) → k < at → is_set column k ≡ literal_true (slice_index_or assigns k []) lit) × ((k : ℕ) → at ≤ k → is_set column k ≡ false)
+-- the bits below `at` say where the test holds, and no other is set
+abbrev pub IsColumnTo : (ℕ → Bool) → ℕ → ℕ → Type 0
+IsColumnTo test at column = ((k : ℕ) → k < at → is_set column k ≡ test k) × ((k : ℕ) → at ≤ k → is_set column k ≡ false)
 
-pub column-true : (assigns : List (List Bool)) (lit : ℤ) (at column : ℕ) → at < 64 → literal_true (slice_index_or assigns at []) lit ≡ true → IsColumnTo assigns lit at column
-    → IsColumnTo assigns lit (at + 1) (bit_or column (1 * 2 ^ at % 2 ^ 64))
-column-true assigns lit at column within made h = (
+pub column-true : (test : ℕ → Bool) (at column : ℕ) → at < 64 → test at ≡ true → IsColumnTo test at column
+    → IsColumnTo test (at + 1) (bit_or column (1 * 2 ^ at % 2 ^ 64))
+column-true test at column within made h = (
   λ k lt.
       elim (cases_eq k at) [
         | inl same ↦ rw same (ap (λ b. b == 1) (bit_at_set_same w64 column at within) ∙ sym made)
@@ -104,9 +103,8 @@ column-true assigns lit at column within made h = (
     other : (k : ℕ) → k ≢ at → is_set (bit_or column (1 * 2 ^ at % 2 ^ 64)) k ≡ is_set column k
     other k differ = ap (λ b. b == 1) (bit_at_set_other w64 column at within k differ)
 
-pub column-false : (assigns : List (List Bool)) (lit : ℤ) (at column : ℕ) → literal_true (slice_index_or assigns at []) lit ≡ false → IsColumnTo assigns lit at column
-    → IsColumnTo assigns lit (at + 1) column
-column-false assigns lit at column failed h = (
+pub column-false : (test : ℕ → Bool) (at column : ℕ) → test at ≡ false → IsColumnTo test at column → IsColumnTo test (at + 1) column
+column-false test at column failed h = (
   λ k lt.
       elim (cases_eq k at) [
         | inl same ↦ rw same (h.1 at (omega arith) ∙ sym failed)
@@ -114,6 +112,42 @@ column-false assigns lit at column failed h = (
       ],
   λ k le. h.1 k (omega arith),
 )
+
+-- the words of the first so many assignments
+abbrev pub AreWordsTo : List (List Bool) → ℕ → ℕ → List ℕ → Type 0
+AreWordsTo assigns block n words =
+    (length words ≡ n)
+    × ((k i : ℕ) → k < n → i / 64 ≡ block → i < length (slice_index_or assigns k [])
+    → slice_index_or (slice_index_or assigns k []) i false ≡ is_set (slice_index_or words k 0) (i % 64))
+
+pub words-next : (assigns : List (List Bool)) (block n word : ℕ) (words : List ℕ) → AreWordsTo assigns block n words
+    → ((i : ℕ) → i / 64 ≡ block → i < length (slice_index_or assigns n []) → slice_index_or (slice_index_or assigns n []) i false ≡ is_set word (i % 64))
+    → AreWordsTo assigns block (n + 1) (words ++ word ∷ [])
+words-next assigns block n word words h told = (
+  omega (arith, h.0, length-append words (word ∷ [])),
+  λ k i lt same within.
+      elim (cases_eq k n) [
+        | inl last ↦
+            let place : n ≡ length words + 0 = omega (arith, h.0) in
+            let w : slice_index_or (words ++ word ∷ []) n 0 ≡ word =
+            ap (λ j. slice_index_or (words ++ word ∷ []) j 0) place ∙ get_or-append-add words (word ∷ []) 0 0 in
+            rw last (told i same (subst (λ j. i < length (slice_index_or assigns j [])) last within) ∙ ap (λ v. is_set v (i % 64)) (sym w))
+        | inr before ↦
+            h.1 k i (omega (arith, lt, before)) same within
+            ∙ ap (λ v. is_set v (i % 64)) (sym (get_or_append_left words (word ∷ []) 0 k (omega (arith, h.0, lt, before))))
+      ],
+)
+
+-- one column more gives the next value of each assignment
+pub columns-next : (assigns : List (List Bool)) (columns words : List ℕ) (at column : ℕ) → ((k : ℕ) → k < length assigns → at < length (slice_index_or assigns k []))
+    → AreWords assigns (at / 64) words → ((k : ℕ) → k < length words → is_set column k ≡ is_set (slice_index_or words k 0) (at % 64))
+    → ((k : ℕ) → k < length assigns → assignment columns k ≡ take at (slice_index_or assigns k []))
+    → (k : ℕ) → k < length assigns → assignment (columns ++ column ∷ []) k ≡ take (at + 1) (slice_index_or assigns k [])
+columns-next assigns columns words at column long words_are column_is so_far k within =
+    let w : List Bool = slice_index_or assigns k [] in
+    map-append (λ word. is_set word k) columns (column ∷ [])
+    ∙ ap₂ (λ (front : List Bool) b. front ++ b ∷ []) (so_far k within) (column_is k (omega (arith, words_are.0, within)) ∙ sym (words_are.1 k at within refl (long k within)))
+    ∙ sym (take_more w at false (long k within))
 
 -- the column of a variable
 pub column-positive : (columns : List ℕ) (k v : ℕ) (lit : ℤ) → v ≡ var_of lit → 0 < v → v ≤ length columns → lit ≡ pos (var_of lit)

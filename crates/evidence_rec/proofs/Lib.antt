@@ -14,3 +14,5 @@ pub mod ColumnLemmas
 pub mod WithLemmas
 pub mod ShortenLemmas
 pub mod ServingLemmas
+pub mod OutsideLemmas
+pub mod ApartLemmas

@@ -1,6 +1,6 @@
 -- Assignments by columns: for each variable a word whose bit k is its value under assignment k. So 64 assignments are
 -- looked at with one word a literal.
-use Rattle.std.specs.Prelude.{◌≡◌, ℕ, ◌+◌, ◌<◌, Bool, true, ◌==◌, List, [], map, length, slice_index_or}
+use Rattle.std.specs.Prelude.{◌≡◌, ℕ, ◌+◌, ◌/◌, ◌%◌, ◌<◌, Bool, true, false, ◌==◌, List, [], map, length, slice_index_or}
 use Rattle.std.specs.Int.{bit_at}
 use Rattle.gm_base.specs.Sets.{without}
 use Rattle.gm_base.specs.Problem.{Problem, satisfies}
@@ -9,6 +9,13 @@ use Rattle.gm_base.specs.Evidence.{is_witness}
 -- whether this bit of a word is set
 abbrev pub is_set : ℕ → ℕ → Bool
 is_set word k = bit_at word k == 1
+
+-- a word for each assignment, with its values of this block of 64 variables as bits
+abbrev pub AreWords : List (List Bool) → ℕ → List ℕ → Type 0
+AreWords assigns block words =
+    (length words ≡ length assigns)
+    × ((k i : ℕ) → k < length assigns → i / 64 ≡ block → i < length (slice_index_or assigns k [])
+    → slice_index_or (slice_index_or assigns k []) i false ≡ is_set (slice_index_or words k 0) (i % 64))
 
 -- assignment k of the columns
 abbrev pub assignment : List ℕ → ℕ → List Bool

@@ -4,7 +4,7 @@
 //! them: it is made once, and before each refutation it forgets the steps of the one before. Nobody who made a record is
 //! trusted, and the first line at which something is wrong is the answer.
 ghost use Rattle.std.specs.Prelude.{◌≡◌, ◌↔◌, [], IfOk, IsTrue};
-ghost use Rattle.gm_base.specs.Sets.{IsGroupSet, complement};
+ghost use Rattle.gm_base.specs.Sets.{IsGroupSet};
 ghost use Rattle.evidence_rec.specs.Records.{IsShaped, Accepts, AllAccepted, IsMinimal};
 ghost use Rattle.evidence_rec.specs.Refusals.{at_line, record_refusal};
 ghost use Rattle.evidence_rec.specs.Verdicts.{refusal_by, IsAccepted};
@@ -16,7 +16,7 @@ use crate::lists::{Proofs, Records, Witnesses};
 use crate::record::Record;
 use crate::refutation::{refutation_verdict, refutations_verdict};
 use crate::selectors::selector_checker;
-use crate::witnessing::{witness_verdict, witnesses_verdict};
+use crate::witnessing::{outside_verdict, witnesses_verdict};
 use gm_base::{Assign, Derivation, GroupSet, Problem};
 use lrat_check::{Checker, Why};
 use std::alloc::{AllocError, Global};
@@ -96,7 +96,7 @@ impl RecordChecker {
         ensures same { self.new ≡ self.old }
     {
         // This also tells that the problem is well formed, without which nothing would be minimal.
-        let groups = problem.groups();
+        let _groups = problem.groups();
         match record {
             Record::Conflict {
                 set,
@@ -107,18 +107,7 @@ impl RecordChecker {
                 set,
                 witness,
                 proofs,
-            } => {
-                let outside = set.complement(alloc, groups)?;
-                correction_verdict(
-                    &mut self.checker,
-                    problem,
-                    earlier,
-                    set,
-                    &outside,
-                    witness,
-                    proofs,
-                )
-            },
+            } => correction_verdict(&mut self.checker, problem, earlier, set, witness, proofs),
         }
     }
 }
@@ -150,18 +139,16 @@ fn correction_verdict(
     problem: &Problem,
     earlier: &Records,
     set: &GroupSet,
-    outside: &GroupSet,
     witness: &Assign,
     proofs: &Proofs,
 ) -> Result<Verdict, AllocError>
     requires begins { Begins (basis_of problem.now) checker.old }
-    requires outside { outside.now ≡ complement problem.now.groups set.now }
     requires shaped { IsShaped problem.now (record_of.Correction set.now witness.now proofs.now) }
     ensures verdict { IfOk result (λ v. refusal_by v ≡ record_refusal problem.now earlier.now (record_of.Correction set.now witness.now proofs.now)) }
     ensures is_set { IfOk result (λ v. IsAccepted v → IsGroupSet set.now) }
     ensures begins { Begins (basis_of problem.now) checker.new }
 {
-    let verdict = witness_verdict(problem, outside, witness, 1);
+    let verdict = outside_verdict(problem, set, witness, 1);
     if !verdict.is_ok() {
         return Ok(verdict);
     }

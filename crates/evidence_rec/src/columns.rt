@@ -3,11 +3,11 @@
 //! A conflict has as many witnesses as groups, and each has to satisfy the clauses of all groups but one. One by one, each
 //! clause would be fetched for each of them. So 64 are looked at together: the column of a variable is a word whose bit k
 //! is its value under witness k, the column of a literal is that word or its complement, and that of a clause is the union
-//! of its literals'. Each clause is then fetched once for 64 witnesses.
-ghost use Rattle.std.specs.Prelude.{◌≡◌, ℕ, ◌+◌, ◌*◌, ◌≤◌, ◌<◌, ◌≢◌, ◌^◌, All, IsTrue, IfOk, List, [], Bool, true, not, length, slice_index_or};
+//! of its literals'. Each clause is then fetched once for 64 witnesses, and so is each word of a witness for 64 columns.
+ghost use Rattle.std.specs.Prelude.{◌≡◌, ℕ, ◌+◌, ◌*◌, ◌≤◌, ◌<◌, ◌≢◌, ◌^◌, ◌/◌, ◌%◌, All, IsTrue, IfOk, OnOk, List, [], Bool, true, not, length, slice_index_or};
 ghost use Rattle.sat_base.specs.Literals.{AreLiterals, var_of, literal_true, clause_true};
 ghost use Rattle.gm_base.specs.Index.{group_true};
-ghost use Rattle.evidence_rec.specs.Columns.{is_set, AreColumns, Tells, Shows, ShowsOthers, IsWitnessAt};
+ghost use Rattle.evidence_rec.specs.Columns.{is_set, AreWords, AreColumns, Tells, Shows, ShowsOthers, IsWitnessAt};
 
 use gm_base::{Assign, GroupSet, Lit, Problem};
 use std::alloc::{AllocError, Global};
@@ -15,32 +15,58 @@ use std::alloc::{AllocError, Global};
 /// How many witnesses have a bit in a word.
 const WIDTH: usize = 64;
 
-/// The column of a variable.
-fn column_of(assigns: &[Assign], lit: Lit) -> u64
-    requires few { length assigns.now ≤ 64 }
-    requires values { All (λ (w : List Bool). var_of lit ≤ length w) assigns.now }
-    ensures { (k : ℕ) → k < length assigns.now → is_set result k ≡ literal_true (slice_index_or assigns.now k []) lit }
+/// The values of 64 variables under each assignment, as the bits of a word: those of the block that this variable, counted
+/// from 0, is in. They are read where the block begins.
+fn read_block(words: &mut Vec<u64>, assigns: &[Assign], at: usize) -> Result<(), AllocError>
+    requires values { All (λ (w : List Bool). at < length w) assigns.now }
+    requires begun { at % 64 ≢ 0 → AreWords assigns.now (at / 64) words.old.items }
+    ensures { OnOk result (AreWords assigns.now (at / 64) words.new.items) }
+{
+    if at % 64 != 0 {
+        return Ok(());
+    }
+    words.clear();
+    for assign in assigns {
+        words.push(assign.word(at / 64))?;
+    }
+    Ok(())
+}
+
+/// The column of the variable that has this bit of each word.
+fn column_of(words: &[u64], bit: usize) -> u64
+    requires few { length words.now ≤ 64 }
+    requires within { bit < 64 }
+    ensures { (k : ℕ) → k < length words.now → is_set result k ≡ is_set (slice_index_or words.now k 0) bit }
 {
     let mut column = 0;
-    for at in 0..assigns.len() {
-        if assigns[at].makes_true(lit) {
+    for at in 0..words.len() {
+        if has_bit(words[at], bit) {
             column |= 1 << at;
         }
     }
     column
 }
 
+/// Whether this bit is set.
+fn has_bit(word: u64, bit: usize) -> bool
+    requires { bit < 64 }
+    ensures { result ≡ is_set word bit }
+{
+    (word >> bit) & 1 == 1
+}
+
 /// The columns of so many variables.
 fn columns_of(alloc: Global, vars: u32, assigns: &[Assign]) -> Result<Vec<u64>, AllocError>
-    requires small { vars < 2 ^ 31 }
     requires few { length assigns.now ≤ 64 }
     requires values { All (λ (w : List Bool). length w ≡ vars) assigns.now }
     ensures len { IfOk result (λ columns. length columns.items ≡ vars) }
     ensures columns { IfOk result (λ columns. AreColumns assigns.now columns.items) }
 {
     let mut columns = Vec::with_capacity(alloc, vars as usize)?;
-    for at in 0..vars {
-        columns.push(column_of(assigns, Lit::new((at + 1) as i32)))?;
+    let mut words = Vec::with_capacity(alloc, WIDTH)?;
+    for at in 0..vars as usize {
+        read_block(&mut words, assigns, at)?;
+        columns.push(column_of(words.as_slice(), at % 64))?;
     }
     Ok(columns)
 }
@@ -139,8 +165,6 @@ fn part_holds(
     requires values { All (λ (w : List Bool). length w ≡ problem.now.vars) witnesses.now }
     ensures { IfOk result (λ holds. IsTrue holds → (at : ℕ) → at < 64 → from + at < length set.now → IsWitnessAt problem.now set.now witnesses.now (from + at)) }
 {
-    // This also tells that the variables are few enough for literals.
-    let _groups = problem.groups();
     let part = &witnesses[from..witnesses.len().min(from + WIDTH)];
     let columns = columns_of(alloc, problem.vars(), part)?;
     let column = others_column(problem, columns.as_slice(), set.as_slice(), from);

@@ -71,7 +71,7 @@ impl Record {
         ensures { result ≡ is_inside set.now group self.now }
     {
         match self {
-            Record::Conflict { set: groups, .. } => are_others_outside(groups, set, group),
+            Record::Conflict { set: groups, .. } => are_apart(groups, set, group),
             Record::Correction { .. } => false,
         }
     }
@@ -95,12 +95,36 @@ impl Record {
     }
 }
 
-// Whether the correction has none of the groups but, maybe, this one.
+// Whether the correction has none of the groups but, maybe, this one. The groups of the lesser set are looked for in the
+// other one.
+fn are_apart(groups: &GroupSet, set: &GroupSet, group: u32) -> bool
+    ensures { result ≡ list_all (λ h. not (has (without set.now group) h)) groups.now }
+{
+    if groups.len() < set.len() {
+        are_others_outside(groups, set, group)
+    } else {
+        has_no_other(groups, set, group)
+    }
+}
+
+// The same, by the groups of the conflict.
 fn are_others_outside(groups: &GroupSet, set: &GroupSet, group: u32) -> bool
     ensures { result ≡ list_all (λ h. not (has (without set.now group) h)) groups.now }
 {
     for other in groups.as_slice() {
         if is_another(set, group, *other) {
+            return false;
+        }
+    }
+    true
+}
+
+// The same, by the groups of the correction.
+fn has_no_other(groups: &GroupSet, set: &GroupSet, group: u32) -> bool
+    ensures { result ≡ list_all (λ h. not (has (without set.now group) h)) groups.now }
+{
+    for other in set.as_slice() {
+        if is_another(groups, group, *other) {
             return false;
         }
     }
