@@ -1,10 +1,10 @@
 -- The numbers that words write.
-use Rattle.std.proofs.Common.{◌≡◌, ℕ, ◌+◌, ◌-◌, ◌*◌, ◌^◌, ◌<◌, ◌≤◌, Bool, true, false, not, ◌&&◌, ◌||◌, cond, eqb, List, [], ◌∷◌, length, get_or, refl, sym, ◌∙◌, ap, subst, arith, inl, inr, Option, Some, None}
+use Rattle.std.proofs.Common.{◌≡◌, ◌≢◌, ℕ, zero, suc, ◌+◌, ◌-◌, ◌*◌, ◌^◌, ◌<◌, ◌≤◌, Bool, true, false, not, ◌&&◌, ◌||◌, cond, eqb, List, [], ◌∷◌, length, get_or, refl, sym, ◌∙◌, ap, subst, arith, inl, inr, Option, Some, None}
 use Rattle.std.specs.Prelude.{nat_le, nat_lt, codes}
 use Rattle.std.proofs.lemmas.Option.{cond_some, none-some}
 use Rattle.std.proofs.lemmas.Bool.{false≢true, leb-true, le-leb, eq-eqb, cases_eq, cases_Bool, and_parts, and_right, cond-false, eqb-true, ltb-false, le-ltb, lt-ltb, ne_eqb}
 use Rattle.std.proofs.lemmas.Bool.Decides.{nat_tests}
-use Rattle.std.proofs.lemmas.Grind.{common_steps}
+use Rattle.std.proofs.lemmas.Grind.{common_steps, pow_more}
 use Rattle.std.proofs.lemmas.Str.Parse.{IsNumeralModel, numerals_by_value, tells_all_ascii_digits}
 use Rattle.std.proofs.lemmas.Fmt.{decimal-digits_value, decimal_digit}
 use Rattle.std.proofs.lemmas.Slice.Eq.{bytes_eq-Decides}
@@ -13,7 +13,7 @@ use Rattle.std.specs.Fmt.{decimal}
 use Rattle.std.specs.Char.{is_ascii_digit, digit_value}
 use Rattle.std.specs.Str.{all_ascii_digits, bytes_eq}
 use Rattle.std.specs.Str.Parse.{digits_value, digits_value_after}
-use Rattle.evidence_text.specs.Scan.{digit_onto, form_of}
+use Rattle.evidence_text.specs.Scan.{IsDigit, digit_onto, form_of}
 use Rattle.evidence_text.specs.Items.{within}
 use Rattle.evidence_text.specs.Reading.{is_number, number_in, value_of}
 
@@ -67,6 +67,39 @@ fold-digits v (b ∷ bs) small =
           ap (λ t. fold digit_onto (cond (t && nat_lt n (2 ^ 64)) (Some n) None) bs) other
           ∙ fold-none bs ∙ sym (value_behind-other v b bs other)
     ]
+
+-- ---- digits that no `u64` overflows
+
+ten-more : (k n : ℕ) → 10 ^ k ≤ 10 ^ (k + n)
+ten-more k zero = let same : k + zero ≡ k = omega arith in subst (λ j. 10 ^ k ≤ 10 ^ j) (sym same) (omega arith)
+ten-more k (suc n) =
+    let next : k + suc n ≡ k + n + 1 = omega arith in
+    subst (λ j. 10 ^ k ≤ 10 ^ j) (sym next) (omega (arith, ten-more k n, pow_more 10 (k + n)))
+
+-- a value of so many digits, and with one more
+pub digits-more : (v d k : ℕ) → v < 10 ^ k → d ≤ 9 → v * 10 + d < 10 ^ (k + 1)
+digits-more v d k small digit = omega (arith, small, digit, pow_more 10 k)
+
+-- 19 digits fit
+pub digits-fit : (v d k : ℕ) → k < 19 → v < 10 ^ k → d ≤ 9 → v * 10 + d < 2 ^ 64
+digits-fit v d k few small digit =
+    let whole : k + (18 - k) ≡ 18 = omega (arith, few) in
+    let most : 10 ^ k ≤ 1000000000000000000 = subst (λ j. 10 ^ k ≤ 10 ^ j) whole (ten-more k (18 - k)) in
+    let fits : v * 10 + d < 18446744073709551616 = omega (arith, small, digit, most) in
+    fits
+
+-- such a digit is put behind the value
+pub digit_onto-fits : (v b d : ℕ) → IsDigit b d → v * 10 + d < 2 ^ 64 → Some (v * 10 + d) ≡ digit_onto (Some v) b
+digit_onto-fits v b d h fits =
+    let same : v * 10 + digit_value b ≡ v * 10 + d = ap (λ n. v * 10 + n) h.1 in
+    sym
+    (ap (λ t. cond (t && nat_lt (v * 10 + digit_value b) (2 ^ 64)) (Some (v * 10 + digit_value b)) None) h.0
+    ∙ ap (λ n. cond (nat_lt n (2 ^ 64)) (Some n) None) same
+    ∙ ap (λ t. cond t (Some (v * 10 + d)) None) (lt-ltb _ _ fits))
+
+-- it is no blank
+pub digit-inner : (b d : ℕ) → IsDigit b d → b ≢ 32
+digit-inner b d h blank = false≢true (sym (ap is_ascii_digit blank) ∙ h.0)
 
 -- below 2^64 is up to the greatest `u64`
 lt-le : (v : ℕ) → nat_lt v (2 ^ 64) ≡ nat_le v (2 ^ 64 - 1)

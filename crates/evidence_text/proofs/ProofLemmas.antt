@@ -13,7 +13,7 @@ use Rattle.evidence_text.specs.declared.offence.Halt.{Halt}
 use Rattle.evidence_text.specs.declared.offence.Halt.TheVariants as halt
 use Rattle.evidence_text.specs.Text.{Line}
 use Rattle.evidence_text.specs.Reading.{◌>>=◌, Below, below, offence, at_line, is_letter, letter_of, behind, goal_letter, goal_at, step_at, proof_at, with_step}
-use Rattle.evidence_text.specs.Cursors.{Halts, Stops, stop_on, goal_of, goal_or_any, with_steps}
+use Rattle.evidence_text.specs.Cursors.{Halts, Stops, stop_on, with_steps}
 
 -- the offence of a line's words is that of what is read there
 pub halts-on_line : {A B : Type 0} (line : ℕ) (h : Halt) (read : Result A Why) (f : A → Result B Offence) → Halts h read → Stops (stop_on line h) (at_line line read >>= f)
@@ -41,12 +41,6 @@ proof_at-other vars goal at l ls other =
     (cond (is_letter (goal_letter goal) l) (at_line at (goal_at goal (behind l)) >>= λ id. Ok (record { steps = []; goal = id }, below (at + 1) ls)) (Err (offence at BadLine))))
     (ne_eqb _ _ other)
 
-pub goal_of-step : (goal : Goal) (l : Line) (ls : List Line) → letter_of l ≡ 100 → goal_of goal (l ∷ ls) ≡ goal_of goal ls
-goal_of-step goal l ls letter = ap (λ t. cond t (goal_of goal ls) (goal_or_any (goal_at goal (behind l)))) (eq-eqb _ _ letter)
-
-pub goal_of-other : (goal : Goal) (l : Line) (ls : List Line) → letter_of l ≢ 100 → goal_of goal (l ∷ ls) ≡ goal_or_any (goal_at goal (behind l))
-goal_of-other goal l ls other = ap (λ t. cond t (goal_of goal ls) (goal_or_any (goal_at goal (behind l)))) (ne_eqb _ _ other)
-
 -- what a line of a proof gives, by its letter
 pub gives-step : (vars : ℕ) (goal : Goal) (at next : ℕ) (ls rest : List Line) (l : Line) (s : Step) → ls ≡ l ∷ rest → letter_of l ≡ 100 → next ≡ at + 1
     → step_at vars (behind l) ≡ Ok s → proof_at vars goal at ls ≡ with_steps (s ∷ []) (proof_at vars goal next rest)
@@ -56,14 +50,12 @@ gives-step vars goal at next ls rest l s is letter counted step =
     ∙ ap (λ n. with_steps (s ∷ []) (proof_at vars goal n rest)) (sym counted)
 
 pub gives-goal : (vars : ℕ) (goal : Goal) (at next : ℕ) (ls rest : List Line) (l : Line) (id : ℕ) → ls ≡ l ∷ rest → letter_of l ≢ 100 → letter_of l ≡ goal_letter goal → next ≡ at + 1
-    → goal_at goal (behind l) ≡ Ok id → proof_at vars goal at ls ≡ Ok (record { steps = []; goal = goal_of goal ls }, below next rest)
+    → goal_at goal (behind l) ≡ Ok id → proof_at vars goal at ls ≡ Ok (record { steps = []; goal = id }, below next rest)
 gives-goal vars goal at next ls rest l id is other letter counted read =
-    let known : goal_of goal ls ≡ id = ap (goal_of goal) is ∙ goal_of-other goal l rest other ∙ ap goal_or_any read in
     ap (proof_at vars goal at) is ∙ proof_at-other vars goal at l rest other
     ∙ ap (λ t. cond t (at_line at (goal_at goal (behind l)) >>= λ id. Ok (record { steps = []; goal = id }, below (at + 1) rest)) (Err (offence at BadLine))) (eq-eqb _ _ letter)
     ∙ ap (λ r. at_line at r >>= λ id. Ok (record { steps = []; goal = id }, below (at + 1) rest)) read
     ∙ ap (λ n. Ok (record { steps = []; goal = id }, below n rest)) (sym counted)
-    ∙ ap (λ k. Ok (record { steps = []; goal = k }, below next rest)) (sym known)
 
 pub stops-step : (vars : ℕ) (goal : Goal) (at : ℕ) (ls rest : List Line) (l : Line) (h : Halt) → ls ≡ l ∷ rest → letter_of l ≡ 100 → Halts h (step_at vars (behind l))
     → Stops (stop_on at h) (proof_at vars goal at ls)

@@ -1,5 +1,5 @@
 -- The words of a line, one at a time.
-use Rattle.std.proofs.Common.{◌≡◌, ◌≢◌, ℕ, suc, ◌+◌, ◌<◌, Bool, true, false, not, cond, eqb, List, [], ◌∷◌, length, get_or, drop, refl, sym, ◌∙◌, ap, arith, inl, inr, drop-cons, add-one, Option, Some, Ok, Err}
+use Rattle.std.proofs.Common.{◌≡◌, ◌≢◌, ℕ, suc, ◌+◌, ◌<◌, Bool, true, false, not, cond, eqb, List, [], ◌∷◌, length, get_or, drop, refl, sym, ◌∙◌, ap, arith, inl, inr, drop-cons, add-one, Option, Ok, Err}
 use Rattle.std.proofs.lemmas.Bool.{cases_Bool, ne_eqb, eqb-false}
 use Rattle.std.proofs.lemmas.List.Splits.{slice_split-cons_yes, slice_split-cons_no}
 use Rattle.std.proofs.lemmas.List.Sums.{take_while-cons, prefix_len_is}
@@ -73,10 +73,10 @@ word_from-head line from h =
     ∙ get_or-drop from line 0 0 ∙ ap (λ n. get_or line n 0) (omega arith)
 
 -- one byte further
-pub value-step : (line : List ℕ) (from at : ℕ) (value next : Option ℕ) → at < length line → get_or line at 0 ≢ 32
-    → next ≡ digit_onto value (get_or line at 0) → fold digit_onto value (word_from line at) ≡ fold digit_onto (Some 0) (word_from line from)
-    → fold digit_onto next (word_from line (at + 1)) ≡ fold digit_onto (Some 0) (word_from line from)
-value-step line from at value next h inner is so_far =
+pub value-step : (line : List ℕ) (from at : ℕ) (before value next : Option ℕ) → at < length line → get_or line at 0 ≢ 32
+    → next ≡ digit_onto value (get_or line at 0) → fold digit_onto value (word_from line at) ≡ fold digit_onto before (word_from line from)
+    → fold digit_onto next (word_from line (at + 1)) ≡ fold digit_onto before (word_from line from)
+value-step line from at before value next h inner is so_far =
     ap (λ (o : Option ℕ). fold digit_onto o (word_from line (at + 1))) is
     ∙ sym (ap (fold digit_onto value) (word_from-inner line at h (ne_eqb _ _ inner))) ∙ so_far
 

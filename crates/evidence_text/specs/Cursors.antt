@@ -1,12 +1,12 @@
 -- What is left at a cursor, and what the reader's functions tell of it.
-use Rattle.std.specs.Prelude.{◌≡◌, ℕ, ℤ, Bool, true, false, List, [], ◌∷◌, ◌++◌, if◌then◌else◌, Option, Some, None, Result, Ok, Err, codes}
+use Rattle.std.specs.Prelude.{◌≡◌, ℕ, ℤ, Bool, true, false, List, [], ◌∷◌, ◌++◌, Option, Some, None, Result, Ok, Err, codes}
 use Rattle.lrat_check.specs.declared.why.Why.{Why}
 use Rattle.lrat_check.specs.declared.why.Why.TheVariants.{BadLine, TrailingText}
-use Rattle.sat_base.specs.Derivation.{Step, Derivation, max_id}
-use Rattle.evidence_text.specs.Text.{Word, Line}
+use Rattle.sat_base.specs.Derivation.{Step, Derivation}
+use Rattle.evidence_text.specs.Text.{Word}
 use Rattle.evidence_text.specs.Lines.{lines_of, unended, words_of}
 use Rattle.gm_base.specs.Problem.{Problem}
-use Rattle.evidence_text.specs.Reading.{Below, below, ◌>>=◌, ascending_at, items_at, is_over, with_trues, is_letter, behind, goal_at, set_at, last_word_at, proof_at, conflict_at, correction_at, closing_at, nothing_behind, at_line, offence}
+use Rattle.evidence_text.specs.Reading.{Below, below, ◌>>=◌, ascending_at, items_at, is_over, with_trues, set_at, last_word_at, proof_at, conflict_at, correction_at, closing_at, nothing_behind, at_line, offence}
 use Rattle.evidence_text.specs.declared.answer.Answer.{Answer}
 use Rattle.evidence_text.specs.declared.answer.Answer.TheVariants as answer
 use Rattle.evidence_text.specs.declared.version.Version.{Version}
@@ -138,26 +138,16 @@ ReadsHead (Err o) left read = read ≡ Err o
 abbrev pub proof_of : ℕ → Goal → Below → Result (Derivation × Below) Offence
 proof_of vars goal b = proof_at vars goal b.at b.lines
 
--- the goal behind the steps that are next; where it isn't there, any
-abbrev pub goal_or_any : Result ℕ Why → ℕ
-goal_or_any (Ok id) = id
-goal_or_any (Err why) = max_id
-
-abbrev pub goal_of : Goal → List Line → ℕ
-goal_of goal [] = max_id
-goal_of goal (l ∷ ls) = if is_letter 100 l then goal_of goal ls else goal_or_any (goal_at goal (behind l))
-
 -- steps before those that are read behind them
 abbrev pub with_steps : List Step → Result (Derivation × Below) Offence → Result (Derivation × Below) Offence
 with_steps steps read = read >>= λ d. Ok (record { steps = steps ++ d.0.steps; goal = d.0.goal }, d.1)
 
--- a line of a proof: a step, which stands before what is read behind it, or the goal
-abbrev pub GivesStep : ℕ → Goal → Result (Option ℕ) Stop → List ℤ → List ℕ → Below → Below → Type 0
-GivesStep vars goal (Ok (Some id)) lits hints old left =
-    (proof_of vars goal old ≡ with_steps (record { id = id; lits = lits; hints = hints } ∷ []) (proof_of vars goal left))
-    × (goal_of goal old.lines ≡ goal_of goal left.lines)
-GivesStep vars goal (Ok None) lits hints old left = proof_of vars goal old ≡ Ok (record { steps = []; goal = goal_of goal old.lines }, left)
-GivesStep vars goal (Err s) lits hints old left = Stops s (proof_of vars goal old)
+-- a line of a proof: a step, which stands before what is read behind it, or the goal with this id
+abbrev pub GivesStep : ℕ → Goal → Result (Option ℕ) Stop → ℕ → List ℤ → List ℕ → Below → Below → Type 0
+GivesStep vars goal (Ok (Some id)) aim lits hints old left =
+    proof_of vars goal old ≡ with_steps (record { id = id; lits = lits; hints = hints } ∷ []) (proof_of vars goal left)
+GivesStep vars goal (Ok None) aim lits hints old left = proof_of vars goal old ≡ Ok (record { steps = []; goal = aim }, left)
+GivesStep vars goal (Err s) aim lits hints old left = Stops s (proof_of vars goal old)
 
 -- ---- a record or the end, behind the first word of its first line: the words of that line, and the lines behind it
 

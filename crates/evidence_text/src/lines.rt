@@ -26,6 +26,7 @@ impl<'a> Lines<'a> {
     }
 
     /// The next line, without its LF; none where no line ends any more.
+    #[inline]
     pub(crate) fn next(&mut self) -> Option<&'a [u8]>
         ensures some { IfSome result (λ line. lines_of self.old.rest.now ≡ words_of line.now ∷ lines_of self.new.rest.now) }
         ensures at { OnSome result (self.new.at ≡ self.old.at + 1) }

@@ -1,9 +1,9 @@
 //! Steps and their goal.
 ghost use Rattle.std.specs.Prelude.{◌≡◌, ◌<◌, ◌≤◌, ◌^◌, All, IfOk, IfSome, OnOk, length};
 ghost use Rattle.sat_base.specs.Derivation.{max_id};
-ghost use Rattle.evidence_text.specs.Cursors.{left_of, rest_of, Gives, GivesStep, goal_of, proof_of};
+ghost use Rattle.evidence_text.specs.Cursors.{left_of, rest_of, Gives, GivesStep, proof_of};
 
-use crate::fields::{MAX_ID, read_goal, read_step};
+use crate::fields::{read_goal, read_step};
 use crate::goal::Goal;
 use crate::lines::Lines;
 use crate::offence::{Stop, on_line, refusal};
@@ -12,10 +12,7 @@ use gm_base::{Derivation, DerivationBuilder, Lit};
 use lrat_check::Why;
 use std::alloc::Global;
 
-/// Steps, and the line of their goal.
-///
-/// What is made of the steps is made for a goal, which stands behind them. So the goal is looked for first, by the first
-/// letters of the lines.
+/// Steps, and the line of their goal, which stands behind them.
 pub(crate) fn read_proof(
     alloc: Global,
     lines: &mut Lines<'_>,
@@ -26,27 +23,31 @@ pub(crate) fn read_proof(
     ensures proof { Gives (λ d. d) result (left_of lines.new) (proof_of vars goal (left_of lines.old)) }
     ensures rest { OnOk result (rest_of lines.new ≡ rest_of lines.old) }
 {
-    let mut proof = DerivationBuilder::new(alloc, goal_ahead(*lines, goal));
+    let mut proof = DerivationBuilder::new(alloc, 0);
+    let mut aim = 0;
     let mut lits = Vec::new(alloc);
     let mut hints = Vec::new(alloc);
-    while let Some(id) = read_proof_line(lines, vars, goal, &mut lits, &mut hints)? {
+    while let Some(id) = read_proof_line(lines, vars, goal, &mut aim, &mut lits, &mut hints)? {
         proof.push(id, lits.as_slice(), hints.as_slice())?;
     }
+    proof.aim_at(aim);
     let proof = proof.finish(alloc)?;
     Ok(proof)
 }
 
-/// The id of the next step, with its literals and its hints, or none behind the line of the goal.
+/// The id of the next step, with its literals and its hints, or none behind the line of the goal, with the goal's id.
 #[tactic(auto, unfolding(crate::specs::Reading::proof_at))]
 fn read_proof_line(
     lines: &mut Lines<'_>,
     vars: u32,
     goal: Goal,
+    aim: &mut u64,
     lits: &mut Vec<Lit>,
     hints: &mut Vec<u64>,
 ) -> Result<Option<u64>, Stop>
     requires { vars < 2 ^ 31 }
-    ensures line { GivesStep vars goal result lits.new.items hints.new.items (left_of lines.old) (left_of lines.new) }
+    ensures line { GivesStep vars goal result aim.new lits.new.items hints.new.items (left_of lines.old) (left_of lines.new) }
+    ensures aim { aim.old ≤ max_id → aim.new ≤ max_id }
     ensures shorter { OnOk result (length lines.new.rest.now < length lines.old.rest.now) }
     ensures id { IfOk result (λ o. IfSome o (λ id. id ≤ max_id)) }
     ensures hints { IfOk result (λ o. IfSome o (λ _. All (λ h. h ≤ max_id) hints.new.items)) }
@@ -67,24 +68,10 @@ fn read_proof_line(
         return Err(refusal(at, Why::BadLine));
     }
     match read_goal(words, goal) {
-        Ok(_id) => Ok(None),
+        Ok(id) => {
+            *aim = id;
+            Ok(None)
+        }
         Err(why) => Err(refusal(at, why)),
     }
-}
-
-/// The id of the goal behind the steps that are next; any id where it isn't there.
-fn goal_ahead(mut lines: Lines<'_>, goal: Goal) -> u64
-    ensures goal { result ≡ goal_of goal (left_of lines.entry).lines }
-    ensures in_range { result ≤ max_id }
-{
-    while let Some(line) = lines.next() {
-        let (letter, words) = first_word(line);
-        if letter != b'd' {
-            return match read_goal(words, goal) {
-                Ok(id) => id,
-                Err(_why) => MAX_ID,
-            };
-        }
-    }
-    MAX_ID
 }

@@ -22,6 +22,7 @@ pub(crate) struct Words<'a> {
 }
 
 /// The bytes from a place on.
+#[inline(always)]
 pub(crate) fn behind(bytes: &[u8], at: usize) -> &[u8]
     requires { at ≤ length bytes.now }
     ensures { result.now ≡ drop at bytes.now }
@@ -29,18 +30,32 @@ pub(crate) fn behind(bytes: &[u8], at: usize) -> &[u8]
     &bytes[at..]
 }
 
-/// Where the word at the front ends.
+/// Where the word at the front ends. Most are single letters.
+#[inline(always)]
 fn word_end(bytes: &[u8]) -> usize
     ensures end { result ≡ prefix_len is_inner bytes.now }
     ensures within { result ≤ length bytes.now }
 {
+    if is_single(bytes) {
+        return 1;
+    }
     match memchr(b' ', bytes) {
         Some(end) => end,
         None => bytes.len(),
     }
 }
 
+/// Whether the word at the front is one byte, with a blank behind it.
+#[inline(always)]
+fn is_single(bytes: &[u8]) -> bool
+    ensures single { IsTrue result → prefix_len is_inner bytes.now ≡ 1 }
+    ensures long { IsTrue result → 1 < length bytes.now }
+{
+    bytes.len() > 1 && bytes[0] != b' ' && bytes[1] == b' '
+}
+
 /// A word at the front, and what stands behind it.
+#[inline(always)]
 fn word_and_rest(bytes: &[u8]) -> (&[u8], &[u8])
     ensures word { result.0.now ≡ take_while is_inner bytes.now }
     ensures rest { result.1.now ≡ drop (length (take_while is_inner bytes.now)) bytes.now }
@@ -50,6 +65,7 @@ fn word_and_rest(bytes: &[u8]) -> (&[u8], &[u8])
 }
 
 /// The letter that a line begins with, 0 where its first word is no single byte, and the words behind that word.
+#[inline(always)]
 pub(crate) fn first_word<'a>(line: &'a [u8]) -> (u8, Words<'a>)
     ensures letter { result.0 ≡ letter_of (words_of line.now) }
     ensures behind { words_left result.1 ≡ behind (words_of line.now) }
@@ -80,6 +96,7 @@ impl<'a> Words<'a> {
     }
 
     /// A number from `low` to `high`.
+    #[inline(always)]
     pub(crate) fn number(&mut self, low: u64, high: u64) -> Result<u64, Why>
         ensures read { Reads (λ n. n) result (words_left self.new) (number_at low high (words_left self.old)) }
         ensures in_range { IfOk result (λ n. n ≤ high) }
@@ -96,6 +113,7 @@ impl<'a> Words<'a> {
     }
 
     /// A number from 1 to `high` that is above `last`, or the 0 behind the numbers.
+    #[inline(always)]
     pub(crate) fn above(&mut self, last: u64, high: u64) -> Result<Option<u64>, Why>
         ensures ascending { ReadsAscending result last high (words_left self.old) (words_left self.new) }
         ensures item { last ≡ 0 → ReadsItem (λ n. n) result (number_in 1 high) (words_left self.old) (words_left self.new) }
@@ -112,6 +130,7 @@ impl<'a> Words<'a> {
     }
 
     /// A literal over the variables up to `vars`, or the 0 behind the literals.
+    #[inline(always)]
     pub(crate) fn literal(&mut self, vars: u32) -> Result<Option<Lit>, Why>
         requires { vars < 2 ^ 31 }
         ensures item { ReadsItem (λ l. l) result (literal_in vars) (words_left self.old) (words_left self.new) }
@@ -132,6 +151,7 @@ impl<'a> Words<'a> {
     }
 
     /// The end of the line.
+    #[inline(always)]
     pub(crate) fn end(&self) -> Result<(), Why>
         ensures { ReadsEnd result (words_left self.now) }
     {
@@ -144,6 +164,7 @@ impl<'a> Words<'a> {
 }
 
 /// Whether `-` stands behind the blank.
+#[inline(always)]
 fn is_minus(rest: &[u8]) -> bool
     ensures minus { result ≡ (slice_index rest.now 1 == 45) }
     ensures long { IsTrue result → 1 < length rest.now }
@@ -152,6 +173,7 @@ fn is_minus(rest: &[u8]) -> bool
 }
 
 /// The number, where it is in the range.
+#[inline(always)]
 fn narrowed(number: Option<u64>, low: u64, high: u64) -> Option<u64>
     ensures value { result ≡ within low high number }
     ensures in_range { IfSome result (λ n. n ≤ high) }
@@ -163,6 +185,7 @@ fn narrowed(number: Option<u64>, low: u64, high: u64) -> Option<u64>
 }
 
 /// The number, where it is above `last` and in the range; none at 0.
+#[inline(always)]
 fn item_above(number: Option<u64>, last: u64, high: u64) -> Result<Option<u64>, Why>
     ensures item { result ≡ item_of last high number }
     ensures above { IfOk result (λ o. IfSome o (λ n. last < n)) }
@@ -176,6 +199,7 @@ fn item_above(number: Option<u64>, last: u64, high: u64) -> Result<Option<u64>, 
 }
 
 /// The literal of the variable with this number; none at 0, which is not negated.
+#[inline(always)]
 fn literal_item(number: Option<u64>, negated: bool, vars: u32) -> Result<Option<Lit>, Why>
     requires { vars < 2 ^ 31 }
     ensures { result ≡ literal_item_of negated vars number }
