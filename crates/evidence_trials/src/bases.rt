@@ -6,11 +6,13 @@
 //! finish             it is whole; tells how many variables it has
 //! prefix 129         a copy has the first variables alone; tells how many it has
 //! flipped 3          a copy has the other value of a variable
+//! word 1             64 values as the bits of a word: those of variables 65 to 128
 //! told 65            whether a literal and its negation are true, and the same of the copy
 //! insert 5 2         numbers of a work list
 //! greatest           the greatest number, and with `take` it is taken out
 //! proof 6            a derivation for the clause of this id begins
 //! step 4 -2 0 1 2    its next step: an id, literals, 0 and hints
+//! aim 7              it is for the clause of this id
 //! steps              a copy of it
 //! groups 3 9         the set
 //! without 9          another set is the set without a group, or with `complement 11` the other groups, or with `copy` a copy

@@ -41,6 +41,7 @@ pub fn call_pieces(
         "false" => Ok(set_values(&mut pieces.builder, false, step)),
         "finish" => finish_values(pieces, alloc, out),
         "prefix" | "flipped" => copy_values(pieces, alloc, step, out),
+        "word" => show_number(word_of(pieces.assign.as_ref(), step), out),
         "told" => show_told(pieces.assign.as_ref(), pieces.copy.as_ref(), step, out),
         "insert" => insert(&mut pieces.work, step),
         "greatest" => show_number(pieces.work.greatest(), out),
@@ -50,6 +51,7 @@ pub fn call_pieces(
             Some(proof) => push_step(proof, alloc, step),
             None => Ok(false),
         },
+        "aim" => Ok(aim(&mut pieces.proof, step)),
         "steps" => match pieces.proof.take() {
             Some(proof) => show_copy(proof, alloc, out),
             None => Ok(false),
@@ -144,6 +146,19 @@ fn copy_of(
     Ok(Some(assign.flipped(alloc, number)?))
 }
 
+/// 64 of the assignment's values as a word, if it has a value at their front.
+fn word_of(assign: Option<&Assign>, step: &Step<'_>) -> Option<u64> {
+    let (Some(assign), Some(at)) = (assign, step.count(1)) else {
+        return None;
+    };
+    let at = at as usize;
+    if 64 * at < assign.len() {
+        Some(assign.word(at))
+    } else {
+        None
+    }
+}
+
 /// Tells what the assignment says of a literal, and what the copy says.
 fn show_told(
     assign: Option<&Assign>,
@@ -194,6 +209,15 @@ fn begin_proof(proof: &mut Option<DerivationBuilder>, alloc: Global, step: &Step
         return false;
     };
     *proof = Some(DerivationBuilder::new(alloc, goal));
+    true
+}
+
+/// Makes it for another goal, if there is one; whether it was.
+fn aim(proof: &mut Option<DerivationBuilder>, step: &Step<'_>) -> bool {
+    let (Some(proof), Some(goal)) = (proof, id_at(step, 1)) else {
+        return false;
+    };
+    proof.aim_at(goal);
     true
 }
 
