@@ -12,13 +12,13 @@ use Rattle.gcnf_text.specs.declared.form.Form.TheVariants.{Gcnf, Cnf}
 
 -- the limits: the greatest variable, the number of clauses, the greatest group, the literals of all clauses, and the bytes
 abbrev pub max_vars : ℕ
-max_vars = 65_536
+max_vars = 4_194_304
 
 abbrev pub max_clauses : ℕ
-max_clauses = 1_000_000
+max_clauses = 16_777_216
 
 abbrev pub max_groups : ℕ
-max_groups = 16_384
+max_groups = 1_048_576
 
 abbrev pub max_literals : ℕ
 max_literals = 8_000_000

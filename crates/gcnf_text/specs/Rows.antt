@@ -49,15 +49,15 @@ cut_or_too_long = (refl, refl)
 pub headers :
     (first_offence [] ≡ at 1 1 1)
     × (first_offence (codes "p dnf 1 1\n") ≡ at 2 1 3)
-    × (first_offence (codes "p gcnf 65537 0 0\n") ≡ Some (offence_at 9 (Some limit.Vars) 1 8))
+    × (first_offence (codes "p gcnf 4194305 0 0\n") ≡ Some (offence_at 9 (Some limit.Vars) 1 8))
 headers = (refl, refl, refl)
 
 -- CNF has two numbers in its header, of which the second has two limits
 pub plain_headers :
     (first_offence (codes "p cnf 1 1\n") ≡ at 7 2 1)
-    × (first_offence (codes "p cnf 65537 0\n") ≡ Some (offence_at 9 (Some limit.Vars) 1 7))
-    × (first_offence (codes "p cnf 1 1000001\n") ≡ Some (offence_at 9 (Some limit.Clauses) 1 9))
-    × (first_offence (codes "p cnf 1 16385\n") ≡ Some (offence_at 9 (Some limit.Groups) 1 9))
+    × (first_offence (codes "p cnf 4194305 0\n") ≡ Some (offence_at 9 (Some limit.Vars) 1 7))
+    × (first_offence (codes "p cnf 1 16777217\n") ≡ Some (offence_at 9 (Some limit.Clauses) 1 9))
+    × (first_offence (codes "p cnf 1 1048577\n") ≡ Some (offence_at 9 (Some limit.Groups) 1 9))
     × (first_offence (codes "p cnf 1 -1\n") ≡ at 2 1 9)
     × (first_offence (codes "p cnf 1") ≡ at 2 1 8)
     × (first_offence (codes "p cnf 0 0 0") ≡ at 8 1 11)

@@ -12,13 +12,13 @@ use crate::progress::Progress;
 use token_text::{Found, Tokens};
 
 /// The greatest variable that a header may have.
-const MAX_VARS: u32 = 65_536;
+const MAX_VARS: u32 = 4_194_304;
 
 /// The most clauses.
-const MAX_CLAUSES: u32 = 1_000_000;
+const MAX_CLAUSES: u32 = 16_777_216;
 
 /// The greatest group.
-const MAX_GROUPS: u32 = 16_384;
+const MAX_GROUPS: u32 = 1_048_576;
 
 /// Reads a header. Nothing behind it was read yet.
 pub(crate) fn read_header(tokens: &mut Tokens<'_>) -> Result<Progress, Offence>

@@ -1,6 +1,6 @@
 //! Laws over the definitions alone. Each is the contract of a function that has no code.
 ghost use Rattle.gcnf_text.specs.Laws.{FaultlessIsRead, ReadIsFaultless, ReadsOne, FirstOffenceStops};
-ghost use Rattle.gcnf_text.specs.Plain.{PlainIsRead};
+ghost use Rattle.gcnf_text.specs.Plain.{PlainIsRead, PlainIsShort};
 
 /// A text without an offence is one of a problem.
 pub fn faultless_is_read()
@@ -22,7 +22,12 @@ pub fn first_offence_stops()
     ensures { FirstOffenceStops }
 {}
 
-/// The plain text of a problem within the limits is one of that problem, and within the limit of bytes.
+/// The plain text of a problem is one of that problem, where both are within the limits.
 pub fn plain_text_is_read()
     ensures { PlainIsRead }
+{}
+
+/// How long the plain text of a problem within the limits can be.
+pub fn plain_text_is_short()
+    ensures { PlainIsShort }
 {}

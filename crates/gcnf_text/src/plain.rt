@@ -1,11 +1,11 @@
 //! The plain text of a problem.
 //!
-//! Of the many texts that are read as a problem one is plain: a line a clause, single blanks and no comments. A problem
-//! within the limits has a plain text within the limit of bytes, so what is written can always be read again.
-ghost use Rattle.std.specs.Prelude.{◌≡◌, ◌++◌, codes, OnOk, IfOk};
+//! Of the many texts that are read as a problem one is plain: a line a clause, single blanks and no comments. What is written
+//! of a problem within the limits can be read again, unless its clauses are so many that the text is too long.
+ghost use Rattle.std.specs.Prelude.{◌≡◌, ◌≤◌, ◌++◌, codes, length, OnOk, IfOk};
 ghost use Rattle.std.specs.List.{flat_map};
 ghost use Rattle.std.specs.Fmt.{decimal};
-ghost use Rattle.gcnf_text.specs.Grammar.{IsWithinLimits, Reads};
+ghost use Rattle.gcnf_text.specs.Grammar.{IsWithinLimits, Reads, max_bytes};
 ghost use Rattle.gcnf_text.specs.Plain.{clause_line, header_line, literals_text, plain_text};
 
 use gm_base::{Clause, Lit, Problem};
@@ -15,7 +15,7 @@ use token_text::put_number;
 /// The plain text of a problem, in one pass over its clauses.
 pub fn write_gcnf(alloc: Global, problem: &Problem) -> Result<Vec<u8>, AllocError>
     ensures text { IfOk result (λ text. text.items ≡ plain_text problem.now) }
-    ensures read_back { IfOk result (λ text. IsWithinLimits problem.now → Reads text.items problem.now) }
+    ensures read_back { IfOk result (λ text. IsWithinLimits problem.now → length text.items ≤ max_bytes → Reads text.items problem.now) }
 {
     let mut out = Vec::new(alloc);
     push_header(&mut out, problem)?;
