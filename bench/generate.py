@@ -21,6 +21,7 @@ colour          a graph and three colours; each edge is a group
 colour-vertex   a graph and three colours; that a vertex has a colour is a group
 types           statements of a program, which say of its names that they are numbers, texts or lists; each is a group
 net             packages that need others or don't go with others; each such need, clash or wish is a group
+index           the index of a distribution: needs of its packages, which of them don't go together, and wishes are groups
 plan            parcels that go from place to place; how a parcel comes to a place at a time is a group
 pigeon          pigeons and fewer holes; that a pigeon has a hole, and that a hole has room for one, are groups
 pigeon-holes    pigeons that fit into some holes each; that a hole has room for one is a group
@@ -31,7 +32,7 @@ import random
 import sys
 from itertools import combinations
 
-LIMITS = {"variables": 65_536, "clauses": 1_000_000, "groups": 16_384, "literals": 8_000_000}
+LIMITS = {"variables": 4_194_304, "clauses": 16_777_216, "groups": 1_048_576, "literals": 8_000_000}
 COLOURS = range(3)
 
 
@@ -567,6 +568,46 @@ def closure(place, below):
     return list(found)
 
 
+def index(size, choices):
+    """The packages of a distribution, some 13 of which have 60 groups, and 24 that are wished for.
+
+    A package needs some earlier ones, rather those that many others need. Some needs are met by either of three packages,
+    which don't go with each other. Each need, each pair that doesn't go together and each wish is a group. All goes together
+    but for up to four pairs, each of which two wishes need in the end. Nearly all groups are in no conflict.
+    """
+    problem = Problem()
+    clashes, wishes = (1, 2) if size < 1000 else (4, 24)
+    packages = [problem.variable()]
+    things, below = [[0]], [[]]   # the places that meet a need, and those that a package needs in any case
+    needed = [0]                  # a thing for each time that it was needed
+    while (left := size - wishes - clashes - problem.groups) > 0:
+        places = []
+        for _ in range(3 if left > 3 and choices.happens(0.05) else 1):
+            places.append(len(packages))
+            packages.append(problem.variable())
+            below.append([])
+            room = size - wishes - clashes - problem.groups - (3 if len(places) > 1 else 0)
+            for thing in list(dict.fromkeys(choices.one_of(choices.one_of([needed, range(len(things))]))
+                                            for _ in range(choices.one_of([1, 2, 3, 4, 6, 10]))))[:max(room, 0)]:
+                problem.group([-packages[-1], *[packages[place] for place in things[thing]]])
+                needed.append(thing)
+                if len(things[thing]) == 1:
+                    below[-1] += things[thing]
+        for one, other in combinations(places, 2):
+            problem.group([-packages[one], -packages[other]])
+        things.append(places)
+    late = range(len(packages) // 2, len(packages))
+    alone = {place for places in things if len(places) == 1 for place in places}
+    wished = choices.distinct([place for place in late if place in alone and below[place]] or late, wishes)
+    for place in wished:
+        problem.group([packages[place]])
+    for one, other in zip(wished[:2 * clashes:2], wished[1:2 * clashes:2]):
+        first = choices.one_of(closure(one, below)[1:] or [one])
+        second = choices.one_of([place for place in closure(other, below)[1:] if place != first] or [other])
+        problem.group([-packages[first], -packages[second]])
+    return problem
+
+
 class Square:
     """Places in a square, with roads between neighbours."""
 
@@ -660,8 +701,8 @@ def parity(size, choices):
 
 FAMILIES = {"chain": chain, "links": links, "random": random_cnf, "threshold": threshold, "clumps": clumps, "dense": dense,
             "feature": feature, "adder": adder, "multiplier": multiplier, "tripled": tripled, "miter": miter,
-            "colour": colour, "colour-vertex": colour_vertex, "types": types, "net": net, "plan": plan, "pigeon": pigeon,
-            "pigeon-holes": pigeon_holes, "parity": parity}
+            "colour": colour, "colour-vertex": colour_vertex, "types": types, "net": net, "index": index, "plan": plan,
+            "pigeon": pigeon, "pigeon-holes": pigeon_holes, "parity": parity}
 
 
 def main():

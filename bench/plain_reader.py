@@ -6,7 +6,7 @@ Both are from docs/FORMATS.md and the README alone.
 """
 import re
 
-MAX = {"vars": 65536, "clauses": 1000000, "groups": 16384, "literals": 8000000, "bytes": 134217728}
+MAX = {"vars": 4194304, "clauses": 16777216, "groups": 1048576, "literals": 8000000, "bytes": 134217728}
 NAMES = {1: "NoHeader", 2: "BadHeader", 3: "BadToken", 4: "VarTooBig", 5: "GroupTooBig", 6: "NoGroup", 7: "Truncated",
          8: "TooManyClauses", 9: "TooLarge"}
 

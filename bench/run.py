@@ -128,6 +128,10 @@ big    net            4000  1  -
 big    net            16000 2  -
 big    pigeon         18    1  -
 big    parity         50    1  -
+huge   index          60000 1  40
+huge   index          300000 1 40
+huge   index          1000000 1 40
+huge   net            1000000 1 20
 """.strip().splitlines()]
 
 
@@ -394,14 +398,14 @@ def main():
     words = argparse.ArgumentParser(description=__doc__, formatter_class=argparse.RawDescriptionHelpFormatter)
     words.add_argument("--gmus", metavar="PROGRAM", help="the program; without it the baselines run alone")
     words.add_argument("--time", type=float, default=20, metavar="SECONDS", help="for a program and a problem (20)")
-    words.add_argument("--only", metavar="WORD", help="problems of this kind (small, middle, big) or family; big ones "
-                       "run only where they are named")
+    words.add_argument("--only", metavar="WORD", help="problems of this kind (small, middle, big, huge) or family; big "
+                       "and huge ones run only where their kind is named")
     words.add_argument("--repeat", type=int, default=1, metavar="N", help="runs, of which the quickest counts (1)")
     words.add_argument("--cpu", action="store_true", help="count seconds of the processor, not of the clock")
     words.add_argument("--keep", metavar="FOLDER", help="where problems and reports are to stay")
     given = words.parse_args()
     problems = [problem for problem in PROBLEMS if given.only == problem.kind
-                or problem.kind != "big" and given.only in (None, problem.family)]
+                or problem.kind in ("small", "middle") and given.only in (None, problem.family)]
     if not problems or given.time <= 0 or given.repeat < 1:
         words.error("nothing to run")
     if given.gmus and not os.access(given.gmus, os.X_OK):

@@ -3,11 +3,12 @@
 
     bench/sizes.py --gmus PROGRAM [--only WORD] [--evidence-limit]
 
-Each limit is reached exactly and passed by one; then a header that promises what does not come, a report of 16,384 groups, a
-reader that leaves, a folder, a file that may not be read, and a name that is not UTF-8. Each row has its status, the end of
-what is told, the seconds, and the peak of the resident memory; some 15 MB of that are this program's own. --evidence-limit adds texts of evidence of 2,147,483,648 bytes
-and one more, for which some gigabytes of memory and of the disk are needed. Ends with 1 where a row ends otherwise. Needs
-Python 3.9 and Linux; run as root, it drops to nobody for the file that may not be read.
+Each limit is reached exactly and passed by one, in both forms of a file; then a header that promises what does not come, a
+report of 16,384 groups, a reader that leaves, a folder, a file that may not be read, and a name that is not UTF-8. Each row
+has its status, the end of what is told, the seconds, and the peak of the resident memory; some 15 MB of that are this
+program's own. --evidence-limit adds texts of evidence of 2,147,483,648 bytes and one more, for which some gigabytes of memory
+and of the disk are needed. Ends with 1 where a row ends otherwise. Needs Python 3.9 and Linux; run as root, it drops to
+nobody for the file that may not be read.
 """
 import argparse
 import os
@@ -45,25 +46,25 @@ def put(folder, name, *parts):
     return path
 
 
-def padded(folder, name, length):
+def padded(folder, name, length, head=b"p gcnf 0 0 0\nc"):
     """A file of so many bytes: the rest of it is one comment."""
-    head = b"p gcnf 0 0 0\nc"
     rest = length - len(head)
     return put(folder, name, head, (b"x" * 1024, rest // 1024), b"x" * (rest % 1024))
 
 
 def clauses(folder, name, count):
-    return put(folder, name, b"p gcnf 1 %d 0\n" % count, (b"{0} 1 0\n", count))
+    """A million clauses with a literal. The others are empty and of group 1, since otherwise there would be too many bytes."""
+    return put(folder, name, b"p gcnf 1 %d 1\n" % count, (b"{0} 1 0\n", 1000000), (b"{1} 0\n", count - 1000000))
 
 
-def literals(folder, name, count, header=b"p gcnf 65536 1000 0\n", group=b"{0} "):
+def literals(folder, name, count, header=b"p gcnf 4194304 1000 0\n", group=b"{0} "):
     """So many literals in a thousand clauses, of which the last may be longer."""
     each = count // 1000
     return put(folder, name, header, (group + b"1 " * each + b"0\n", 999), group + b"1 " * (count - 999 * each) + b"0\n")
 
 
 def cnf_literals(folder, name, count):
-    return literals(folder, name, count, b"p cnf 65536 1000\n", b"")
+    return literals(folder, name, count, b"p cnf 4194304 1000\n", b"")
 
 
 def alone(folder, name, groups):
@@ -74,6 +75,10 @@ def alone(folder, name, groups):
 def alone_report(groups):
     sets = "".join(f"u {g} 0\n" for g in range(1, groups + 1)) + "m " + "".join(f"{g} " for g in range(1, groups + 1)) + "0\n"
     return f"p gmus {groups}\ns COMPLETE\n{sets}e {groups} 1\n".encode()
+
+
+def one_report():
+    return b"p gmus 1\ns COMPLETE\nu 1 0\nm 1 0\ne 1 1\n"
 
 
 def empty_report(groups):
@@ -88,22 +93,26 @@ def as_nobody():
 
 def limit_rows(folder):
     """What is tried, the words behind `list`, the status, the output, and the error."""
-    yield "65,536 variables", put(folder, "v", b"p gcnf 65536 0 0"), 0, empty_report(0), ""
-    yield "65,537 variables", put(folder, "v", b"p gcnf 65537 0 0"), 5, b"", REFUSED + "9 TooLarge vars at line 1 byte 8\n"
-    yield "16,384 groups", put(folder, "g", b"p gcnf 65536 0 16384"), 0, empty_report(16384), ""
-    yield "16,385 groups", put(folder, "g", b"p gcnf 0 0 16385"), 5, b"", REFUSED + "9 TooLarge groups at line 1 byte 12\n"
-    yield "1,000,000 clauses", clauses(folder, "c", 1000000), 0, empty_report(0), ""
-    yield "1,000,001 clauses", clauses(folder, "c", 1000001), 5, b"", REFUSED + "9 TooLarge clauses at line 1 byte 10\n"
+    yield "4,194,304 variables", put(folder, "v", b"p gcnf 4194304 0 0"), 0, empty_report(0), ""
+    yield "4,194,305 variables", put(folder, "v", b"p gcnf 4194305 0 0"), 5, b"", REFUSED + "9 TooLarge vars at line 1 byte 8\n"
+    yield "4,194,304 variables in CNF", put(folder, "v", b"p cnf 4194304 0"), 0, empty_report(0), ""
+    yield "4,194,305 variables in CNF", put(folder, "v", b"p cnf 4194305 0"), 5, b"", REFUSED + "9 TooLarge vars at line 1 byte 7\n"
+    yield "1,048,576 groups", put(folder, "g", b"p gcnf 4194304 0 1048576"), 0, empty_report(1048576), ""
+    yield "1,048,577 groups", put(folder, "g", b"p gcnf 0 0 1048577"), 5, b"", REFUSED + "9 TooLarge groups at line 1 byte 12\n"
+    yield "1,048,576 clauses in CNF", put(folder, "d", b"p cnf 4194304 1048576\n", (b"1 0\n", 1048576)), 0, empty_report(1048576), ""
+    yield "1,048,577 clauses in CNF", put(folder, "d", b"p cnf 1 1048577"), 5, b"", REFUSED + "9 TooLarge groups at line 1 byte 9\n"
+    yield "16,777,217 clauses in CNF", put(folder, "d", b"p cnf 1 16777217"), 5, b"", REFUSED + "9 TooLarge clauses at line 1 byte 9\n"
+    yield "16,777,216 clauses", clauses(folder, "c", 16777216), 0, one_report(), ""
+    yield "16,777,217 clauses", clauses(folder, "c", 16777217), 5, b"", REFUSED + "9 TooLarge clauses at line 1 byte 10\n"
     yield "8,000,000 literals", literals(folder, "l", 8000000), 0, empty_report(0), ""
     yield "8,000,001 literals", literals(folder, "l", 8000001), 5, b"", REFUSED + "9 TooLarge literals at line 1001 byte 16005\n"
-    yield "16,384 clauses in CNF", put(folder, "d", b"p cnf 65536 16384\n", (b"1 0\n", 16384)), 0, empty_report(16384), ""
-    yield "16,385 clauses in CNF", put(folder, "d", b"p cnf 1 16385"), 5, b"", REFUSED + "9 TooLarge groups at line 1 byte 9\n"
-    yield "1,000,001 clauses in CNF", put(folder, "d", b"p cnf 1 1000001"), 5, b"", REFUSED + "9 TooLarge clauses at line 1 byte 9\n"
     yield "8,000,000 literals in CNF", cnf_literals(folder, "l", 8000000), 0, empty_report(1000), ""
     yield "8,000,001 literals in CNF", cnf_literals(folder, "l", 8000001), 5, b"", REFUSED + "9 TooLarge literals at line 1001 byte 16001\n"
     yield "134,217,728 bytes", padded(folder, "b", 134217728), 0, empty_report(0), ""
     yield "134,217,729 bytes", padded(folder, "b", 134217729), 5, b"", REFUSED + "9 TooLarge bytes at line 0 byte 0\n"
-    yield "a million clauses promised", put(folder, "p", b"p gcnf 65536 1000000 16384"), 5, b"", REFUSED + "7 Truncated at line 1 byte 27\n"
+    yield "134,217,728 bytes in CNF", padded(folder, "b", 134217728, b"p cnf 0 0\nc"), 0, empty_report(0), ""
+    yield "134,217,729 bytes in CNF", padded(folder, "b", 134217729, b"p cnf 0 0\nc"), 5, b"", REFUSED + "9 TooLarge bytes at line 0 byte 0\n"
+    yield "all clauses promised", put(folder, "p", b"p gcnf 4194304 16777216 1048576"), 5, b"", REFUSED + "7 Truncated at line 1 byte 32\n"
     yield "a report of 16,384 groups", alone(folder, "r", 16384), 0, alone_report(16384), ""
     yield "no file", os.path.join(folder, "none"), 6, b"", "gmus: read fault on input\n"
     yield "a folder", folder, 6, b"", "gmus: read fault on input\n"

@@ -1,10 +1,10 @@
 // Unit propagation by lists that are linked through the clauses, without a check: what propagate is measured by.
 //
-// A clause's record holds its bounds, its two watched literals, the next clause in the list of each and, of a clause of
-// three literals, all three as one number, in 32 bytes. A
-// watch that moves is appended to its new list. What stays is not written, or, with -DRELINK, each list is taken off and
-// put back clause by clause; the order of all lists is the same in both. With -DMALLOC the records lie as malloc has them,
-// where every second one is in two lines of the cache. -DCOUNT counts visits.
+// A clause's record holds where its literals begin, how many they are and two flags, its two watched literals, the next
+// clause in the list of each and, of a clause of three literals, all three as one number, in 32 bytes. A watch that moves is
+// appended to its new list. What stays is not written, or, with -DRELINK, each list is taken off and put back clause by
+// clause; the order of all lists is the same in both. With -DMALLOC the records lie as malloc has them, where every second
+// one is in two lines of the cache. -DCOUNT counts visits.
 #include "formula.h"
 #include <stdio.h>
 #include <stdlib.h>
@@ -15,8 +15,8 @@ typedef uint32_t Lit;   // 2 * v for v, and 2 * v + 1 for -v
 typedef struct {
     Lit watched[2];
     uint32_t next[2];
-    uint32_t start, end;
-    uint32_t third, flags;
+    uint64_t start;
+    uint32_t third, shape;   // the shape is four times the number of literals, and the flags
 } Clause;
 
 _Static_assert(sizeof(Clause) == 32, "a record is half a line of the cache");
@@ -65,11 +65,11 @@ static inline void append(uint32_t id, int place, Lit lit) {
 
 // A literal of the clause that is neither false nor this other one, or 0. Of a clause of three it is the third one.
 static inline Lit replacement(const Clause *clause, Lit falsified, Lit other) {
-    if (clause->end - clause->start == 3) {
+    if (clause->shape / 4 == 3) {
         Lit third = clause->third ^ falsified ^ other;
         return values[third] >= 0 ? third : 0;
     }
-    for (uint32_t at = clause->start; at < clause->end; at++)
+    for (uint64_t at = clause->start, end = at + clause->shape / 4; at < end; at++)
         if (values[lits[at]] >= 0 && lits[at] != other)
             return lits[at];
     return 0;
@@ -173,7 +173,7 @@ static void read_formula(void) {
         lits[at] = read[at];
     for (uint32_t id = 1, begin = 0; id <= count; begin = ends[id++ - 1]) {
         clauses[id].start = begin;
-        clauses[id].end = ends[id - 1];
+        clauses[id].shape = 4 * (ends[id - 1] - begin);
         clauses[id].watched[0] = lits[begin];
         if (ends[id - 1] - begin == 3)
             clauses[id].third = lits[begin] ^ lits[begin + 1] ^ lits[begin + 2];

@@ -202,9 +202,9 @@ static Problem read_problem(const char* name) {
     reader.expect("p");
     reader.expect("gcnf");
     Problem problem;
-    problem.variables = reader.number(0, 65536);
-    int clauses = reader.number(0, 1000000);
-    problem.groups = reader.number(0, 16384);
+    problem.variables = reader.number(0, 4194304);
+    int clauses = reader.number(0, 16777216);
+    problem.groups = reader.number(0, 1048576);
     for (int i = 0; i < clauses; i++) {
         Clause clause;
         reader.expect("{");
