@@ -30,6 +30,7 @@ mod model_maker;
 mod neighbours;
 mod numbers;
 mod oracle;
+mod patience;
 mod refuted;
 mod satisfied;
 mod tested;

@@ -8,7 +8,7 @@
 //!
 //! On a large problem the assignment that was remembered last is repaired for a seed that nothing known answers: some flips
 //! often make it satisfy the seed, at the cost of the clauses that have their variables. Which groups it leaves out then is
-//! known as surely as before.
+//! known as surely as before. On some problems hardly any repair succeeds; there most seeds go by untried.
 //!
 //! How much flips, turns and repairs may look at is bounded by how many questions the oracle within was asked.
 ghost use Rattle.std.specs.Prelude.{◌≡◌, All, None, IfOk, IfSome};
@@ -19,6 +19,7 @@ ghost use Rattle.known_sets.specs.Making.{MakesModelsOf};
 
 use crate::arena::set_of;
 use crate::last_set::{mark_all, no_marks};
+use crate::patience::Patience;
 use crate::refuted::RefutedSets;
 use crate::satisfied::SatisfiedSets;
 use crate::turning::turn_all;
@@ -47,6 +48,8 @@ pub struct ModelMaker {
     // What was looked at for turns and for repairs, in clauses and in words of assignments.
     turns: u64,
     repairs: u64,
+    // Which repairs are tried.
+    patience: Patience,
     // How many questions the oracle within has answered.
     answers: u64,
     // No group is marked between repairs.
@@ -66,6 +69,7 @@ impl ModelMaker {
             rotation: None,
             turns: 0,
             repairs: 0,
+            patience: Patience::new(),
             answers: 0,
             marks,
         })
@@ -94,7 +98,7 @@ impl ModelMaker {
     }
 
     /// Flips variables of the assignment that was remembered last, so that it satisfies the set. It isn't tried on small
-    /// problems, nor where repairs have cost more so far than the questions have.
+    /// problems, nor where repairs have cost more so far than the questions have, and seldom where many in a row failed.
     pub fn repaired(
         &mut self,
         alloc: Global,
@@ -106,6 +110,9 @@ impl ModelMaker {
     {
         let most = self.most_looks();
         if self.literals < LARGE || self.repairs > most {
+            return Ok(None);
+        }
+        if !self.patience.is_due() {
             return Ok(None);
         }
         let rotation = taken(alloc, &mut self.rotation, &self.problem)?;
@@ -121,6 +128,7 @@ impl ModelMaker {
         );
         mark_all(&mut self.marks, set.as_slice(), false);
         self.rotation = Some(rotation);
+        self.patience.hear(matches!(&found, Ok(Some(_))));
         found
     }
 
