@@ -1,0 +1,6 @@
+pub mod BaredLemmas
+pub mod NumberLemmas
+pub mod HintLemmas
+pub mod StepLemmas
+pub mod CnfLemmas
+pub mod RefutationLemmas

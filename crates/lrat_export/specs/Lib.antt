@@ -1,0 +1,3 @@
+pub mod Cnf
+pub mod Export
+pub mod Laws

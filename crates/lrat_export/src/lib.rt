@@ -1,0 +1,4 @@
+//! Export of a conflict.
+#![tactic(auto)]
+
+pub mod laws;
