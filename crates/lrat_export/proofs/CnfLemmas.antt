@@ -1,12 +1,12 @@
 -- What is left of a problem's clauses with their selectors: those of the CNF, without the selectors.
-use Rattle.std.proofs.Common.{◌≡◌, ℕ, zero, suc, ◌+◌, ◌-◌, ◌<◌, ◌≤◌, Bool, true, false, not, ◌&&◌, ◌||◌, cond, List, [], ◌∷◌, ◌++◌, map, length, Option, Some, None, refl, sym, ◌∙◌, ap, subst, inl, inr, eqb, ltb, arith, append-nil}
-use Rattle.std.specs.Prelude.{ℤ, pos, negsuc, neg_ℤ}
-use Rattle.std.specs.List.{list_any, filter, AllByRecursion}
-use Rattle.std.proofs.lemmas.Bool.{false≢true, true≢false, cases_Bool, cond-true, cond-false, eqb-false, ltb-true, lt-ltb}
+use Rattle.std.proofs.Common.{◌≡◌, ℕ, zero, suc, ◌+◌, ◌-◌, ◌<◌, Bool, true, false, not, ◌&&◌, ◌||◌, cond, List, [], ◌∷◌, ◌++◌, map, length, Some, None, refl, sym, ◌∙◌, ap, inl, inr, eqb, ltb, arith, append-nil}
+use Rattle.std.specs.Prelude.{ℤ, pos, neg_ℤ}
+use Rattle.std.specs.List.{filter, AllByRecursion}
+use Rattle.std.proofs.lemmas.Bool.{cases_Bool, cond-true, cond-false, eqb-false, ltb-true, lt-ltb}
 use Rattle.std.proofs.lemmas.List.Folds.{list_any-append}
 use Rattle.std.proofs.lemmas.List.Elements.{filter-append}
 use Rattle.gm_base.specs.declared.clause.Clause.{Clause}
-use Rattle.gm_base.specs.Sets.{IsGroupSet, has}
+use Rattle.gm_base.specs.Sets.{has}
 use Rattle.gm_base.specs.Problem.{Problem, IsProblem, IsClause, is_present}
 use Rattle.gm_base.specs.Evidence.{left_out, with_selector, selector_form}
 use Rattle.sat_base.specs.Literals.{var_of, IsLiteral, AreLiterals}

@@ -1,5 +1,5 @@
 -- Where a clause follows along hints, what is left of it follows along what is left of them.
-use Rattle.std.proofs.Common.{◌≡◌, ◌⊎◌, ℕ, Bool, true, false, not, ◌||◌, cond, List, [], ◌∷◌, Option, Some, None, refl, sym, ◌∙◌, ap, subst, inl, inr}
+use Rattle.std.proofs.Common.{◌≡◌, ℕ, Bool, true, false, ◌||◌, cond, List, [], ◌∷◌, Option, Some, None, refl, sym, ◌∙◌, ap, inl, inr}
 use Rattle.std.specs.Prelude.{ℤ, neg_ℤ}
 use Rattle.std.specs.Ordering.{int_eq}
 use Rattle.std.specs.Option.{option_map_or}
@@ -8,7 +8,7 @@ use Rattle.sat_base.specs.Derivation.{clause_of, contains_lit, open_lits, only_l
 use Rattle.sat_base.specs.Members.{In}
 use Rattle.sat_base.proofs.Members.{any_from}
 use Rattle.lrat_export.specs.Export.{Numbered, is_selector, is_true, is_settled, bared, stays, hints_of}
-use Rattle.lrat_export.proofs.BaredLemmas.{In-contains, none_open, all_false, IsOnly, only-parts, only-made, int_eq-from, true-is_selector, selector-negated, negated-not_true, not_selector-not_true, unsettled-at, bared-In, In-bared}
+use Rattle.lrat_export.proofs.BaredLemmas.{In-contains, none_open, all_false, IsOnly, only-parts, only-made, int_eq-from, true-is_selector, selector-negated, negated-not_true, not_selector-not_true, bared-In, In-bared}
 use Rattle.lrat_export.proofs.NumberLemmas.{Becomes}
 
 -- the false literals here and there: none of a selector that is true, and of the others the same

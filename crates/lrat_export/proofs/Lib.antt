@@ -4,3 +4,4 @@ pub mod HintLemmas
 pub mod StepLemmas
 pub mod CnfLemmas
 pub mod RefutationLemmas
+pub mod WritingLemmas

@@ -1,10 +1,10 @@
 -- Clauses that stay, and their numbers.
-use Rattle.std.proofs.Common.{◌≡◌, ◌⊎◌, ℕ, zero, suc, ◌+◌, ◌<◌, ◌≤◌, Bool, true, false, cond, List, [], ◌∷◌, ◌++◌, map, length, Option, Some, None, refl, sym, ◌∙◌, ap, subst, inl, inr, eqb, arith, append-nil}
+use Rattle.std.proofs.Common.{◌≡◌, ℕ, suc, ◌+◌, ◌<◌, ◌≤◌, Bool, true, false, cond, List, [], ◌∷◌, ◌++◌, length, Option, Some, None, refl, sym, ◌∙◌, ap, subst, eqb, arith, append-nil}
 use Rattle.std.specs.Prelude.{ℤ}
 use Rattle.std.specs.List.{find}
 use Rattle.std.specs.Option.{option_map, option_map_or}
 use Rattle.std.proofs.lemmas.Bool.{eq-eqb, ne_eqb}
-use Rattle.sat_base.specs.Derivation.{numbered, clause_of}
+use Rattle.sat_base.specs.Derivation.{clause_of}
 use Rattle.lrat_export.specs.Export.{Numbered, is_settled, bared, renumbered, stays}
 
 -- the clauses that stay, under their numbers

@@ -1,19 +1,19 @@
 -- The export of a proof that refutes a set is a refutation of its clauses.
-use Rattle.std.proofs.Common.{◌≡◌, ℕ, suc, ◌+◌, ◌<◌, ◌≤◌, Bool, true, false, not, ◌&&◌, cond, List, [], ◌∷◌, ◌++◌, map, length, Option, Some, None, refl, sym, ◌∙◌, ap, subst, inl, inr, eqb, ltb, leb, arith}
+use Rattle.std.proofs.Common.{◌≡◌, ℕ, ◌+◌, ◌<◌, ◌≤◌, Bool, true, false, not, ◌&&◌, cond, List, [], ◌∷◌, ◌++◌, length, Option, Some, None, refl, sym, ◌∙◌, ap, subst, inl, inr, eqb, ltb, leb, arith}
 use Rattle.std.specs.Prelude.{ℤ}
 use Rattle.std.specs.Ordering.{int_eq}
-use Rattle.std.specs.List.{list_all, list_any, filter, find, AllByRecursion}
+use Rattle.std.specs.List.{list_all, list_any, find}
 use Rattle.std.specs.Option.{option_map, option_map_or}
 use Rattle.std.proofs.lemmas.Bool.{false≢true, true≢false, cases_Bool, and_parts, and_from, ltb-true, lt-ltb, leb-true, leb-false, eqb-true, eq-eqb}
 use Rattle.std.proofs.lemmas.List.{length-map}
 use Rattle.gm_base.specs.Sets.{AscendsAbove, IsGroupSet, has}
-use Rattle.gm_base.specs.Problem.{Problem, IsProblem}
-use Rattle.gm_base.specs.Evidence.{left_out, with_selector, selector_form, refutes}
-use Rattle.sat_base.specs.Derivation.{Step, Derivation, numbered, clause_of, contains_lit, open_lits, is_nil, follows, is_step_clause, steps_follow, is_derivation, all_known}
+use Rattle.gm_base.specs.Problem.{Problem}
+use Rattle.gm_base.specs.Evidence.{left_out, with_selector, selector_form}
+use Rattle.sat_base.specs.Derivation.{Step, numbered, clause_of, open_lits, is_nil, follows, is_step_clause, steps_follow, is_derivation, all_known}
 use Rattle.sat_base.specs.Members.{In}
 use Rattle.sat_base.proofs.Members.{all_at, any_at, any_from}
 use Rattle.lrat_export.specs.Cnf.{clauses_of}
-use Rattle.lrat_export.specs.Export.{Numbered, is_selector, is_true, is_settled, bared, renumbered, stays, steps_of, up_to, known_of, first_number, empty_step, exported}
+use Rattle.lrat_export.specs.Export.{Numbered, is_selector, is_true, is_settled, bared, renumbered, stays, steps_of, up_to, known_of, first_number, empty_step}
 use Rattle.lrat_export.specs.Laws.{IsRefutation, ExportedRefutes}
 use Rattle.lrat_export.proofs.BaredLemmas.{int_eq-from, In-bared}
 use Rattle.lrat_export.proofs.NumberLemmas.{Becomes, becomes, stays-longer, kept, next_number}
@@ -69,8 +69,7 @@ goal-literal : (p : Problem) (set : List ℕ) (c : List ℤ) (l : ℤ) → IsGro
 goal-literal p set c l ascends within i =
     let (g, j, e) = any_from (λ g. int_eq (left_out p g) l) set (all_at (λ l. list_any (λ g. int_eq (left_out p g) l) set) c l within i) in
     let some : 0 < g = above 0 set g ascends j in
-    let same : left_out p g ≡ l = int_eq-from (left_out p g) l e in
-    (
+    let same : left_out p g ≡ l = int_eq-from (left_out p g) l e in (
       sym (ap (is_selector p.vars) same) ∙ left_out-selector p g some,
       sym (ap (is_true p.vars set) same) ∙ left_out-true p set g some ∙ ap not (there set g j),
     )

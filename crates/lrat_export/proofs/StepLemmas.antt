@@ -1,15 +1,15 @@
 -- What is left of steps that follow follows, and the last step is the empty clause.
-use Rattle.std.proofs.Common.{◌≡◌, ℕ, suc, ◌+◌, ◌<◌, ◌≤◌, Bool, true, false, not, ◌&&◌, cond, List, [], ◌∷◌, ◌++◌, map, length, Option, Some, None, refl, sym, ◌∙◌, ap, subst, inl, inr, eqb, ltb, leb, arith, append_assoc, length-append}
+use Rattle.std.proofs.Common.{◌≡◌, ℕ, ◌+◌, ◌<◌, ◌≤◌, Bool, true, false, not, ◌&&◌, cond, List, [], ◌∷◌, ◌++◌, map, length, Option, Some, refl, sym, ◌∙◌, ap, subst, eqb, ltb, leb, arith, append_assoc, length-append}
 use Rattle.std.specs.Prelude.{ℤ, neg_ℤ}
-use Rattle.std.specs.List.{list_all, find}
-use Rattle.std.specs.Option.{option_map, option_map_or}
-use Rattle.std.proofs.lemmas.Bool.{false≢true, true≢false, cases_Bool, and_parts, and_from, ltb-false, lt-ltb, le-leb}
+use Rattle.std.specs.List.{find}
+use Rattle.std.specs.Option.{option_map}
+use Rattle.std.proofs.lemmas.Bool.{true≢false, and_parts, and_from, ltb-false, lt-ltb, le-leb}
 use Rattle.sat_base.specs.Literals.{var_of}
 use Rattle.sat_base.specs.Derivation.{Step, clause_of, contains_lit, follows, is_step_clause, steps_follow}
 use Rattle.sat_base.specs.Members.{In}
 use Rattle.sat_base.proofs.Members.{all_at, all_from}
-use Rattle.lrat_export.specs.Export.{Numbered, is_selector, is_settled, bared, renumbered, stays, hints_of, steps_of, up_to}
-use Rattle.lrat_export.proofs.BaredLemmas.{In-bared, bared-contains, unsettled-at, selector-negated, In-contains, contains-In}
+use Rattle.lrat_export.specs.Export.{Numbered, is_settled, bared, renumbered, stays, hints_of, steps_of, up_to}
+use Rattle.lrat_export.proofs.BaredLemmas.{In-bared, bared-contains, unsettled-at, selector-negated}
 use Rattle.lrat_export.proofs.NumberLemmas.{Becomes, becomes, stays-longer, kept, kept-settled, kept-stays, next_number}
 use Rattle.lrat_export.proofs.HintLemmas.{AreAlike, AllBecome, hints-follow}
 

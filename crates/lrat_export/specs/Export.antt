@@ -2,7 +2,7 @@
 -- and all others false. What is true then goes, and what is left speaks of no selector.
 --
 -- The clauses of the CNF have the numbers from 1, and the steps that stay those behind them, without gaps.
-use Rattle.std.specs.Prelude.{ℕ, suc, ◌+◌, ◌-◌, Bool, true, false, not, ◌==◌, ◌&&◌, List, [], ◌∷◌, ◌++◌, map, length, ℤ, pos, negsuc, neg_ℤ, nat_lt, nat_le, Option, Some, None, if◌then◌else◌, codes}
+use Rattle.std.specs.Prelude.{ℕ, suc, ◌+◌, ◌-◌, Bool, not, ◌==◌, ◌&&◌, List, [], ◌∷◌, ◌++◌, length, ℤ, pos, negsuc, neg_ℤ, nat_lt, nat_le, Option, Some, None, if◌then◌else◌, codes}
 use Rattle.std.specs.List.{list_any, filter, find, flat_map}
 use Rattle.std.specs.Option.{option_map_or}
 use Rattle.std.specs.Fmt.{decimal}

@@ -1,3 +1,4 @@
 pub mod Cnf
 pub mod Export
 pub mod Laws
+pub mod Rows
