@@ -15,7 +15,7 @@ use Rattle.propagate.proofs.GrowsLemmas.{top_grows}
 use Rattle.propagate.proofs.LevelLemmas.{keep_lower}
 use Rattle.lrat_steps.specs.Log.{LogStep, Input, inputs_of}
 use Rattle.lrat_steps.proofs.LogLemmas.{db_of-push, honest-input, inputs-push_input}
-use Rattle.cdcl_core.specs.State.{IsSoundEntry, IsSound, IsState, ArePositive, AreTouched}
+use Rattle.cdcl_core.specs.State.{IsSoundEntry, IsSound, IsState, ArePositive, IsTrueBy, AreTouched}
 use Rattle.cdcl_core.specs.declared.search.Search.{Search}
 use Rattle.cdcl_core.specs.Search.{IsSearch, IsAtRoot}
 use Rattle.cdcl_core.proofs.SearchLemmas.{AtDecision, AtDecisions, NewIsLoose, more-append, sound_more, sound_grows, sound_keep, sound_recount, at_weaken}
@@ -86,12 +86,12 @@ module _ (vars : ℕ) (db : List StoredClause) (log : List LogStep) (es new : Li
       positive_grows (db ++ record { lits = lits; live = true } ∷ []) left (keep (top new) es) new grows
       (positive_recount count left (keep (top new) es) (λ n low above. omega (arith, left_is, low_top, low, above)) (positive_keep count (top new) es p))
 
--- what is touched stays so, and the clause's variables are touched besides
-pub added_touched : (old new : List Bool) (log more : List LogStep) (lits : List ℤ) → more ≡ log ++ Input lits ∷ [] → AreTouched old (inputs_of log)
-    → ((l : ℤ) → IsTouched old l → IsTouched new l) → ((l : ℤ) → In l lits → IsTouched new l) → AreTouched new (inputs_of more)
-added_touched old new log more lits is are stay here c i l j =
+-- what is touched stays so, and what the clause has against the default is touched besides
+pub added_touched : (default : Bool) (old new : List Bool) (log more : List LogStep) (lits : List ℤ) → more ≡ log ++ Input lits ∷ [] → AreTouched default old (inputs_of log)
+    → ((l : ℤ) → IsTouched old l → IsTouched new l) → ((l : ℤ) → In l lits → IsTouched new l ⊎ IsTrueBy default l) → AreTouched default new (inputs_of more)
+added_touched default old new log more lits is are stay here c i l j =
     elim (In-append_cases c (inputs_of log) (lits ∷ []) (subst (In c) (ap inputs_of is ∙ inputs-push_input log lits) i)) [
-      | inl before ↦ stay l (are c before l j)
+      | inl before ↦ elim (are c before l j) [ inl t ↦ inl (stay l t) | inr free ↦ inr free ]
       | inr (inl same) ↦ here l (subst (In l) same j)
       | inr (inr none) ↦ absurd none
     ]

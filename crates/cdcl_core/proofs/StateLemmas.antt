@@ -1,5 +1,5 @@
 -- One step of a search.
-use Rattle.std.proofs.Common.{◌≡◌, ◌⊎◌, ℕ, zero, suc, ◌+◌, ◌-◌, ◌<◌, ◌≤◌, min, Bool, true, false, eqb, List, [], ◌∷◌, ◌++◌, map, length, get_or, take, Option, Some, None, refl, sym, ◌∙◌, ap, subst, inl, inr, arith, length-append}
+use Rattle.std.proofs.Common.{◌≡◌, ◌⊎◌, ℕ, zero, suc, ◌+◌, ◌-◌, ◌<◌, ◌≤◌, min, Bool, true, false, not, eqb, List, [], ◌∷◌, ◌++◌, map, length, get_or, take, Option, Some, None, refl, sym, ◌∙◌, ap, subst, inl, inr, arith, length-append}
 use Rattle.std.specs.Prelude.{ℤ, pos, negsuc, neg_ℤ, slice_get}
 use Rattle.std.specs.List.{find}
 use Rattle.std.specs.Option.{option_map}
@@ -13,7 +13,7 @@ use Rattle.sat_base.specs.Units.{IsUnset, HasValue, AllTrue, AllFalse, IsLoose, 
 use Rattle.sat_base.proofs.Members.{In-append_right, In-append_cases, any_at}
 use Rattle.trail_book.specs.declared.entry.Entry.{Entry}
 use Rattle.trail_book.specs.Trail.{trues, level_after, top, keep, IsTrail, IsTouched}
-use Rattle.trail_book.proofs.TrailLemmas.{keep-whole, keep-skip, top-keep_exact, lit-keep_more, IsTrail-keep, trail_consistent, level_after-at_least}
+use Rattle.trail_book.proofs.TrailLemmas.{same_var, keep-whole, keep-skip, top-keep_exact, lit-keep_more, IsTrail-keep, trail_consistent, level_after-at_least}
 use Rattle.lrat_steps.specs.Log.{LogStep, Learned, Core, steps_of, db_of, inputs_of}
 use Rattle.lrat_steps.specs.Honest.{HasVar, IsHonest}
 use Rattle.lrat_steps.specs.Undecided.{Undecided}
@@ -21,7 +21,7 @@ use Rattle.lrat_steps.proofs.LogLemmas.{db_len, steps-append, db_of-push, inputs
 use Rattle.propagate.specs.Propagation.{Grows}
 use Rattle.learn_step.specs.Reasons.{before_last, IsConflict, IsDecision}
 use Rattle.learn_step.specs.Learnt.{IsUsed, IsLearnt, IsCore}
-use Rattle.cdcl_core.specs.State.{IsSoundEntry, IsSound, IsRecorded, IsState, AreTouched}
+use Rattle.cdcl_core.specs.State.{IsSoundEntry, IsSound, IsRecorded, IsState, IsTrueBy, AreTouched}
 use Rattle.lrat_steps.proofs.PaidLemmas.{IsPaid-none, IsPaid-then}
 use Rattle.cdcl_core.specs.Answers.{IsConsistent, IsModel, IsRefuted, IsHonestlyPaid}
 use Rattle.cdcl_core.specs.Search.{IsCoreAdded}
@@ -343,26 +343,64 @@ dry_of vars db log es assumed count id s f choice =
     })
 
 -- a model
-loose_true_lit : (es : List Entry) (c : List ℤ) → ((l : ℤ) → In l c → HasValue (trues es) l) → IsLoose (trues es) c → (l : ℤ) × In l c × In l (trues es)
-loose_true_lit es c full (inl found) = found
-loose_true_lit es c full (inr two) = elim (full two.one two.one_in) [ inl t ↦ (two.one, two.one_in, t) | inr f ↦ absurd (two.one_open f) ]
 
-pub model_of : (vars : ℕ) (touched : List Bool) (db : List StoredClause) (log : List LogStep) (es : List Entry) (assumed : List ℤ) (count : ℕ) (assign : List Bool) → IsState vars db log es assumed count
-    → IsFixpoint db (trues es) → AllTrue (trues es) assumed → AreTouched touched (inputs_of log) → ((l : ℤ) → IsLiteral vars l → IsTouched touched l → HasValue (trues es) l) → length assign ≡ vars
-    → ((l : ℤ) → In l (trues es) → literal_true assign l ≡ true) → IsModel vars (inputs_of log) assumed assign
-model_of vars touched db log es assumed count assign s fix all are full total values = record {
+-- a literal has a value where its variable has
+has_value : (ts : List ℤ) (l m : ℤ) → var_of l ≡ var_of m → HasValue ts l → HasValue ts m
+has_value ts l m same (inl t) = elim (same_var l m same) [
+  | inl is ↦ inl (subst (λ k. In k ts) is t)
+  | inr turned ↦ inr (subst (λ k. In k ts) turned t)
+]
+has_value ts l m same (inr f) = elim (same_var m l (sym same)) [
+  | inl is ↦ inr (subst (λ k. In (neg_ℤ k) ts) (sym is) f)
+  | inr turned ↦ inl (subst (λ k. In k ts) (sym turned) f)
+]
+
+true_by : (assign : List Bool) (default : Bool) (l : ℤ) → IsTrueBy default l → get_or assign (var_of l - 1) false ≡ default → literal_true assign l ≡ true
+true_by assign default (pos v) is at = at ∙ is
+true_by assign default (negsuc v) is at = let down : suc v - 1 ≡ v = omega arith in ap not (ap (λ (i : ℕ). get_or assign i false) (sym down) ∙ at ∙ is)
+
+-- what has no value is as it is by default
+settled : (vars : ℕ) (touched : List Bool) (default : Bool) (ts : List ℤ) (assign : List Bool) (l : ℤ) → IsLiteral vars l → IsTouched touched l ⊎ IsTrueBy default l
+    → ((m : ℤ) → IsLiteral vars m → IsTouched touched m → HasValue ts m) → ((index : ℕ) → index < vars → HasValue ts (pos (index + 1)) ⊎ (get_or assign index false ≡ default))
+    → HasValue ts l ⊎ (literal_true assign l ≡ true)
+settled vars touched default ts assign l literal (inl t) full others = inl (full l literal t)
+settled vars touched default ts assign l literal (inr is) full others =
+    let low = literal.not_zero in
+    let high = literal.in_range in
+    elim (others (var_of l - 1) (omega (arith, low, high))) [
+      | inl has ↦ inl (has_value ts (pos (var_of l - 1 + 1)) l (omega (arith, low)) has)
+      | inr free ↦ inr (true_by assign default l is free)
+    ]
+
+not_false_true : (ts : List ℤ) (assign : List Bool) (l : ℤ) → ¬ In (neg_ℤ l) ts → (In l ts → literal_true assign l ≡ true) → HasValue ts l ⊎ (literal_true assign l ≡ true) → literal_true assign l ≡ true
+not_false_true ts assign l unfalse value (inl (inl t)) = value t
+not_false_true ts assign l unfalse value (inl (inr f)) = absurd (unfalse f)
+not_false_true ts assign l unfalse value (inr holds) = holds
+
+-- a clause that is loose has a true literal
+loose_true_lit : (ts : List ℤ) (c : List ℤ) (assign : List Bool) → ((l : ℤ) → In l c → HasValue ts l ⊎ (literal_true assign l ≡ true)) → ((l : ℤ) → In l ts → literal_true assign l ≡ true)
+    → IsLoose ts c → (l : ℤ) × In l c × (literal_true assign l ≡ true)
+loose_true_lit ts c assign each values (inl (l, j, t)) = (l, j, values l t)
+loose_true_lit ts c assign each values (inr two) = (two.one, two.one_in, not_false_true ts assign two.one two.one_open (values two.one) (each two.one two.one_in))
+
+pub model_of : (vars : ℕ) (touched : List Bool) (default : Bool) (db : List StoredClause) (log : List LogStep) (es : List Entry) (assumed : List ℤ) (count : ℕ) (assign : List Bool) → IsState vars db log es assumed count
+    → IsFixpoint db (trues es) → AllTrue (trues es) assumed → AreTouched default touched (inputs_of log) → ((l : ℤ) → IsLiteral vars l → IsTouched touched l → HasValue (trues es) l) → length assign ≡ vars
+    → ((l : ℤ) → In l (trues es) → literal_true assign l ≡ true) → ((index : ℕ) → index < vars → HasValue (trues es) (pos (index + 1)) ⊎ (get_or assign index false ≡ default))
+    → IsModel vars (inputs_of log) assumed assign
+model_of vars touched default db log es assumed count assign s fix all are full total values others = record {
   total = total;
   clauses_true = λ c i.
       let live : IsLive db c = subst (λ (k : List StoredClause). IsLive k c) s.recorded.same (input_in log c s.recorded.honest i) in
-      let (l, j, t) = loose_true_lit es c (λ m k. full m (literal_at vars c m (s.recorded.over (record { lits = c; live = true }) live) k) (are c i m k)) (fix c live) in
-      any_at (literal_true assign) c l j (values l t);
+      let over = s.recorded.over (record { lits = c; live = true }) live in
+      let (l, j, t) = loose_true_lit (trues es) c assign (λ m k. settled vars touched default (trues es) assign m (literal_at vars c m over k) (are c i m k) full others) values (fix c live) in
+      any_at (literal_true assign) c l j t;
   assumed_true = λ l i. values l (all l i);
 }
 
 -- the same of other names
-pub touched_is : (touched others : List Bool) (clauses more : List (List ℤ)) → others ≡ touched → more ≡ clauses → AreTouched touched clauses → AreTouched others more
-touched_is touched others clauses more a b are =
-    subst (λ (bs : List Bool). AreTouched bs more) (sym a) (subst (AreTouched touched) (sym b) are)
+pub touched_is : (default other : Bool) (touched others : List Bool) (clauses more : List (List ℤ)) → other ≡ default → others ≡ touched → more ≡ clauses → AreTouched default touched clauses → AreTouched other others more
+touched_is default other touched others clauses more same a b are =
+    subst (λ (d : Bool). AreTouched d others more) (sym same) (subst (λ (bs : List Bool). AreTouched default bs more) (sym a) (subst (AreTouched default touched) (sym b) are))
 
 -- the same state by other names
 pub state_is : (v w n : ℕ) (d d2 : List StoredClause) (l l2 : List LogStep) (e e2 : List Entry) (assumed : List ℤ) → w ≡ v → d2 ≡ d → l2 ≡ l → e2 ≡ e → IsState v d l e assumed n → IsState w d2 l2 e2 assumed n

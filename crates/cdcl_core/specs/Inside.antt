@@ -10,9 +10,9 @@ use Rattle.cdcl_core.specs.declared.solver.Solver.TheInside.{Inside}
 abbrev pub view_of : Inside → Solver
 view_of a = record { vars = a.search.trail.vars; log = a.search.log; true_first = a.search.true_first; broken = a.broken }
 
--- the log is honest, the variables of the inputs are touched, and a search can go on from the trail, but where memory was
--- wanting
+-- the log is honest, what the inputs have against the default is touched, and a search can go on from the trail, but where
+-- memory was wanting
 pub record IsSolver (a : Inside) : Type 0 where
   pub honest : IsHonest a.search.log
-  pub touched : AreTouched a.search.trail.touched (inputs_of a.search.log)
+  pub touched : AreTouched a.search.true_first a.search.trail.touched (inputs_of a.search.log)
   pub ready : a.broken ≡ false → IsReady a.search

@@ -1,6 +1,6 @@
 -- What a search keeps true from step to step (conflict-driven clause learning: Marques-Silva and Sakallah 1999; assumed
 -- literals as the first decisions: Eén and Sörensson 2003).
-use Rattle.std.specs.Prelude.{◌≡◌, ◌⊎◌, ℕ, ◌+◌, ◌<◌, ◌≤◌, Bool, List, [], ◌∷◌, ℤ, Option, Some, None}
+use Rattle.std.specs.Prelude.{◌≡◌, ◌⊎◌, ℕ, ◌+◌, ◌<◌, ◌≤◌, Bool, true, false, List, [], ◌∷◌, ℤ, pos, negsuc, Option, Some, None}
 use Rattle.sat_base.specs.Members.{In}
 use Rattle.sat_base.specs.Database.{StoredClause, AreOver}
 use Rattle.sat_base.specs.Units.{AllTrue, IsFixpoint, IsReason, IsConsequence}
@@ -49,9 +49,14 @@ pub record IsState (vars : ℕ) (db : List StoredClause) (log : List LogStep) (e
   pub sound : IsSound db assumed count es
   pub levels : count ≤ top es
 
--- the variables of these clauses are touched
-abbrev pub AreTouched : List Bool → List (List ℤ) → Type 0
-AreTouched touched clauses = (c : List ℤ) → In c clauses → (l : ℤ) → In l c → IsTouched touched l
+-- the literal is true where its variable has this value
+abbrev pub IsTrueBy : Bool → ℤ → Type 0
+IsTrueBy value (pos v) = value ≡ true
+IsTrueBy value (negsuc v) = value ≡ false
+
+-- of the literals of these clauses, each that is not true by the value that a model gives to what has none is touched
+abbrev pub AreTouched : Bool → List Bool → List (List ℤ) → Type 0
+AreTouched default touched clauses = (c : List ℤ) → In c clauses → (l : ℤ) → In l c → IsTouched touched l ⊎ IsTrueBy default l
 
 -- the trail is at level 0, where nothing is decided
 pub record IsRoot (vars : ℕ) (db : List StoredClause) (log : List LogStep) (es : List Entry) : Type 0 where

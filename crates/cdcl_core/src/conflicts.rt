@@ -17,6 +17,7 @@ use crate::entrance::enter_learnt;
 use crate::search::Search;
 use crate::solved::Solved;
 use crate::steps::{add_step, log_core};
+use crate::usage::Usage;
 use learn_step::{Origin, learn};
 use lrat_steps::LogStep;
 use propagate::back_to;
@@ -28,6 +29,13 @@ fn reached_at(level: u32, assumed_levels: u32, reached: usize) -> usize
     ensures { (result ≡ 0) ⊎ ((assumed_levels ≤ level) × (result ≡ reached)) }
 {
     if level < assumed_levels { 0 } else { reached }
+}
+
+// Counts the use of the clauses from which one was learnt. Where choices are positive only, it doesn't matter.
+fn note_use(usage: &mut Usage, true_first: bool, hints: &[u64], learnt: u64) {
+    if !true_first {
+        usage.raise_all(hints, learnt);
+    }
 }
 
 impl Search {
@@ -84,6 +92,7 @@ impl Search {
         bump_conflict(&self.store, &mut self.trail, lits, hints);
         let step = LogStep::Learned(&learnt.lits, &learnt.hints);
         let reason = add_step(&mut self.log, &mut self.store, step)?;
+        note_use(&mut self.usage, self.true_first, hints, reason);
         purse.left -= 1;
         self.assumed_true = reached_at(learnt.back_level, self.assumed_levels, self.assumed_true);
         self.assumed_levels = self.assumed_levels.min(learnt.back_level);

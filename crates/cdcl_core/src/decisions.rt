@@ -1,15 +1,16 @@
 //! Decisions.
 //!
 //! Where nothing is left to propagate, the assumed literals are decided in their order, and then touched variables without
-//! value, which are those that stand in a clause: those of the plan, if one is followed (`plan.rt`), and then in the order that the turn began, as each was last held
+//! value: those of the plan, if one is followed (`plan.rt`), and then in the order that the turn began, as each was last held
 //! (Pipatsrisawat and Darwiche 2007), or positive where that is asked for. Where none of those left was ever in a conflict,
 //! one order is as good as another, and the plan is followed again, which costs no heap. Which assumed literals are true is
 //! not asked again for each decision: the search remembers how far they all are, and forgets it only where it goes back
 //! below them.
 //!
-//! A variable that stands in no clause is decided by nobody, unless it is assumed. So a search costs what the clauses that
-//! have come reach. Where the rest has values, any value makes a model of it: true where choices are positive, so that the
-//! model is a greatest one, and false otherwise.
+//! What has no value at the end is true where choices are positive, so that the model is a greatest one, and false otherwise.
+//! Touched are the variables that stand in a clause against this default. One that no clause has, or only so that its default
+//! makes the clause true, as a selector that nobody assumes, is decided by nobody. So a search costs what the clauses that have
+//! come ask for.
 ghost use Rattle.std.specs.Prelude.{◌≡◌, ◌⊎◌, ℕ, ◌+◌, ◌<◌, ℤ, pos, length, take, true, false, IfOk, IfSome, IfNone, slice_index_or};
 ghost use Rattle.sat_base.specs.Members.{In};
 ghost use Rattle.sat_base.specs.Literals.{AreLiterals, IsLiteral, literal_true};
@@ -143,7 +144,7 @@ impl Search {
         requires all_done { self.old.trail.done ≡ length self.old.trail.entries }
         requires literals { AreLiterals self.old.trail.vars assumed.now }
         requires consistent { IsConsistent assumed.now }
-        requires touched { AreTouched self.old.trail.touched (inputs_of self.old.log) }
+        requires touched { AreTouched self.old.true_first self.old.trail.touched (inputs_of self.old.log) }
         ensures round { IfOk result (λ answer. (left : ℕ) → IsRound self.old self.new assumed.now left left answer) }
         ensures paid { (left : ℕ) → IsHonestlyPaid self.old.log self.new.log left left }
         ensures vars { self.new.trail.vars ≡ self.old.trail.vars }

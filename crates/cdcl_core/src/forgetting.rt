@@ -1,9 +1,10 @@
 //! Which learnt clauses are forgotten.
 //!
 //! A learnt clause that no longer helps still costs a visit wherever one of its watched literals becomes false. So
-//! between searches, at level 0, where many more are live than have to stay, those go that are longer than the live
-//! learnt ones are in the mean, the oldest first, until no more may go. The walk over all clauses is worth it only
-//! where some hundreds can go at once, and is not made again before some hundreds more are learnt: many may have to stay.
+//! between searches, at level 0, where many more are live than have to stay, those go that are used least (Goldberg and
+//! Novikov 2002, Eén and Sörensson 2003), and where choices are positive only those that are longer than the live learnt
+//! ones are in the mean, the oldest first, until no more may go. The walk over all clauses is worth it only where some
+//! hundreds can go at once, and is not made again before some hundreds more are learnt: many may have to stay.
 //!
 //! A clause of which no literal is true forces none, so no value of level 0 rests on it: it is neither a reason nor the
 //! clause of a unit step. Clauses that are satisfied at level 0 are passed over; they are never visited in any case.
@@ -20,14 +21,14 @@ use crate::search::Search;
 use lrat_steps::{StepKind, may_forget};
 use propagate::rebuild;
 use sat_base::Lit;
-use std::alloc::AllocError;
+use std::alloc::{AllocError, Global};
 use trail_book::Trail;
 
 // So many have to be live beyond those that stay, and learnt since the last walk, before the clauses are looked at.
 const EXCESS: u64 = 500;
 
 /// Forgets learnt clauses, where many more are live than have to stay: it goes back to level 0 then.
-pub fn forget(search: &mut Search) -> Result<(), AllocError>
+pub fn forget(alloc: Global, search: &mut Search) -> Result<(), AllocError>
     requires ready { IsReady search.old }
     ensures ready { OnOk result (IsReady search.new) }
     ensures paid { (left : ℕ) → IsHonestlyPaid search.old.log search.new.log left left }
@@ -44,11 +45,61 @@ pub fn forget(search: &mut Search) -> Result<(), AllocError>
         return Ok(());
     }
     search.to_root();
-    let longest = mean_length(search);
-    forget_long(search, longest)?;
+    let limit = limit_of(alloc, search, live, learned)?;
+    forget_poor(search, limit)?;
     rebuild(&mut search.store, &search.trail);
     search.walked = learned;
     Ok(())
+}
+
+// The number by which it is known which clauses go.
+fn limit_of(alloc: Global, search: &Search, live: u64, learned: u64) -> Result<u64, AllocError>
+    requires { IsStaleAtRoot search.now }
+{
+    if search.true_first {
+        return Ok(mean_length(search));
+    }
+    let mut activities = activities_of(alloc, search)?;
+    activities.sort_unstable();
+    Ok(last_to_go(activities.as_slice(), live, learned))
+}
+
+// How much those clauses are used that may go.
+fn activities_of(alloc: Global, search: &Search) -> Result<Vec<u64>, AllocError>
+    requires { IsStaleAtRoot search.now }
+{
+    let mut activities = Vec::new(alloc);
+    let mut id = 0;
+    while id < search.store.len() {
+        id += 1;
+        if may_go(search, id) {
+            activities.push(search.usage.of(id))?;
+        }
+    }
+    Ok(activities)
+}
+
+// The last of these numbers, one for a clause, that is of a clause which may go behind those before it.
+fn last_to_go(activities: &[u64], live: u64, learned: u64) -> u64 {
+    let mut last = 0;
+    for (gone, activity) in activities.iter().enumerate() {
+        if !may_forget(live.saturating_sub(gone as u64), learned) {
+            return last;
+        }
+        last = *activity;
+    }
+    last
+}
+
+// Whether the clause is one of those that go: it is longer than the limit, or used no more.
+fn is_poor(search: &Search, id: u64, limit: u64) -> bool
+    requires { IsId search.now.store.clauses id }
+{
+    if search.true_first {
+        search.store.lits(id).len() as u64 > limit
+    } else {
+        search.usage.of(id) <= limit
+    }
 }
 
 // How many literals the live learnt clauses have in the mean.
@@ -76,8 +127,8 @@ fn is_learnt(search: &Search, id: u64) -> bool
     matches!(search.log.kind(id), StepKind::Learned) && search.store.is_live(id)
 }
 
-// Forgets clauses that are longer, the oldest first, as long as some may go.
-fn forget_long(search: &mut Search, longest: u64) -> Result<(), AllocError>
+// Forgets clauses by this limit, the oldest first, as long as some may go.
+fn forget_poor(search: &mut Search, limit: u64) -> Result<(), AllocError>
     requires stale { IsStaleAtRoot search.old }
     ensures stale { OnOk result (IsStaleAtRoot search.new) }
     ensures paid { (left : ℕ) → IsHonestlyPaid search.old.log search.new.log left left }
@@ -89,7 +140,7 @@ fn forget_long(search: &mut Search, longest: u64) -> Result<(), AllocError>
     let mut id = 0;
     while id < search.store.len() {
         id += 1;
-        if search.store.lits(id).len() as u64 > longest && may_go(search, id) {
+        if is_poor(search, id, limit) && may_go(search, id) {
             forget_one(search, id)?;
         }
     }

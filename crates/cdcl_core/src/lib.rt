@@ -37,6 +37,7 @@ mod solved;
 mod solver;
 mod steps;
 mod units;
+mod usage;
 
 pub use solved::Solved;
 pub use solver::Solver;

@@ -21,7 +21,7 @@
 //!
 //! Why a model under no assumed literals is greatest where choices are positive: a true literal of it was decided, and is
 //! positive, or is forced by earlier ones. So a model with all of its true variables agrees with it, literal by literal along the trail.
-//! What stands in no clause is not on the trail, and true in the model.
+//! What no clause has against its default is not on the trail, unless it was forced, and true in the model.
 //!
 //! It ends, since each round pays a unit or gives one more variable a value. A restart is part of a round that pays.
 //!
@@ -39,6 +39,7 @@ ghost use Rattle.cdcl_core.specs.Search.{IsSearch, IsReady, IsRound, Ends};
 
 use crate::plan::Plan;
 use crate::solved::Solved;
+use crate::usage::Usage;
 use clause_store::Store;
 use lrat_steps::Log;
 use propagate::{Propagated, propagate, propagate_parking};
@@ -66,6 +67,8 @@ pub struct Search {
     pub true_first: bool,
     /// What is decided first otherwise.
     pub plan: Plan,
+    /// How much clauses are used, where that is asked for.
+    pub usage: Usage,
 }
 
 impl Search {
@@ -80,7 +83,7 @@ impl Search {
         requires ready { IsReady self.old }
         requires literals { AreLiterals self.old.trail.vars assumed.now }
         requires consistent { IsConsistent assumed.now }
-        requires touched { AreTouched self.old.trail.touched (inputs_of self.old.log) }
+        requires touched { AreTouched self.old.true_first self.old.trail.touched (inputs_of self.old.log) }
         ensures answer { IfOk result (λ answer. Tells self.new.trail.vars self.new.log assumed.now purse.new.left answer) }
         ensures greatest { self.old.true_first ≡ true → assumed.now ≡ [] → IfOk result (λ answer. IsGreatest self.new.trail.vars self.new.log answer) }
         ensures ready { OnOk result (IsReady self.new) }
@@ -106,7 +109,7 @@ impl Search {
         requires search { IsSearch self.old assumed.now }
         requires literals { AreLiterals self.old.trail.vars assumed.now }
         requires consistent { IsConsistent assumed.now }
-        requires touched { AreTouched self.old.trail.touched (inputs_of self.old.log) }
+        requires touched { AreTouched self.old.true_first self.old.trail.touched (inputs_of self.old.log) }
         ensures ends { IfOk result (λ answer. Ends self.new assumed.now purse.new.left answer) }
         ensures paid { IsHonestlyPaid self.old.log self.new.log purse.old.left purse.new.left }
         ensures vars { self.new.trail.vars ≡ self.old.trail.vars }
@@ -130,7 +133,7 @@ impl Search {
         requires search { IsSearch self.old assumed.now }
         requires literals { AreLiterals self.old.trail.vars assumed.now }
         requires consistent { IsConsistent assumed.now }
-        requires touched { AreTouched self.old.trail.touched (inputs_of self.old.log) }
+        requires touched { AreTouched self.old.true_first self.old.trail.touched (inputs_of self.old.log) }
         ensures round { IfOk result (λ answer. IsRound self.old self.new assumed.now purse.old.left purse.new.left answer) }
         ensures paid { IsHonestlyPaid self.old.log self.new.log purse.old.left purse.new.left }
         ensures vars { self.new.trail.vars ≡ self.old.trail.vars }

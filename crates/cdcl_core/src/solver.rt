@@ -4,12 +4,13 @@
 //! added clause takes back as much of it as it asks for, and a search that assumes nothing goes on from there. Where a
 //! search wanted memory, the log is honest still, but the rest may be amid a step: the solver is broken then, and takes no
 //! further clause or search.
-ghost use Rattle.std.specs.Prelude.{◌≡◌, ℤ, ◌<◌, ◌^◌, ◌++◌, ◌∷◌, [], true, false, IfOk, OnOk, OnErr, IsErr};
-ghost use Rattle.sat_base.specs.Literals.{AreLiterals};
+ghost use Rattle.std.specs.Prelude.{◌≡◌, ◌⊎◌, ℤ, ◌<◌, ◌^◌, ◌++◌, ◌∷◌, [], true, false, IfOk, OnOk, OnErr, IsErr};
+ghost use Rattle.sat_base.specs.Literals.{AreLiterals, IsLiteral};
 ghost use Rattle.sat_base.specs.Members.{In};
 ghost use Rattle.trail_book.specs.Trail.{IsTouched};
 ghost use Rattle.lrat_steps.specs.Log.{Input};
 ghost use Rattle.lrat_steps.specs.Honest.{IsHonest};
+ghost use Rattle.cdcl_core.specs.State.{IsTrueBy};
 ghost use Rattle.cdcl_core.specs.Answers.{IsConsistent, IsHonestlyPaid, Tells, IsGreatest};
 
 use crate::forgetting::forget;
@@ -17,6 +18,7 @@ use crate::plan::Plan;
 use crate::search::Search;
 use crate::solved::Solved;
 use crate::steps::add_step;
+use crate::usage::Usage;
 use clause_store::Store;
 use lrat_steps::{Log, LogStep};
 use propagate::enter;
@@ -80,6 +82,7 @@ impl Solver {
             walked: 0,
             true_first,
             plan,
+            usage: Usage::new(alloc),
         };
         Ok(Solver {
             search,
@@ -110,7 +113,7 @@ impl Solver {
         enter(&mut search.store, &mut search.trail, id, lits);
         search.assumed_levels = search.assumed_levels.min(search.trail.top());
         search.assumed_true = 0;
-        touch_all(&mut search.trail, lits);
+        touch_all(&mut search.trail, lits, search.true_first);
         Ok(())
     }
 
@@ -142,7 +145,7 @@ impl Solver {
             return Err(AllocError);
         }
         self.broken = true;
-        forget(&mut self.search)?;
+        forget(alloc, &mut self.search)?;
         let answer = self.search.run(alloc, assumed, turn, purse)?;
         self.broken = false;
         Ok(answer)
@@ -176,14 +179,27 @@ impl Solver {
     }
 }
 
-// Has decisions be made on the variables of these literals.
-fn touch_all(trail: &mut Trail, lits: &[Lit])
+// Has decisions be made on the variables of these literals, but for those that are true by default.
+fn touch_all(trail: &mut Trail, lits: &[Lit], default: bool)
     requires { AreLiterals trail.old.vars lits.now }
-    ensures touched { (lit : ℤ) → In lit lits.now → IsTouched trail.new.touched lit }
+    ensures touched { (lit : ℤ) → In lit lits.now → IsTouched trail.new.touched lit ⊎ IsTrueBy default lit }
     ensures stay { (lit : ℤ) → IsTouched trail.old.touched lit → IsTouched trail.new.touched lit }
     ensures rest { trail.new ≡ record trail.old { touched = trail.new.touched } }
 {
     for lit in lits {
-        trail.touch(lit.var());
+        touch_against(trail, *lit, default);
     }
+}
+
+// Has decisions be made on the variable of this literal, unless it is true by default.
+fn touch_against(trail: &mut Trail, lit: Lit, default: bool)
+    requires { IsLiteral trail.old.vars lit }
+    ensures touched { IsTouched trail.new.touched lit ⊎ IsTrueBy default lit }
+    ensures stay { (other : ℤ) → IsTouched trail.old.touched other → IsTouched trail.new.touched other }
+    ensures rest { trail.new ≡ record trail.old { touched = trail.new.touched } }
+{
+    if lit.is_positive() == default {
+        return;
+    }
+    trail.touch(lit.var());
 }

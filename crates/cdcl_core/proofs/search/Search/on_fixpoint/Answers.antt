@@ -135,8 +135,8 @@ returns-in_ok-assign-in-Full-clause-round c =
       };
       says =
           subst (λ (t : Trail). IsModel t.vars (inputs_of s.log) assumed a) (sym same)
-          (model_of s.trail.vars s.trail.touched s.store.clauses s.log s.trail.entries assumed s.assumed_levels a c.requires.search.state c.requires.fixpoint h.0 c.requires.touched h.1 total
-          (λ l i. values.values l (subst (λ (t : Trail). In l (trues t.entries)) (sym same) i)));
+          (model_of s.trail.vars s.trail.touched s.true_first s.store.clauses s.log s.trail.entries assumed s.assumed_levels a c.requires.search.state c.requires.fixpoint h.0 c.requires.touched h.1 total
+          (λ l i. values.values l (subst (λ (t : Trail). In l (trues t.entries)) (sym same) i)) others);
       greatest = λ asked none.
           subst (λ (t : Trail). IsGreatestModel t.vars (inputs_of s.log) a) (sym same)
           (greatest_of s.trail.vars s.store.clauses s.log s.trail.entries assumed s.assumed_levels a c.requires.search.state (c.requires.search.positive asked) none (true_others s.trail.vars s.trail.entries a s.true_first asked others)

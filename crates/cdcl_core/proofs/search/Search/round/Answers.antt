@@ -8,7 +8,7 @@ pub on_fixpoint-requires-clause-touched : goal.on_fixpoint-requires-clause-touch
 on_fixpoint-requires-clause-touched c =
     let s = c.args.self.now in
     let now = c.spread.new.self in
-    touched_is s.trail.touched now.trail.touched (inputs_of s.log) (inputs_of now.log) c.spread.ensures.touched (c.spread.ensures.paid 0).paid.inputs c.requires.touched
+    touched_is s.true_first now.true_first s.trail.touched now.trail.touched (inputs_of s.log) (inputs_of now.log) c.spread.ensures.true_first c.spread.ensures.touched (c.spread.ensures.paid 0).paid.inputs c.requires.touched
 
 pub returns-in-Conflict-clause-paid : goal.returns-in-Conflict-clause-paid
 returns-in-Conflict-clause-paid c =

@@ -30,7 +30,7 @@ pub search-requires-clause-touched : goal.search-requires-clause-touched
 search-requires-clause-touched c =
     let s = c.args.self.now in
     let now = c.resume.new.self in
-    touched_is s.trail.touched now.trail.touched (inputs_of s.log) (inputs_of now.log) (c.resume.ensures.touched ∙ ap (λ (t : Trail). t.touched) c.start_at.ensures) (ap inputs_of c.resume.ensures.log)
+    touched_is s.true_first now.true_first s.trail.touched now.trail.touched (inputs_of s.log) (inputs_of now.log) c.resume.ensures.true_first (c.resume.ensures.touched ∙ ap (λ (t : Trail). t.touched) c.start_at.ensures) (ap inputs_of c.resume.ensures.log)
     c.requires.touched
 
 pub returns-clause-ready : goal.returns-clause-ready

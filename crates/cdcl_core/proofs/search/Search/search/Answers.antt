@@ -10,7 +10,7 @@ round-requires-clause-touched c =
     let s = c.args.self.now in
     let now = c.loop-answer.self in
     let inv = c.loop-answer.invariant in
-    touched_is s.trail.touched now.trail.touched (inputs_of s.log) (inputs_of now.log) inv.touched inv.paid.paid.inputs c.requires.touched
+    touched_is s.true_first now.true_first s.trail.touched now.trail.touched (inputs_of s.log) (inputs_of now.log) inv.true_first inv.touched inv.paid.paid.inputs c.requires.touched
 
 pub loop-answer-smaller : goal.loop-answer-smaller
 loop-answer-smaller c =

@@ -40,7 +40,7 @@ invariant_of-self c =
     let e = c.in_err-id.ensures in
     record {
       honest = subst IsHonest (sym e.log_err) c.self.invariant.honest;
-      touched = touched_is s.trail.touched s.trail.touched (inputs_of s.log) (inputs_of c.add_step.new.log) refl (ap inputs_of e.log_err) c.self.invariant.touched;
+      touched = touched_is s.true_first s.true_first s.trail.touched s.trail.touched (inputs_of s.log) (inputs_of c.add_step.new.log) refl refl (ap inputs_of e.log_err) c.self.invariant.touched;
       ready = λ b.
           let ready = c.self.invariant.ready b in
           let r = ready.search in
@@ -73,7 +73,7 @@ invariant_of-self-2 c =
     let vars : last.vars ≡ new.vars = ap (λ (t : Trail). t.vars) rest in
     record {
       honest = subst IsHonest (sym logged) (honest-input s.log lits c.self.invariant.honest);
-      touched = added_touched s.trail.touched last.touched s.log c.add_step.new.log lits logged c.self.invariant.touched
+      touched = added_touched s.true_first s.trail.touched last.touched s.log c.add_step.new.log lits logged c.self.invariant.touched
           (λ l t. c.touch_all.ensures.stay l (subst (λ (bs : List Bool). IsTouched bs l) (sym e.touched) t)) c.touch_all.ensures.touched;
       ready = λ b.
           let ready = c.self.invariant.ready b in

@@ -19,10 +19,10 @@ invariant_of-result c =
     let done : trail.done ≡ 0 = ap (λ (t : Trail). t.done) c.in_ok-trail.ensures in
     record {
       honest = subst IsHonest (sym c.new-4.ensures) tt;
-      touched = touched_is trail.touched trail.touched [] (inputs_of c.new-4.result) refl (ap inputs_of c.new-4.ensures) (λ c i. absurd i);
+      touched = touched_is c.args.true_first c.args.true_first trail.touched trail.touched [] (inputs_of c.new-4.result) refl refl (ap inputs_of c.new-4.ensures) (λ c i. absurd i);
       ready = λ b. record {
         assumed = [];
-        search = search_root_free (record { log = c.new-4.result; store = store; trail = trail; rooted = 0; assumed_levels = 0; assumed_true = 0; conflicts = 0; walked = 0; true_first = c.args.true_first; plan = c.in_ok-plan.plan })
+        search = search_root_free (record { log = c.new-4.result; store = store; trail = trail; rooted = 0; assumed_levels = 0; assumed_true = 0; conflicts = 0; walked = 0; true_first = c.args.true_first; plan = c.in_ok-plan.plan; usage = c.new-5.result })
             (record {
               vars = s.vars ∙ sym vars;
               kept = kept_first store trail (s.vars ∙ sym vars) s.clauses s.watched s.heads s.tails s.parks s.false_id entries done;

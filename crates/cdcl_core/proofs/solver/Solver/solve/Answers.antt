@@ -13,7 +13,7 @@ invariant_of-self c =
     let now = c.forget.new.search in
     record {
       honest = (c.forget.ensures.paid 0).honest;
-      touched = touched_is s.trail.touched now.trail.touched (inputs_of s.log) (inputs_of now.log) c.forget.ensures.touched (c.forget.ensures.paid 0).paid.inputs c.self.invariant.touched;
+      touched = touched_is s.true_first now.true_first s.trail.touched now.trail.touched (inputs_of s.log) (inputs_of now.log) c.forget.ensures.true_first c.forget.ensures.touched (c.forget.ensures.paid 0).paid.inputs c.self.invariant.touched;
       ready = λ no. absurd (false≢true (sym no));
     }
 
@@ -39,7 +39,7 @@ pub run-requires-clause-touched : goal.run-requires-clause-touched
 run-requires-clause-touched c =
     let s = c.self.inside.search in
     let now = c.forget.new.search in
-    touched_is s.trail.touched now.trail.touched (inputs_of s.log) (inputs_of now.log) c.forget.ensures.touched (c.forget.ensures.paid 0).paid.inputs c.self.invariant.touched
+    touched_is s.true_first now.true_first s.trail.touched now.trail.touched (inputs_of s.log) (inputs_of now.log) c.forget.ensures.true_first c.forget.ensures.touched (c.forget.ensures.paid 0).paid.inputs c.self.invariant.touched
 
 pub invariant_of-self-in_err-answer : goal.invariant_of-self-in_err-answer
 invariant_of-self-in_err-answer c =
@@ -47,7 +47,7 @@ invariant_of-self-in_err-answer c =
     let now = c.run.new.self in
     record {
       honest = c.run.ensures.paid.honest;
-      touched = touched_is s.trail.touched now.trail.touched (inputs_of s.log) (inputs_of now.log) (c.run.ensures.touched ∙ c.forget.ensures.touched)
+      touched = touched_is s.true_first now.true_first s.trail.touched now.trail.touched (inputs_of s.log) (inputs_of now.log) (c.run.ensures.true_first ∙ c.forget.ensures.true_first) (c.run.ensures.touched ∙ c.forget.ensures.touched)
           (c.run.ensures.paid.paid.inputs ∙ (c.forget.ensures.paid 0).paid.inputs) c.self.invariant.touched;
       ready = λ no. absurd (false≢true (sym no));
     }
@@ -58,7 +58,7 @@ invariant_of-self-2 c =
     let now = c.run.new.self in
     record {
       honest = c.run.ensures.paid.honest;
-      touched = touched_is s.trail.touched now.trail.touched (inputs_of s.log) (inputs_of now.log) (c.run.ensures.touched ∙ c.forget.ensures.touched)
+      touched = touched_is s.true_first now.true_first s.trail.touched now.trail.touched (inputs_of s.log) (inputs_of now.log) (c.run.ensures.true_first ∙ c.forget.ensures.true_first) (c.run.ensures.touched ∙ c.forget.ensures.touched)
           (c.run.ensures.paid.paid.inputs ∙ (c.forget.ensures.paid 0).paid.inputs) c.self.invariant.touched;
       ready = λ b. c.in_ok-answer.ensures.ready;
     }

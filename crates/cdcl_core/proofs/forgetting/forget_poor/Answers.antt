@@ -1,6 +1,6 @@
 use Rattle.std.proofs.Common.{◌∙◌}
 use Rattle.cdcl_core.proofs.StateLemmas.{paid_join}
-use Rattle.cdcl_core.proofs.forgetting.forget_long.Goals as goal
+use Rattle.cdcl_core.proofs.forgetting.forget_poor.Goals as goal
 
 -- marks cost nothing
 pub returns-in_err-forget_one-clause-paid : goal.returns-in_err-forget_one-clause-paid

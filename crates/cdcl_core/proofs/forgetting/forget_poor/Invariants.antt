@@ -1,7 +1,7 @@
 use Rattle.std.proofs.Common.{◌≡◌, ◌-◌, ℕ, length}
 use Rattle.cdcl_core.specs.Answers.{IsHonestlyPaid}
 use Rattle.cdcl_core.specs.Forgetting.{IsStaleAtRoot}
-use Rattle.cdcl_core.proofs.forgetting.forget_long.Given as goal
+use Rattle.cdcl_core.proofs.forgetting.forget_poor.Given as goal
 
 -- clauses were forgotten, and all else is as it was
 abbrev pub invariant-loop-id : goal.invariant-loop-id
