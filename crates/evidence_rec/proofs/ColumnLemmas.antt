@@ -120,35 +120,6 @@ AreWordsTo assigns block n words =
     × ((k i : ℕ) → k < n → i / 64 ≡ block → i < length (slice_index_or assigns k [])
     → slice_index_or (slice_index_or assigns k []) i false ≡ is_set (slice_index_or words k 0) (i % 64))
 
-pub words-next : (assigns : List (List Bool)) (block n word : ℕ) (words : List ℕ) → AreWordsTo assigns block n words
-    → ((i : ℕ) → i / 64 ≡ block → i < length (slice_index_or assigns n []) → slice_index_or (slice_index_or assigns n []) i false ≡ is_set word (i % 64))
-    → AreWordsTo assigns block (n + 1) (words ++ word ∷ [])
-words-next assigns block n word words h told = (
-  omega (arith, h.0, length-append words (word ∷ [])),
-  λ k i lt same within.
-      elim (cases_eq k n) [
-        | inl last ↦
-            let place : n ≡ length words + 0 = omega (arith, h.0) in
-            let w : slice_index_or (words ++ word ∷ []) n 0 ≡ word =
-            ap (λ j. slice_index_or (words ++ word ∷ []) j 0) place ∙ get_or-append-add words (word ∷ []) 0 0 in
-            rw last (told i same (subst (λ j. i < length (slice_index_or assigns j [])) last within) ∙ ap (λ v. is_set v (i % 64)) (sym w))
-        | inr before ↦
-            h.1 k i (omega (arith, lt, before)) same within
-            ∙ ap (λ v. is_set v (i % 64)) (sym (get_or_append_left words (word ∷ []) 0 k (omega (arith, h.0, lt, before))))
-      ],
-)
-
--- one column more gives the next value of each assignment
-pub columns-next : (assigns : List (List Bool)) (columns words : List ℕ) (at column : ℕ) → ((k : ℕ) → k < length assigns → at < length (slice_index_or assigns k []))
-    → AreWords assigns (at / 64) words → ((k : ℕ) → k < length words → is_set column k ≡ is_set (slice_index_or words k 0) (at % 64))
-    → ((k : ℕ) → k < length assigns → assignment columns k ≡ take at (slice_index_or assigns k []))
-    → (k : ℕ) → k < length assigns → assignment (columns ++ column ∷ []) k ≡ take (at + 1) (slice_index_or assigns k [])
-columns-next assigns columns words at column long words_are column_is so_far k within =
-    let w : List Bool = slice_index_or assigns k [] in
-    map-append (λ word. is_set word k) columns (column ∷ [])
-    ∙ ap₂ (λ (front : List Bool) b. front ++ b ∷ []) (so_far k within) (column_is k (omega (arith, words_are.0, within)) ∙ sym (words_are.1 k at within refl (long k within)))
-    ∙ sym (take_more w at false (long k within))
-
 -- the column of a variable
 pub column-positive : (columns : List ℕ) (k v : ℕ) (lit : ℤ) → v ≡ var_of lit → 0 < v → v ≤ length columns → lit ≡ pos (var_of lit)
     → is_set (slice_index_or columns (v - 1) 0) k ≡ literal_true (assignment columns k) lit
