@@ -136,7 +136,7 @@ try_evidence() { # what to try, the file's text, the wanted evidence; each with 
 try_evidence 'evidence about nothing' 'p gcnf 0 0 0%' 'p gmev 2 0 0 0%m 0%w 0 0%x 1%e complete%'
 try_evidence 'evidence about a background' 'p gcnf 1 2 1%{0} 1 0%{0} -1 0%' 'p gmev 2 1 2 1%u 0%d 3 0 1 2 0%r 0 3%x 1%e complete%'
 try_evidence 'evidence about an empty clause' 'p gcnf 0 1 1%{1} 0%' \
-    'p gmev 2 0 1 1%u 1 0%r 0 1%w 1 0%m 1 0%w 0 0%r 1 1%d 3 0 1 2 0%x 3%e complete%'
+    'p gmev 2 0 1 1%u 1 0%r 0 1%w 1 0%m 1 0%w 0 0%t 1 1%d 3 0 1 2 0%x 3%e complete%'
 
 # Evidence: as it is, cut before it is closed, with a hint left out, about another file, and none.
 evidence=$here/first.evidence

@@ -1,5 +1,5 @@
 -- What is accepted can be written: each number of it is one that a text can hold.
-use Rattle.std.proofs.Common.{◌≡◌, ℕ, zero, suc, ◌+◌, ◌<◌, ◌≤◌, Bool, true, false, ◌&&◌, cond, eqb, List, [], ◌∷◌, ◌++◌, map, length, Option, Some, None, refl, sym, ◌∙◌, ap, inl, inr, arith, length-append}
+use Rattle.std.proofs.Common.{◌≡◌, ℕ, zero, suc, ◌+◌, ◌<◌, ◌≤◌, Bool, true, false, ◌&&◌, cond, eqb, List, [], ◌∷◌, ◌++◌, map, length, Option, Some, None, refl, sym, ◌∙◌, ap, subst, inl, inr, arith, length-append}
 use Rattle.std.specs.Prelude.{ℤ, neg_ℤ, nat_lt, All, IfSome, slice_get}
 use Rattle.std.specs.List.{AllByRecursion, find, list_all, list_any}
 use Rattle.std.specs.Option.{option_map_or}
@@ -20,6 +20,8 @@ use Rattle.evidence_rec.specs.declared.record.Refutation.{Refutation}
 use Rattle.evidence_rec.specs.declared.record.Refutation.TheVariants.{Steps, Earlier}
 use Rattle.evidence_rec.specs.Records.{founds, numbered_record, is_inside, shows_refuted, IsAccepted, AllAcceptedBehind, AllAccepted}
 use Rattle.evidence_rec.specs.Seeding.{shows_all_explored}
+use Rattle.evidence_rec.specs.Shorten.{least_serving, naming, shortened_refutations, shortened, shortened_behind, shorten}
+use Rattle.evidence_rec.proofs.ShortenLemmas.{founds-shorten, length-shorten, accepted-shorten}
 use Rattle.evidence_text.specs.declared.version.Version.TheVariants.{Two}
 use Rattle.evidence_text.specs.Text.{evidence_text}
 use Rattle.evidence_text.specs.Readable.{IsSmall, IsId, IsReadableStep, IsReadableProof, IsReadableRefutation, IsReadable, IsReadableEnd, HasRefutationIds, HasRecordIds}
@@ -229,3 +231,40 @@ pub accepted-read : (p : Problem) (rs : List Record) (closing : Option Derivatio
 accepted-read p rs closing small few all ids closes =
     text-is_read Two p rs closing
     (record { small = small; records = records-readable p rs few all ids; closing = end-readable p rs closing closes })
+
+-- ---- what is shortened
+
+ids-named : (o : Option ℕ) (r : Refutation) → HasRefutationIds r → HasRefutationIds (naming o r)
+ids-named None r h = h
+ids-named (Some i) r h = tt
+
+ids-refutations : (earlier : List Record) (set gs : List ℕ) (rs : List Refutation) → AllByRecursion HasRefutationIds rs
+    → AllByRecursion HasRefutationIds (shortened_refutations earlier set gs rs)
+ids-refutations earlier set [] rs h = h
+ids-refutations earlier set (g ∷ gs) [] h = tt
+ids-refutations earlier set (g ∷ gs) (r ∷ rs) h = (ids-named (least_serving earlier set g) r h.0, ids-refutations earlier set gs rs h.1)
+
+ids-record : (earlier : List Record) (r : Record) → HasRecordIds r → HasRecordIds (shortened earlier r)
+ids-record earlier (record_of.Conflict set d ws) h = h
+ids-record earlier (record_of.Correction set w rs) h = ids-refutations earlier set set rs h
+
+ids-behind : (earlier rs : List Record) → AllByRecursion HasRecordIds rs → AllByRecursion HasRecordIds (shortened_behind earlier rs)
+ids-behind earlier [] h = tt
+ids-behind earlier (r ∷ rs) h = (ids-record earlier r h.0, ids-behind (earlier ++ r ∷ []) rs h.1)
+
+pub ids-shorten : (rs : List Record) → AllByRecursion HasRecordIds rs → AllByRecursion HasRecordIds (shorten rs)
+ids-shorten rs h = ids-behind [] rs h
+
+-- the sets stay, so what closes the records closes them when they are short
+pub closes-shorten : (p : Problem) (rs : List Record) (closing : Option Derivation)
+    → IfSome closing (λ d. (shows_all_explored p.groups (founds rs) d ≡ true) × HasIds d)
+    → IfSome closing (λ d. (shows_all_explored p.groups (founds (shorten rs)) d ≡ true) × HasIds d)
+closes-shorten p rs closing h =
+    subst (λ (fs : List Found). IfSome closing (λ d. (shows_all_explored p.groups fs d ≡ true) × HasIds d)) (sym (founds-shorten rs)) h
+
+pub shortened-read : (p : Problem) (rs : List Record) (closing : Option Derivation) → IsSmall p → length rs ≤ max_id → AllAccepted p rs
+    → AllByRecursion HasRecordIds rs → IfSome closing (λ d. (shows_all_explored p.groups (founds rs) d ≡ true) × HasIds d)
+    → IsRead Two p (evidence_text Two p (shorten rs) closing) (shorten rs) closing
+shortened-read p rs closing small few all ids closes =
+    accepted-read p (shorten rs) closing small (subst (λ n. n ≤ max_id) (sym (length-shorten rs)) few) (accepted-shorten p rs all) (ids-shorten rs ids)
+    (closes-shorten p rs closing closes)

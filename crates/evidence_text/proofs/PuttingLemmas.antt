@@ -1,15 +1,18 @@
 -- How the parts of a text that is put compose.
-use Rattle.std.proofs.Common.{◌≡◌, ℕ, suc, ◌+◌, ◌<◌, ◌≤◌, min, Bool, List, [], ◌∷◌, ◌++◌, Some, map, length, drop, get_or, refl, sym, ◌∙◌, ap, subst, arith, add-one, drop-cons, length-drop, append_assoc, append-nil}
+use Rattle.std.proofs.Common.{◌≡◌, ℕ, suc, ◌+◌, ◌<◌, ◌≤◌, min, ◌⊎◌, inl, inr, Bool, List, [], ◌∷◌, ◌++◌, Option, Some, map, length, take, drop, get_or, refl, sym, ◌∙◌, ap, ap₂, subst, arith, add-one, drop-cons, length-drop, append_assoc, append-nil}
 use Rattle.std.specs.Prelude.{Result, Ok, Err, slice_get}
 use Rattle.std.specs.List.{flat_map}
+use Rattle.std.proofs.lemmas.Bool.{cases_lt}
+use Rattle.std.proofs.lemmas.List.{take_more}
 use Rattle.sat_base.specs.Derivation.{Step}
 use Rattle.evidence_rec.specs.declared.record.Record.{Record}
 use Rattle.evidence_rec.specs.declared.record.Refutation.{Refutation}
+use Rattle.evidence_rec.specs.Shorten.{least_serving, naming, shortened_refutations, shortened, shortened_behind}
 use Rattle.evidence_text.specs.Text.{line_text, text_of, step_line, witness_line, record_text, refutation_lines, refutations_lines, witnesses_lines}
 use Rattle.evidence_text.specs.declared.line_sink.PutError.{PutError}
 use Rattle.evidence_text.specs.declared.line_sink.PutError.TheVariants as put_error
 use Rattle.evidence_text.specs.Putting.{IsPut, IsCut, Puts, AddsUp}
-use Rattle.evidence_text.proofs.TextLemmas.{drop-get, drop-number, text_of-append, witnesses-over, refutations-over}
+use Rattle.evidence_text.proofs.TextLemmas.{drop-get, drop-number, text_of-append, witnesses-over}
 
 -- ---- one part behind another
 
@@ -127,14 +130,23 @@ steps-left steps i s here = ap (λ ss. text_of (map step_line ss)) (drop-get ste
 pub steps-none : (steps : List Step) (i : ℕ) → length steps ≤ i → text_of (map step_line (drop i steps)) ≡ []
 steps-none steps i le = ap (λ ss. text_of (map step_line ss)) (none-left steps i le)
 
-pub records-left : (records : List Record) (i : ℕ) (r : Record) → i < length records → get_or records i r ≡ r
-    → flat_map record_text (drop i records) ≡ record_text r ++ flat_map record_text (drop (i + 1) records)
-records-left records i r lt here =
-    let front : drop i records ≡ r ∷ drop (i + 1) records = rw (add-one, drop-cons records i r) (ap (λ y. y ∷ drop (suc i) records) here) in
-    ap (flat_map record_text) front
+-- the record at a place is the first of those from there on
+pub drop-record : (records : List Record) (i : ℕ) (r : Record) → i < length records → get_or records i r ≡ r → drop i records ≡ r ∷ drop (i + 1) records
+drop-record records i r lt here = rw (add-one, drop-cons records i r) (ap (λ y. y ∷ drop (suc i) records) here)
 
-pub records-none : (records : List Record) (i : ℕ) → length records ≤ i → flat_map record_text (drop i records) ≡ []
-records-none records i le = ap (flat_map record_text) (none-left records i le)
+pub take-record : (records : List Record) (i : ℕ) (r : Record) → i < length records → get_or records i r ≡ r → take (i + 1) records ≡ take i records ++ r ∷ []
+take-record records i r lt here = take_more records i r lt ∙ ap (λ y. take i records ++ y ∷ []) here
+
+-- those from a place on, each behind all before it
+pub records-left : (records : List Record) (i : ℕ) (r : Record) → i < length records → get_or records i r ≡ r
+    → flat_map record_text (shortened_behind (take i records) (drop i records))
+    ≡ record_text (shortened (take i records) r) ++ flat_map record_text (shortened_behind (take (i + 1) records) (drop (i + 1) records))
+records-left records i r lt here =
+    ap (λ rs. flat_map record_text (shortened_behind (take i records) rs)) (drop-record records i r lt here)
+    ∙ ap (λ e. record_text (shortened (take i records) r) ++ flat_map record_text (shortened_behind e (drop (i + 1) records))) (sym (take-record records i r lt here))
+
+pub records-none : (records : List Record) (i : ℕ) → length records ≤ i → flat_map record_text (shortened_behind (take i records) (drop i records)) ≡ []
+records-none records i le = ap (λ rs. flat_map record_text (shortened_behind (take i records) rs)) (none-left records i le)
 
 pub witnesses-left : (groups : List ℕ) (ws : List (List Bool)) (i : ℕ) (w : List Bool) → i < length groups → slice_get ws i ≡ Some w
     → text_of (witnesses_lines (drop i groups) (drop i ws))
@@ -147,17 +159,47 @@ pub witnesses-none : (groups : List ℕ) (ws : List (List Bool)) (i : ℕ) → m
     → text_of (witnesses_lines (drop i groups) (drop i ws)) ≡ []
 witnesses-none groups ws i h = sym (witnesses-over [] (text_of (witnesses_lines (drop i groups) (drop i ws))) groups ws i h refl)
 
-pub refutations-left : (groups : List ℕ) (rs : List Refutation) (i : ℕ) (r : Refutation) → i < length groups → slice_get rs i ≡ Some r
-    → text_of (refutations_lines (drop i groups) (drop i rs))
-    ≡ text_of (refutation_lines (get_or groups i 0) r) ++ text_of (refutations_lines (drop (i + 1) groups) (drop (i + 1) rs))
-refutations-left groups rs i r h here =
-    ap (λ gs. text_of (refutations_lines gs (drop i rs))) (drop-number groups i h)
-    ∙ ap (λ vs. text_of (refutations_lines (get_or groups i 0 ∷ drop (i + 1) groups) vs)) (drop-get rs i r here)
-    ∙ text_of-append (refutation_lines (get_or groups i 0) r) (refutations_lines (drop (i + 1) groups) (drop (i + 1) rs))
+-- the refutations from a place on, each as it is put
+left-of_set : (earlier : List Record) (set : List ℕ) (rs : List Refutation) (i : ℕ) (r : Refutation) → i < length set → slice_get rs i ≡ Some r
+    → text_of (refutations_lines (drop i set) (shortened_refutations earlier set (drop i set) (drop i rs)))
+    ≡ text_of (refutation_lines (get_or set i 0) (naming (least_serving earlier set (get_or set i 0)) r))
+    ++ text_of (refutations_lines (drop (i + 1) set) (shortened_refutations earlier set (drop (i + 1) set) (drop (i + 1) rs)))
+left-of_set earlier set rs i r h here =
+    let g : ℕ = get_or set i 0 in
+    let gs : List ℕ = drop (i + 1) set in
+    let qs : List Refutation = drop (i + 1) rs in
+    ap (λ ks. text_of (refutations_lines ks (shortened_refutations earlier set ks (drop i rs)))) (drop-number set i h)
+    ∙ ap (λ vs. text_of (refutations_lines (g ∷ gs) (shortened_refutations earlier set (g ∷ gs) vs))) (drop-get rs i r here)
+    ∙ text_of-append (refutation_lines g (naming (least_serving earlier set g) r)) (refutations_lines gs (shortened_refutations earlier set gs qs))
 
-pub refutations-none : (groups : List ℕ) (rs : List Refutation) (i : ℕ) → min (length groups) (length rs) ≤ i
-    → text_of (refutations_lines (drop i groups) (drop i rs)) ≡ []
-refutations-none groups rs i h = sym (refutations-over [] (text_of (refutations_lines (drop i groups) (drop i rs))) groups rs i h refl)
+-- where the groups were lent, and the number was found
+pub refutations-left : (earlier : List Record) (set groups : List ℕ) (rs : List Refutation) (i : ℕ) (r : Refutation) (least : Option ℕ) → groups ≡ set → i < length groups
+    → slice_get rs i ≡ Some r → least ≡ least_serving earlier set (get_or groups i 0)
+    → text_of (refutations_lines (drop i set) (shortened_refutations earlier set (drop i set) (drop i rs)))
+    ≡ text_of (refutation_lines (get_or groups i 0) (naming least r))
+    ++ text_of (refutations_lines (drop (i + 1) set) (shortened_refutations earlier set (drop (i + 1) set) (drop (i + 1) rs)))
+refutations-left earlier set groups rs i r least same h here is =
+    left-of_set earlier set rs i r (subst (λ gs. i < length gs) same h) here
+    ∙ ap₂
+    (λ g o. text_of (refutation_lines g (naming o r)) ++ text_of (refutations_lines (drop (i + 1) set) (shortened_refutations earlier set (drop (i + 1) set) (drop (i + 1) rs))))
+    (sym (ap (λ gs. get_or gs i 0) same)) (sym (is ∙ ap (λ gs. least_serving earlier set (get_or gs i 0)) same))
+
+no_refutations : (earlier : List Record) (set gs : List ℕ) (rs : List Refutation) → (length gs ≡ 0) ⊎ (length rs ≡ 0)
+    → refutations_lines gs (shortened_refutations earlier set gs rs) ≡ []
+no_refutations earlier set [] rs h = refl
+no_refutations earlier set (g ∷ gs) [] h = refl
+no_refutations earlier set (g ∷ gs) (r ∷ rs) (inl h) = absurd (omega (arith, h))
+no_refutations earlier set (g ∷ gs) (r ∷ rs) (inr h) = absurd (omega (arith, h))
+
+pub refutations-none : (earlier : List Record) (set : List ℕ) (rs : List Refutation) (i : ℕ) → min (length set) (length rs) ≤ i
+    → text_of (refutations_lines (drop i set) (shortened_refutations earlier set (drop i set) (drop i rs))) ≡ []
+refutations-none earlier set rs i h = ap text_of (no_refutations earlier set (drop i set) (drop i rs) none)
+  where
+    none : (length (drop i set) ≡ 0) ⊎ (length (drop i rs) ≡ 0)
+    none = elim (cases_lt i (length set)) [
+      | inl lt ↦ inr (omega (arith, length-drop i rs, lt, h))
+      | inr le ↦ inl (omega (arith, length-drop i set, le))
+    ]
 
 -- ---- whole texts
 

@@ -8,8 +8,7 @@ use Rattle.std.proofs.lemmas.Bool.{cases_lt}
 use Rattle.std.proofs.lemmas.Option.{slice_get_within, get_or_from_slice_get}
 use Rattle.std.proofs.lemmas.List.Concat.{flat_map-append, flat_map-cons}
 use Rattle.sat_base.specs.Derivation.{Step, Derivation}
-use Rattle.evidence_rec.specs.declared.record.Refutation.{Refutation}
-use Rattle.evidence_text.specs.Text.{Word, Line, spaced, line_text, text_of, set_line, step_line, goal_line, reference_line, witness_line, trues_from, derivation_lines, refutations_lines, witnesses_lines, exhaustion_line, end_line, end_text}
+use Rattle.evidence_text.specs.Text.{Word, Line, spaced, line_text, text_of, set_line, step_line, goal_line, reference_line, witness_line, trues_from, derivation_lines, witnesses_lines, exhaustion_line, end_line, end_text}
 
 -- mapped words, each behind a blank
 pub spaced-map : {X : Type 0} (f : X → Word) (xs : List X) → spaced (map f xs) ≡ flat_map (λ x. codes " " ++ f x) xs
@@ -131,23 +130,6 @@ witnesses-over old total groups ws i h so_far =
     none : (length (drop i groups) ≡ 0) ⊎ (length (drop i ws) ≡ 0)
     none = elim (cases_lt i (length groups)) [
       | inl lt ↦ inr (omega (arith, length-drop i ws, lt, h))
-      | inr le ↦ inl (omega (arith, length-drop i groups, le))
-    ]
-
-no_refutations : (gs : List ℕ) (rs : List Refutation) → (length gs ≡ 0) ⊎ (length rs ≡ 0) → refutations_lines gs rs ≡ []
-no_refutations [] rs h = refl
-no_refutations (g ∷ gs) [] h = refl
-no_refutations (g ∷ gs) (r ∷ rs) (inl h) = absurd (omega (arith, h))
-no_refutations (g ∷ gs) (r ∷ rs) (inr h) = absurd (omega (arith, h))
-
-pub refutations-over : (old total groups : List ℕ) (rs : List Refutation) (i : ℕ) → min (length groups) (length rs) ≤ i
-    → old ++ text_of (refutations_lines (drop i groups) (drop i rs)) ≡ total → old ≡ total
-refutations-over old total groups rs i h so_far =
-    sym (append-nil old) ∙ sym (ap (λ ls. old ++ text_of ls) (no_refutations (drop i groups) (drop i rs) none)) ∙ so_far
-  where
-    none : (length (drop i groups) ≡ 0) ⊎ (length (drop i rs) ≡ 0)
-    none = elim (cases_lt i (length groups)) [
-      | inl lt ↦ inr (omega (arith, length-drop i rs, lt, h))
       | inr le ↦ inl (omega (arith, length-drop i groups, le))
     ]
 

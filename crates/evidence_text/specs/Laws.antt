@@ -7,6 +7,7 @@ use Rattle.gm_base.specs.Explored.{Found}
 use Rattle.evidence_rec.specs.declared.record.Record.{Record}
 use Rattle.evidence_rec.specs.Records.{founds, IsAccepted, AllAccepted}
 use Rattle.evidence_rec.specs.Seeding.{shows_all_explored}
+use Rattle.evidence_rec.specs.Shorten.{shorten}
 use Rattle.evidence_text.specs.declared.answer.Answer.{Answer}
 use Rattle.evidence_text.specs.declared.answer.Answer.TheVariants as answer
 use Rattle.evidence_text.specs.declared.version.Version.{Version}
@@ -128,3 +129,14 @@ AcceptedAreRead =
     → AllByRecursion HasRecordIds records
     → IfSome closing (λ d. (shows_all_explored p.groups (founds records) d ≡ true) × HasIds d)
     → IsRead Two p (evidence_text Two p records closing) records closing
+
+-- and what is written of them, each shortened behind those before it, is read back as that
+abbrev pub ShortenedAreRead : Type 0
+ShortenedAreRead =
+    (p : Problem) (records : List Record) (closing : Option Derivation)
+    → IsSmall p
+    → length records ≤ max_id
+    → AllAccepted p records
+    → AllByRecursion HasRecordIds records
+    → IfSome closing (λ d. (shows_all_explored p.groups (founds records) d ≡ true) × HasIds d)
+    → IsRead Two p (evidence_text Two p (shorten records) closing) (shorten records) closing

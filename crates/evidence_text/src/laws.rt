@@ -1,5 +1,5 @@
 //! Laws over the definitions alone. Each is the contract of a function that has no code.
-ghost use Rattle.evidence_text.specs.Laws.{PiecesStand, HeadsStand, HeadsAreRead, RecordsAreRead, EndsAreRead, TextsAreTheirLines, TextsAreRead, TextsDiffer, AcceptedAreReadable, ClosingsAreReadable, AcceptedAreRead};
+ghost use Rattle.evidence_text.specs.Laws.{PiecesStand, HeadsStand, HeadsAreRead, RecordsAreRead, EndsAreRead, TextsAreTheirLines, TextsAreRead, TextsDiffer, AcceptedAreReadable, ClosingsAreReadable, AcceptedAreRead, ShortenedAreRead};
 
 /// What is read stands in just the lines that write it.
 pub fn read_is_written()
@@ -22,4 +22,5 @@ pub fn accepted_is_read()
     ensures record { AcceptedAreReadable }
     ensures closing { ClosingsAreReadable }
     ensures texts { AcceptedAreRead }
+    ensures shortened { ShortenedAreRead }
 {}

@@ -18,9 +18,9 @@
 //!
 //! A text of version 1 has no line that names an earlier record (`t`). Both versions are read, and version 2 is written.
 //!
-//! [`write_head`], [`write_record`] and [`write_end`] append to a text; who has no room for a whole record calls
-//! [`put_record`] or [`put_evidence`] with a [`LineSink`], which takes the lines out of a buffer as they come. An
-//! [`EvidenceReader`] goes over a text once, and answers a record at a time:
+//! [`write_head`], [`write_record`] and [`write_end`] append to a text; who has no room for a whole text calls
+//! [`put_evidence`] with a [`LineSink`], which takes the lines out of a buffer as they come. What is written of a correction
+//! names an earlier conflict where one serves. An [`EvidenceReader`] goes over a text once, and answers a record at a time:
 //!
 //! ```text
 //! let mut reader = EvidenceReader::new(&problem, text);
@@ -62,7 +62,7 @@ pub use answer::Answer;
 pub use fitting::{count_fits, problem_fits, record_fits};
 pub use line_sink::{LineSink, PutError};
 pub use offence::Offence;
-pub use putting::{put_evidence, put_record};
+pub use putting::put_evidence;
 pub use reader::EvidenceReader;
 pub use version::Version;
 pub use whole::{write_end, write_record};

@@ -3,9 +3,17 @@
 //! This is the one place that says which line comes behind which. Where a line goes is the sink's: into a text that is held
 //! whole, or out of the buffer as soon as there is much of it. An answer says of the text what the sink says of each line:
 //! it was put, or a front part of it was taken.
-ghost use Rattle.std.specs.Prelude.{◌≡◌, ℕ, List, ◌++◌, codes, map, OnOk};
+//!
+//! Of a correction each group whose refutation an earlier conflict serves gets one line, with the least number of such a
+//! conflict. It is looked up as the line comes, so no second list of records is made. A whole text of accepted records has
+//! an index of the conflicts that were put so far; a record by itself is compared with each record before it.
+ghost use Rattle.std.specs.Prelude.{◌≡◌, ◌+◌, ◌<◌, ℕ, true, List, [], ◌∷◌, ◌++◌, codes, length, map, IfSome, OnOk};
 ghost use Rattle.std.specs.List.{flat_map};
 ghost use Rattle.std.specs.Option.{option_map};
+ghost use Rattle.gm_base.specs.Sets.{has};
+ghost use Rattle.evidence_rec.specs.Records.{set_of, AllAccepted};
+ghost use Rattle.evidence_rec.specs.Shorten.{least_serving, naming, shortened_refutations, shortened, shorten};
+ghost use Rattle.evidence_rec.specs.Serving.{IsIndexOf, FindsServing, CanShorten};
 ghost use Rattle.evidence_text.specs.Text.{line_text, head_text, record_text, end_text, evidence_text, set_line, step_line, goal_line, reference_line, witness_line, exhaustion_line, end_line, set_letter, text_of, derivation_lines, refutation_lines, refutations_lines, witnesses_lines};
 ghost use Rattle.evidence_text.specs.Putting.{Puts};
 ghost use Rattle.evidence_text.specs.declared.version.Version.TheVariants.{Two};
@@ -15,46 +23,81 @@ use crate::writing::{
     write_complete, write_exhaustion, write_goal, write_head, write_partial, write_reference,
     write_set, write_step, write_witness,
 };
-use evidence_rec::{Proofs, Record, Refutation, Witnesses};
+use evidence_rec::{ConflictIndex, Proofs, Record, Refutation, Witnesses, least_serving};
 use gm_base::{Assign, Derivation, GroupSet, Kind, Problem, Step};
-use std::alloc::AllocError;
+use std::alloc::{AllocError, Global};
 
-/// Puts the text of these records about the problem, and what closes them, in version 2.
+/// Puts the text of these records about the problem, and what closes them, in version 2. Each correction names an earlier
+/// conflict where one serves.
 pub fn put_evidence<S: LineSink>(
+    alloc: Global,
     problem: &Problem,
     records: &[Record],
     closing: Option<&Derivation>,
     sink: &mut S,
     waiting: &mut Vec<u8>,
 ) -> Result<(), PutError<S::Error>>
-    ensures { Puts (S.took sink.old sink.new) (S.stopped sink.old sink.new) waiting.old.items waiting.new.items (evidence_text Two problem.now records.now (option_map (λ d. d.now) closing.entry)) result }
+    requires { AllAccepted problem.now records.now }
+    ensures { Puts (S.took sink.old sink.new) (S.stopped sink.old sink.new) waiting.old.items waiting.new.items (evidence_text Two problem.now (shorten records.now) (option_map (λ d. d.now) closing.entry)) result }
 {
     put_head(problem, sink, waiting)?;
-    put_records(records, sink, waiting)?;
+    put_records(alloc, problem, records, sink, waiting)?;
     put_end(closing, sink, waiting)
 }
 
 /// The records, in their order.
 fn put_records<S: LineSink>(
+    alloc: Global,
+    problem: &Problem,
     records: &[Record],
     sink: &mut S,
     waiting: &mut Vec<u8>,
 ) -> Result<(), PutError<S::Error>>
-    ensures { Puts (S.took sink.old sink.new) (S.stopped sink.old sink.new) waiting.old.items waiting.new.items (flat_map record_text records.now) result }
+    requires { AllAccepted problem.now records.now }
+    ensures { Puts (S.took sink.old sink.new) (S.stopped sink.old sink.new) waiting.old.items waiting.new.items (flat_map record_text (shorten records.now)) result }
 {
-    for made in records {
-        put_record(made, sink, waiting)?;
+    let Ok(mut index) = ConflictIndex::new(alloc, problem.groups()) else {
+        return Err(PutError::Memory);
+    };
+    for at in 0..records.len() {
+        put_next(&records[..at], &records[at], &mut index, sink, waiting)?;
     }
     Ok(())
 }
 
-/// Puts a record. One item of evidence for each group of its set is put.
-pub fn put_record<S: LineSink>(
+/// The next record, which the index has from then on.
+fn put_next<S: LineSink>(
+    earlier: &[Record],
+    made: &Record,
+    index: &mut ConflictIndex,
+    sink: &mut S,
+    waiting: &mut Vec<u8>,
+) -> Result<(), PutError<S::Error>>
+    requires shortens { CanShorten earlier.now made.now index.old }
+    requires within { (g : ℕ) → has (set_of made.now) g ≡ true → g < length index.old }
+    requires index { IsIndexOf earlier.now index.old }
+    ensures puts { Puts (S.took sink.old sink.new) (S.stopped sink.old sink.new) waiting.old.items waiting.new.items (record_text (shortened earlier.now made.now)) result }
+    ensures groups { OnOk result (length index.new ≡ length index.old) }
+    ensures index { OnOk result (IsIndexOf (earlier.now ++ made.now ∷ []) index.new) }
+{
+    put_record(earlier, Some(&*index), made, sink, waiting)?;
+    match index.add(earlier.len(), made) {
+        Ok(()) => Ok(()),
+        Err(AllocError) => Err(PutError::Memory),
+    }
+}
+
+/// Puts a record behind those before it, of which there may be an index. One item of evidence for each group of its set is
+/// put.
+pub(crate) fn put_record<S: LineSink>(
+    earlier: &[Record],
+    index: Option<&ConflictIndex>,
     made: &Record,
     sink: &mut S,
     waiting: &mut Vec<u8>,
 ) -> Result<(), PutError<S::Error>>
-    ensures { Puts (S.took sink.old sink.new) (S.stopped sink.old sink.new) waiting.old.items waiting.new.items (record_text made.now) result }
+    requires { IfSome index (λ i. CanShorten earlier.now made.now i.now) }
+    ensures { Puts (S.took sink.old sink.new) (S.stopped sink.old sink.new) waiting.old.items waiting.new.items (record_text (shortened earlier.now made.now)) result }
 {
     match made {
         Record::Conflict {
@@ -73,7 +116,7 @@ pub fn put_record<S: LineSink>(
         } => {
             put_set(Kind::Correction, set, sink, waiting)?;
             put_witness(0, witness, sink, waiting)?;
-            put_refutations(set.as_slice(), proofs, sink, waiting)
+            put_refutations(earlier, index, set, proofs, sink, waiting)
         }
     }
 }
@@ -93,19 +136,57 @@ fn put_witnesses<S: LineSink>(
     Ok(())
 }
 
-/// Of each group its refutation.
+/// Of each group its refutation, or the least number of an earlier conflict that serves.
 fn put_refutations<S: LineSink>(
-    groups: &[u32],
+    earlier: &[Record],
+    index: Option<&ConflictIndex>,
+    set: &GroupSet,
     proofs: &Proofs,
     sink: &mut S,
     waiting: &mut Vec<u8>,
 ) -> Result<(), PutError<S::Error>>
-    ensures { Puts (S.took sink.old sink.new) (S.stopped sink.old sink.new) waiting.old.items waiting.new.items (text_of (refutations_lines groups.now proofs.now)) result }
+    requires { IfSome index (λ i. FindsServing earlier.now set.now i.now) }
+    ensures { Puts (S.took sink.old sink.new) (S.stopped sink.old sink.new) waiting.old.items waiting.new.items (text_of (refutations_lines set.now (shortened_refutations earlier.now set.now set.now proofs.now))) result }
 {
+    let groups = set.as_slice();
     for at in 0..groups.len().min(proofs.len()) {
-        put_refutation(groups[at], proofs.at(at), sink, waiting)?;
+        let least = least_by(earlier, index, set, groups[at]);
+        put_shortened(groups[at], least, proofs.at(at), sink, waiting)?;
     }
     Ok(())
+}
+
+/// The least number of an earlier conflict that serves for a group of the correction.
+fn least_by(
+    earlier: &[Record],
+    index: Option<&ConflictIndex>,
+    set: &GroupSet,
+    group: u32,
+) -> Option<u64>
+    requires finds { IfSome index (λ i. FindsServing earlier.now set.now i.now) }
+    requires of_the_set { has set.now group ≡ true }
+    ensures { result ≡ least_serving earlier.now set.now group }
+{
+    match index {
+        Some(index) => index.least_serving(earlier, set, group),
+        None => least_serving(earlier, set, group),
+    }
+}
+
+/// The number of an earlier conflict, where there is one, and else the refutation as it is.
+fn put_shortened<S: LineSink>(
+    group: u32,
+    least: Option<u64>,
+    refutation: &Refutation,
+    sink: &mut S,
+    waiting: &mut Vec<u8>,
+) -> Result<(), PutError<S::Error>>
+    ensures { Puts (S.took sink.old sink.new) (S.stopped sink.old sink.new) waiting.old.items waiting.new.items (text_of (refutation_lines group (naming least refutation.now))) result }
+{
+    match least {
+        Some(number) => put_reference(group, number, sink, waiting),
+        None => put_refutation(group, refutation, sink, waiting),
+    }
 }
 
 /// The refutation of a group: a derivation, or the number of an earlier record.

@@ -5,6 +5,7 @@
 //! evidence           evidence that later calls change, below
 //! read               the text below is read and written again; `read 8 9` is of the evidence, with these lines of it
 //!                    replaced by those below
+//! shorten            the text as it is written where each record is written behind those before it
 //! head               its head is asked for twice
 //! audit              the text below is audited; `audit 8 9` likewise
 //! conflict 1 2       a record begins, with its set; `correction` likewise
@@ -68,7 +69,7 @@ impl Player for EvidencePlayer {
         match step.word(0) {
             "problem" => self.read_problem(alloc, step),
             "evidence" => self.read_evidence(alloc, step),
-            "read" | "head" | "audit" => match &self.problem {
+            "read" | "shorten" | "head" | "audit" => match &self.problem {
                 Some(problem) => call_text(problem, self.evidence.as_slice(), alloc, step, out),
                 None => Ok(false),
             },

@@ -18,6 +18,8 @@ use Rattle.evidence_rec.specs.Records.{kind_of, set_of, found_of, founds, IsShap
 use Rattle.evidence_rec.specs.Refusals.{at_line, steps_refusal, record_refusal}
 use Rattle.evidence_rec.specs.Seeding.{shows_all_explored}
 use Rattle.evidence_rec.specs.Held.{is_held, AreNew}
+use Rattle.evidence_rec.specs.Shorten.{shorten}
+use Rattle.evidence_rec.proofs.ShortenLemmas.{length-shorten, new-shorten, accepted-shorten}
 use Rattle.evidence_rec.proofs.VerdictLemmas.{none-parts, or-goes, steps-none, accepts-from_none, none-from_accepts}
 use Rattle.evidence_text.specs.declared.version.Version.{Version}
 use Rattle.evidence_text.specs.declared.version.Version.TheVariants.{Two}
@@ -30,7 +32,7 @@ use Rattle.evidence_text.specs.Reading.{Below, head_at, piece_at, offence}
 use Rattle.evidence_text.specs.Readable.{IsSmall, IsReadable, IsReadableEnd, HasRecordIds}
 use Rattle.evidence_text.specs.Laws.{ReadsAll, IsRead, CanHold}
 use Rattle.evidence_text.proofs.StandsLemmas.{piece-stands, head-stands}
-use Rattle.evidence_text.proofs.AcceptedLemmas.{records-readable, closing-readable}
+use Rattle.evidence_text.proofs.AcceptedLemmas.{records-readable, closing-readable, ids-shorten, closes-shorten}
 use Rattle.evidence_text.proofs.WholeLemmas.{text-is_read, texts-differ}
 use Rattle.gm_audit.specs.Refusals.{Contents, with_record, contents_by, contents_at, in_text, placed_refusal, records_refusal, empty_refusal, closing_refusal, ending_refusal, kept_in, contents_refusal, text_refusal, max_bytes, first_refusal}
 use Rattle.gm_audit.specs.Audits.{AuditYes}
@@ -299,3 +301,11 @@ written-is_yes p rs closing few accepted ids new closes =
       distinct = new;
       closes = ending.1;
     }
+
+pub shortened-is_yes : (p : Problem) (rs : List Record) (closing : Option Derivation) → length rs ≤ max_id
+    → AllAccepted p rs → AllByRecursion HasRecordIds rs → AreNew [] rs
+    → IfSome closing (λ d. (shows_all_explored p.groups (founds rs) d ≡ true) × HasIds d)
+    → AuditYes p (evidence_text Two p (shorten rs) closing) (shorten rs) (is_some closing)
+shortened-is_yes p rs closing few accepted ids new closes =
+    written-is_yes p (shorten rs) closing (subst (λ n. n ≤ max_id) (sym (length-shorten rs)) few) (accepted-shorten p rs accepted) (ids-shorten rs ids)
+    (new-shorten rs new) (closes-shorten p rs closing closes)

@@ -7,6 +7,7 @@ use Rattle.evidence_rec.specs.declared.record.Record.{Record}
 use Rattle.evidence_rec.specs.Records.{founds, AllAccepted}
 use Rattle.evidence_rec.specs.Seeding.{shows_all_explored}
 use Rattle.evidence_rec.specs.Held.{AreNew, AreExactlyAll}
+use Rattle.evidence_rec.specs.Shorten.{shorten}
 use Rattle.evidence_text.specs.declared.version.Version.{Version}
 use Rattle.evidence_text.specs.declared.version.Version.TheVariants.{Two}
 use Rattle.evidence_text.specs.declared.offence.Offence.{Offence}
@@ -81,3 +82,14 @@ WrittenIsYes =
     → AreNew [] records
     → IfSome closing (λ d. (shows_all_explored p.groups (founds records) d ≡ true) × HasIds d)
     → AuditYes p (evidence_text Two p records closing) records (is_some closing)
+
+-- and so is what is written of them where each is shortened behind those before it
+abbrev pub ShortenedIsYes : Type 0
+ShortenedIsYes =
+    (p : Problem) (records : List Record) (closing : Option Derivation)
+    → length records ≤ max_id
+    → AllAccepted p records
+    → AllByRecursion HasRecordIds records
+    → AreNew [] records
+    → IfSome closing (λ d. (shows_all_explored p.groups (founds records) d ≡ true) × HasIds d)
+    → AuditYes p (evidence_text Two p (shorten records) closing) (shorten records) (is_some closing)

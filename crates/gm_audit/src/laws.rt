@@ -1,5 +1,5 @@
 //! Laws over the definitions alone. Each is the contract of a function that has no code.
-ghost use Rattle.gm_audit.specs.Audits.{CompleteIsExact, NoneIsYes, YesIsOne, WrittenIsYes};
+ghost use Rattle.gm_audit.specs.Audits.{CompleteIsExact, NoneIsYes, YesIsOne, WrittenIsYes, ShortenedIsYes};
 
 /// Complete evidence shows all minimal sets, whoever wrote it.
 pub fn complete_is_exact()
@@ -11,4 +11,5 @@ pub fn yes_is_unrefused()
     ensures exactly { NoneIsYes }
     ensures one { YesIsOne }
     ensures written { WrittenIsYes }
+    ensures shortened { ShortenedIsYes }
 {}

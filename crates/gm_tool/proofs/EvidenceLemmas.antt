@@ -8,15 +8,15 @@ use Rattle.lrat_steps.specs.Log.{LogStep}
 use Rattle.evidence_rec.specs.declared.record.Record.{Record}
 use Rattle.evidence_rec.specs.Records.{founds, AllAccepted}
 use Rattle.evidence_rec.specs.Seeding.{shows_all_explored}
-use Rattle.evidence_text.specs.declared.version.Version.TheVariants.{Two}
-use Rattle.evidence_text.specs.Readable.{HasRecordIds, IsReadable, IsReadableEnd}
-use Rattle.evidence_text.proofs.AcceptedLemmas.{records-readable, closing-readable}
+use Rattle.evidence_rec.specs.Shorten.{shorten}
+use Rattle.gm_audit.specs.Audits.{AuditYes}
+use Rattle.gm_audit.proofs.YesLemmas.{shortened-is_yes}
 use Rattle.map_core.specs.declared.closing.Verdict.{Verdict}
 use Rattle.map_core.specs.declared.closing.Verdict.TheVariants as verdict
 use Rattle.map_core.specs.declared.closing.Closing.{Closing}
 use Rattle.gm_tool.specs.declared.enumeration.Bounds.{Bounds}
 use Rattle.gm_tool.specs.Closed.{IsClosedFor, is_complete}
-use Rattle.gm_tool.specs.Evidence.{IsValid, HasSmallIds}
+use Rattle.gm_tool.specs.Evidence.{evidence_of, IsValid, HasSmallIds}
 use Rattle.gm_tool.proofs.ReportLemmas.{of-problem, accepted-in, distinct-in}
 
 -- ---- what is left is valid
@@ -35,24 +35,18 @@ shown-by : (v : Verdict) (o : Option Derivation) (P Q : Derivation → Type 0)
 shown-by v None P Q m f = tt
 shown-by v (Some d) P Q m f = f d m.1
 
-end-readable : (p : Problem) (rs : List Record) (o : Option Derivation) → IfSome o (λ d. shows_all_explored p.groups (founds rs) d ≡ true) → IfSome o HasIds
-    → IsReadableEnd p o
-end-readable p rs None shows ids = tt
-end-readable p rs (Some d) shows ids = closing-readable p (founds rs) d shows ids
+-- what closes it, with its ids
+closes-by : (p : Problem) (rs : List Record) (o : Option Derivation) → IfSome o (λ d. shows_all_explored p.groups (founds rs) d ≡ true) → IfSome o HasIds
+    → IfSome o (λ d. (shows_all_explored p.groups (founds rs) d ≡ true) × HasIds d)
+closes-by p rs None shows ids = tt
+closes-by p rs (Some d) shows ids = (shows, ids)
 
 pub valid-from : {p : Problem} {first : List Record} {b : Bounds} {logs : List (List LogStep)} (closing : Closing) → IsClosedFor p first b logs closing
     → HasSmallIds closing → IsValid p closing
-valid-from {p} closing h small = record {
-  version = Two;
-  closing = closing.proof;
-  is_complete = complete-by closing.verdict closing.proof Shows h.left.closing_is.proof;
-  text_is = refl;
-  readable = records-readable p closing.records small.few (accepted-in h) small.records;
-  readable_end = end-readable p closing.records closing.proof closes small.proof;
-  accepted = accepted-in h;
-  distinct = distinct-in h;
-  closes = closes;
-}
+valid-from {p} closing h small =
+    subst (AuditYes p (evidence_of p closing) (shorten closing.records)) (sym (complete-by closing.verdict closing.proof Shows h.left.closing_is.proof))
+    (shortened-is_yes p closing.records closing.proof small.few (accepted-in h) small.records (distinct-in h)
+    (closes-by p closing.records closing.proof closes small.proof))
   where
     Shows : Derivation → Type 0
     Shows d = shows_all_explored h.left.state.opening.problem.groups (founds h.left.state.records) d ≡ true

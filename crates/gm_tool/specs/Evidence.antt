@@ -3,6 +3,7 @@ use Rattle.std.specs.Prelude.{IfSome, ℕ, ◌≤◌, List, length}
 use Rattle.std.specs.List.{AllByRecursion}
 use Rattle.sat_base.specs.Derivation.{HasIds, max_id}
 use Rattle.gm_base.specs.Problem.{Problem}
+use Rattle.evidence_rec.specs.Shorten.{shorten}
 use Rattle.evidence_text.specs.declared.version.Version.TheVariants.{Two}
 use Rattle.evidence_text.specs.Readable.{HasRecordIds}
 use Rattle.evidence_text.specs.Text.{evidence_text}
@@ -10,13 +11,14 @@ use Rattle.map_core.specs.declared.closing.Closing.{Closing}
 use Rattle.gm_audit.specs.Audits.{AuditYes}
 use Rattle.gm_tool.specs.Closed.{is_complete}
 
--- its records in the order in which they are held, and what closes them
+-- its records in the order in which they are held, where each correction names the least earlier conflict that serves, and
+-- what closes them
 abbrev pub evidence_of : Problem → Closing → List ℕ
-evidence_of p closing = evidence_text Two p closing.records closing.proof
+evidence_of p closing = evidence_text Two p (shorten closing.records) closing.proof
 
 -- it shows what each record says, and that none is missing where the enumeration is complete
 abbrev pub IsValid : Problem → Closing → Type 0
-IsValid p closing = AuditYes p (evidence_of p closing) closing.records (is_complete closing.verdict)
+IsValid p closing = AuditYes p (evidence_of p closing) (shorten closing.records) (is_complete closing.verdict)
 
 -- its ids, and the numbers of its records, are ones that a text can hold
 pub record HasSmallIds (closing : Closing) : Type 0 where

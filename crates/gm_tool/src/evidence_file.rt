@@ -9,6 +9,8 @@ ghost use Rattle.std.proofs.Common.{refl, ◌∙◌};
 ghost use Rattle.gm_ports.specs.Faults.{Rose};
 ghost use Rattle.gm_ports.specs.FilesState.{WritingLeaves};
 ghost use Rattle.gm_ports.specs.Told.{ToldAppends, ToldGrowsWithin};
+ghost use Rattle.evidence_rec.specs.Records.{AllAccepted};
+ghost use Rattle.evidence_rec.specs.Shorten.{shorten};
 ghost use Rattle.evidence_text.specs.declared.version.Version.TheVariants.{Two};
 ghost use Rattle.evidence_text.specs.Text.{evidence_text};
 ghost use Rattle.evidence_text.specs.Putting.{IsCut};
@@ -40,8 +42,9 @@ pub fn write_evidence<F: Files>(
     name: &str,
     files: &mut F,
 ) -> Result<(), CutOff>
-    ensures whole { OnOk result (IsWritten name.now (evidence_text Two problem.now records.now (option_map (λ d. d.now) closing.entry)) (F.state files.new)) }
-    ensures front { OnErr result (IsFront (evidence_text Two problem.now records.now (option_map (λ d. d.now) closing.entry)) (F.state files.new)) }
+    requires { AllAccepted problem.now records.now }
+    ensures whole { OnOk result (IsWritten name.now (evidence_text Two problem.now (shorten records.now) (option_map (λ d. d.now) closing.entry)) (F.state files.new)) }
+    ensures front { OnErr result (IsFront (evidence_text Two problem.now (shorten records.now) (option_map (λ d. d.now) closing.entry)) (F.state files.new)) }
     ensures cause { IfErr result (λ why. CutHasCause why (F.state files.old).write_faults (F.state files.new).write_faults) }
     ensures quiet { OnOk result ((F.state files.new).write_faults ≡ (F.state files.old).write_faults) }
     ensures leaves { WritingLeaves (λ n. n ≡ name.now) (F.state files.old) (F.state files.new) }
@@ -64,8 +67,9 @@ fn write_text<F: Files>(
     closing: Option<&Derivation>,
     files: &mut F,
 ) -> Result<(), CutOff>
-    ensures whole { OnOk result (IsTaken (F.state files.old) (F.state files.new) (evidence_text Two problem.now records.now (option_map (λ d. d.now) closing.entry))) }
-    ensures cut_off { IfErr result (IsCutOff (F.state files.old) (F.state files.new) (evidence_text Two problem.now records.now (option_map (λ d. d.now) closing.entry))) }
+    requires { AllAccepted problem.now records.now }
+    ensures whole { OnOk result (IsTaken (F.state files.old) (F.state files.new) (evidence_text Two problem.now (shorten records.now) (option_map (λ d. d.now) closing.entry))) }
+    ensures cut_off { IfErr result (IsCutOff (F.state files.old) (F.state files.new) (evidence_text Two problem.now (shorten records.now) (option_map (λ d. d.now) closing.entry))) }
 {
     let mut outlet = Outlet { files };
     outlet.write_text(alloc, problem, records, closing)
@@ -86,12 +90,13 @@ impl<'a, F: Files> Outlet<'a, F> {
         records: &[Record],
         closing: Option<&Derivation>,
     ) -> Result<(), CutOff>
+        requires { AllAccepted problem.now records.now }
         ensures same_files { self.new.files.ghost_name ≡ self.old.files.ghost_name }
-        ensures whole { OnOk result (IsTaken (F.state self.old.files.now) (F.state self.new.files.now) (evidence_text Two problem.now records.now (option_map (λ d. d.now) closing.entry))) }
-        ensures cut_off { IfErr result (IsCutOff (F.state self.old.files.now) (F.state self.new.files.now) (evidence_text Two problem.now records.now (option_map (λ d. d.now) closing.entry))) }
+        ensures whole { OnOk result (IsTaken (F.state self.old.files.now) (F.state self.new.files.now) (evidence_text Two problem.now (shorten records.now) (option_map (λ d. d.now) closing.entry))) }
+        ensures cut_off { IfErr result (IsCutOff (F.state self.old.files.now) (F.state self.new.files.now) (evidence_text Two problem.now (shorten records.now) (option_map (λ d. d.now) closing.entry))) }
     {
         let mut waiting = Vec::new(alloc);
-        match put_evidence(problem, records, closing, self, &mut waiting) {
+        match put_evidence(alloc, problem, records, closing, self, &mut waiting) {
             Ok(()) => {}
             Err(PutError::Memory) => return Err(CutOff::Memory),
             Err(PutError::Sink(Failed)) => return Err(CutOff::Failed),

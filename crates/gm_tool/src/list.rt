@@ -1,6 +1,7 @@
 //! The command `list`: it reads a file, and evidence that is to be gone on from, finds all minimal sets, and writes the
 //! evidence, where it is asked for, and then the report.
 ghost use Rattle.std.specs.Prelude.{◌≡◌, Some, IfOk, IfErr, OnOk, OnErr};
+ghost use Rattle.evidence_rec.specs.Records.{AllAccepted};
 ghost use Rattle.gm_words.specs.Requests.{AreGoodJobs, asked_by, text_of};
 ghost use Rattle.gm_tool.specs.Closed.{is_complete, report_for};
 ghost use Rattle.gm_tool.specs.Outside.{outside};
@@ -139,6 +140,7 @@ fn write_asked<F: Files>(
     closing: &Closing,
     files: &mut F,
 ) -> Result<(), CutOff>
+    requires { AllAccepted problem.now closing.now.records }
     ensures whole { OnOk result (IsEvidenceWhole problem.now (text_of asked.entry) closing.now (F.state files.old) (F.state files.new)) }
     ensures front { OnErr result (IsEvidenceFront problem.now (text_of asked.entry) closing.now (F.state files.old) (F.state files.new)) }
     ensures cause { IfErr result (λ why. CutHasCause why (F.state files.old).write_faults (F.state files.new).write_faults) }

@@ -1,7 +1,7 @@
 //! Evidence is read, and what was read is written again.
 ghost use Rattle.std.specs.Prelude.{◌≡◌, true, IfOk};
 
-use evidence_rec::Record;
+use evidence_rec::{Record, Records};
 use evidence_text::{Answer, EvidenceReader, Offence, write_end, write_head, write_record};
 use gm_base::{Derivation, Problem};
 use std::alloc::{AllocError, Global};
@@ -18,11 +18,13 @@ pub enum Outcome {
     Endless,
 }
 
-/// What is read of a text is written behind the others, up to the offence, if there is one.
+/// What is read of a text is written, up to the offence, if there is one: each record behind those before it, where these
+/// are kept, and else by itself.
 pub fn read_and_write(
     problem: &Problem,
     alloc: Global,
     text: &[u8],
+    keeps: bool,
     out: &mut Vec<u8>,
 ) -> Result<Outcome, AllocError> {
     let mut reader = match begin(problem, text) {
@@ -30,8 +32,9 @@ pub fn read_and_write(
         Err(offence) => return Ok(Outcome::Refused(offence)),
     };
     write_head(problem, out)?;
+    let mut earlier = Records::new(alloc);
     for _ in text {
-        if let Some(outcome) = write_next(alloc, &mut reader, out)? {
+        if let Some(outcome) = write_next(alloc, &mut reader, keeps, &mut earlier, out)? {
             return Ok(outcome);
         }
     }
@@ -42,20 +45,32 @@ pub fn read_and_write(
 fn write_next(
     alloc: Global,
     reader: &mut EvidenceReader<'_>,
+    keeps: bool,
+    earlier: &mut Records,
     out: &mut Vec<u8>,
 ) -> Result<Option<Outcome>, AllocError>
     requires { reader.old.begun ≡ true }
     ensures { reader.new.begun ≡ true }
 {
     match following(alloc, reader)? {
-        Answer::Record(record) => write_on(&record, out),
+        Answer::Record(record) => write_on(record, keeps, earlier, out),
         Answer::End(closing) => write_closing(closing, out),
         Answer::Offence(offence) => outcome_of(alloc, reader, offence),
     }
 }
 
-fn write_on(record: &Record, out: &mut Vec<u8>) -> Result<Option<Outcome>, AllocError> {
-    write_record(record, out)?;
+fn write_on(
+    record: Record,
+    keeps: bool,
+    earlier: &mut Records,
+    out: &mut Vec<u8>,
+) -> Result<Option<Outcome>, AllocError> {
+    write_record(earlier, &record, out)?;
+    if keeps {
+        earlier.push(record)?;
+    } else {
+        drop(record);
+    }
     Ok(None)
 }
 

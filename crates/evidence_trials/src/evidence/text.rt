@@ -6,6 +6,7 @@ use gm_audit::{Audited, audit};
 use gm_base::{Kind, Problem};
 use lrat_check::{Counts, Mismatch, Why};
 use std::alloc::{AllocError, Global};
+use std::str;
 use trial_script::{Step, known, show};
 
 /// Makes a call that is about a text.
@@ -19,6 +20,7 @@ pub fn call_text(
     let text = text_of(alloc, evidence, step)?;
     match step.word(0) {
         "read" => show_reading(problem, alloc, text.as_slice(), out),
+        "shorten" => show_shortened(problem, alloc, text.as_slice(), out),
         "head" => show_head(problem, text.as_slice(), out),
         _ => show_audit(problem, alloc, text.as_slice(), out),
     }
@@ -56,11 +58,33 @@ fn show_reading(
     out: &mut String,
 ) -> Result<bool, AllocError> {
     let mut written = Vec::new(alloc);
-    match read_and_write(problem, alloc, text, &mut written)? {
+    match read_and_write(problem, alloc, text, false, &mut written)? {
         Outcome::Whole => show(likeness(text, written.as_slice()), out),
         Outcome::Refused(offence) => show_offence(offence, out),
         Outcome::Changed => show("refused, and otherwise when it was asked again", out),
         Outcome::Endless => show("more records than bytes", out),
+    }
+}
+
+/// Tells the text as it is written where each record is written behind those before it.
+fn show_shortened(
+    problem: &Problem,
+    alloc: Global,
+    text: &[u8],
+    out: &mut String,
+) -> Result<bool, AllocError> {
+    let mut written = Vec::new(alloc);
+    match read_and_write(problem, alloc, text, true, &mut written)? {
+        Outcome::Whole => show_text(written.as_slice(), out),
+        Outcome::Refused(offence) => show_offence(offence, out),
+        Outcome::Changed | Outcome::Endless => Ok(false),
+    }
+}
+
+fn show_text(text: &[u8], out: &mut String) -> Result<bool, AllocError> {
+    match str::from_utf8(text) {
+        Ok(text) => known(out.push_str(text)),
+        Err(_) => Ok(false),
     }
 }
 

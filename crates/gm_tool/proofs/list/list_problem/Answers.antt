@@ -1,11 +1,16 @@
 use Rattle.std.proofs.Common.{◌∙◌, refl, subst}
 use Rattle.gm_ports.specs.Told.{ToldAppends, ToldGrowsWithin}
 use Rattle.gm_tool.specs.Writing.{CutHasCause}
+use Rattle.gm_tool.proofs.ReportLemmas.{accepted-in}
 use Rattle.gm_tool.proofs.list.list_problem.Goals as goal
 
 -- nothing was opened where memory was wanting
 pub returns-in_default : goal.returns-in_default
 returns-in_default g c = refl
+
+-- what is left is accepted
+pub write_asked-requires : goal.write_asked-requires
+write_asked-requires g c = accepted-in c.in-Ok.ensures.over.left.closed
 
 -- the evidence could not be written to its end
 pub returns-in-Err-Failed : goal.returns-in-Err-Failed
