@@ -1,10 +1,10 @@
 -- Lemmas on columns.
-use Rattle.std.proofs.Common.{◌≡◌, ◌≢◌, ℕ, zero, suc, ◌+◌, ◌-◌, ◌*◌, ◌^◌, ◌/◌, ◌%◌, ◌<◌, ◌≤◌, min, max, Bool, true, false, not, ◌==◌, ◌&&◌, ◌||◌, cond, List, [], ◌∷◌, ◌++◌, length, take, drop, refl, sym, ◌∙◌, ap, ap₂, subst, inl, inr, arith, w64, eqb}
+use Rattle.std.proofs.Common.{◌≡◌, ◌≢◌, ℕ, zero, suc, ◌+◌, ◌-◌, ◌*◌, ◌^◌, ◌/◌, ◌%◌, ◌<◌, ◌≤◌, min, max, Bool, true, false, not, ◌==◌, ◌&&◌, ◌||◌, cond, List, [], ◌∷◌, length, take, drop, refl, sym, ◌∙◌, ap, subst, inl, inr, arith, w64, eqb}
 use Rattle.std.specs.Prelude.{ℤ, pos, negsuc, slice_index_or, None, All, bit_and, bit_or}
 use Rattle.std.specs.Int.{bit_at, bit_not}
 use Rattle.std.specs.List.{list_all}
 use Rattle.std.proofs.lemmas.Bool.{cases_eq, and_parts, and_from, eq-eqb}
-use Rattle.std.proofs.lemmas.List.{get_or-map, get_or-take, get_or-drop, get_or_append_left, get_or-append-add, length-append, take_all, take_more, map-append}
+use Rattle.std.proofs.lemmas.List.{get_or-map, get_or-take, get_or-drop, take_all}
 use Rattle.std.proofs.lemmas.Nat.Bits.{bit_at-lt, bit_at-zero, bit_at_or, bit_at_and, bit_at_not, bit_at_set_same, bit_at_set_other}
 use Rattle.sat_base.specs.Literals.{var_of, literal_true}
 use Rattle.gm_base.specs.Sets.{without}
@@ -13,7 +13,7 @@ use Rattle.gm_base.specs.Index.{group_true}
 use Rattle.gm_base.specs.Evidence.{is_witness}
 use Rattle.gm_base.proofs.IndexLemmas.{satisfies-from_groups}
 use Rattle.evidence_rec.specs.Refusals.{witnesses_refusal}
-use Rattle.evidence_rec.specs.Columns.{is_set, assignment, AreWords, IsWitnessAt}
+use Rattle.evidence_rec.specs.Columns.{is_set, assignment, IsWitnessAt}
 
 greater : (x y : ℕ) → x < 2 → y < 2 → (max x y == 1) ≡ ((x == 1) || (y == 1))
 greater zero zero l m = refl
