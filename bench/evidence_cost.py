@@ -30,9 +30,9 @@ multiplier     64   3
 colour         60   1
 colour         64   2
 net            1000 1
-net            2000 3
-parity         30   1
+net            1500 1
 parity         40   2
+parity         50   1
 tripled        120  1
 tripled        180  1
 miter          220  1
