@@ -64,7 +64,7 @@ all_false falses c m nil i = elim (cases_Bool (contains_lit falses m)) [
     by [] t i = i
     by (x ∷ xs) t i = false≢true t
 
-only_member : (m l : ℤ) (xs : List ℤ) → In m xs → only_lit xs ≡ Some l → m ≡ l
+pub only_member : (m l : ℤ) (xs : List ℤ) → In m xs → only_lit xs ≡ Some l → m ≡ l
 only_member m l [] h e = absurd h
 only_member m l (x ∷ xs) h e = here (list_all (int_eq x) xs) refl e
   where
@@ -74,7 +74,7 @@ only_member m l (x ∷ xs) h e = here (list_all (int_eq x) xs) refl e
         let head : x ≡ l = cc in
         elim h [ inl first ↦ first ∙ head | inr later ↦ sym (int_eq-from x m (all_at (int_eq x) xs m same later)) ∙ head ]
 
-only_in : (l : ℤ) (xs : List ℤ) → only_lit xs ≡ Some l → In l xs
+pub only_in : (l : ℤ) (xs : List ℤ) → only_lit xs ≡ Some l → In l xs
 only_in l [] is = cc
 only_in l (x ∷ xs) is = by (list_all (int_eq x) xs) is
   where
@@ -82,7 +82,7 @@ only_in l (x ∷ xs) is = by (list_all (int_eq x) xs) is
     by true e = let same : l ≡ x = cc in inl same
     by false e = cc
 
-only_from : (l : ℤ) (xs : List ℤ) → In l xs → ((m : ℤ) → In m xs → m ≡ l) → only_lit xs ≡ Some l
+pub only_from : (l : ℤ) (xs : List ℤ) → In l xs → ((m : ℤ) → In m xs → m ≡ l) → only_lit xs ≡ Some l
 only_from l [] i same = absurd i
 only_from l (x ∷ xs) i same =
     let here : x ≡ l = same x (inl refl) in

@@ -52,7 +52,7 @@ left_out-true p set (suc g) some =
     ∙ ap (λ b. b && not (has set (suc (p.vars + g) - p.vars))) (lt-ltb p.vars (suc (p.vars + g)) (omega arith))
     ∙ ap (λ n. not (has set n)) back
 
-clause-settled : (p : Problem) (set : List ℕ) (c : Clause) → IsClause p.vars p.groups c → is_settled p.vars set (with_selector p c) ≡ not (is_present set c)
+pub clause-settled : (p : Problem) (set : List ℕ) (c : Clause) → IsClause p.vars p.groups c → is_settled p.vars set (with_selector p c) ≡ not (is_present set c)
 clause-settled p set c ok = elim (cases_Bool (eqb c.group 0)) [
   | inl background ↦
       ap (is_settled p.vars set) (cond-true (eqb c.group 0) c.lits (c.lits ++ left_out p c.group ∷ []) background) ∙ plain-unsettled p.vars set c.lits ok.lits
@@ -70,7 +70,7 @@ clause-settled p set c ok = elim (cases_Bool (eqb c.group 0)) [
     or_false true = refl
     or_false false = refl
 
-clause-bared : (p : Problem) (c : Clause) → IsClause p.vars p.groups c → bared p.vars (with_selector p c) ≡ c.lits
+pub clause-bared : (p : Problem) (c : Clause) → IsClause p.vars p.groups c → bared p.vars (with_selector p c) ≡ c.lits
 clause-bared p c ok = elim (cases_Bool (eqb c.group 0)) [
   | inl background ↦ ap (bared p.vars) (cond-true (eqb c.group 0) c.lits (c.lits ++ left_out p c.group ∷ []) background) ∙ plain-bared p.vars c.lits ok.lits
   | inr grouped ↦

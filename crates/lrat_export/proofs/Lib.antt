@@ -5,3 +5,6 @@ pub mod StepLemmas
 pub mod CnfLemmas
 pub mod RefutationLemmas
 pub mod WritingLemmas
+pub mod EntryLemmas
+pub mod OpenLemmas
+pub mod WalkLemmas

@@ -6,12 +6,7 @@ use Rattle.std.specs.Option.{option_map, option_map_or}
 use Rattle.std.proofs.lemmas.Bool.{eq-eqb, ne_eqb}
 use Rattle.sat_base.specs.Derivation.{clause_of}
 use Rattle.lrat_export.specs.Export.{Numbered, is_settled, bared, renumbered, stays}
-
--- the clauses that stay, under their numbers
-abbrev pub kept : List (ℕ × Option Numbered) → List (ℕ × List ℤ)
-kept [] = []
-kept ((id, None) ∷ es) = kept es
-kept ((id, Some c) ∷ es) = c ∷ kept es
+pub use Rattle.lrat_export.specs.Numbers.{kept, next_number}
 
 -- what becomes of the clause of an id: it is true, or it stays under a number from this one on
 abbrev pub Becomes : ℕ → List ℕ → ℕ → List (ℕ × List ℤ) → List ℤ → Option Numbered → Type 0
@@ -31,10 +26,10 @@ raised : (vars : ℕ) (set : List ℕ) (number : ℕ) (first : List ℤ) (news :
 raised vars set number first news c None h = h
 raised vars set number first news c (Some k) h = (h.0, h.1, (let low = h.2 in omega arith), clause_of-later k.0 number first news (let low = h.2 in omega arith) ∙ h.3)
 
-stays-here : (e id : ℕ) (o : Option Numbered) (rest : List (ℕ × Option Numbered)) → eqb e id ≡ true → stays ((e, o) ∷ rest) id ≡ o
+pub stays-here : (e id : ℕ) (o : Option Numbered) (rest : List (ℕ × Option Numbered)) → eqb e id ≡ true → stays ((e, o) ∷ rest) id ≡ o
 stays-here e id o rest here = ap (λ b. option_map_or (λ (x : ℕ × Option Numbered). x.1) (cond b (Some (e, o)) (find (λ (x : ℕ × Option Numbered). eqb x.0 id) rest)) None) here
 
-stays-later : (e id : ℕ) (o : Option Numbered) (rest : List (ℕ × Option Numbered)) → eqb e id ≡ false → stays ((e, o) ∷ rest) id ≡ stays rest id
+pub stays-later : (e id : ℕ) (o : Option Numbered) (rest : List (ℕ × Option Numbered)) → eqb e id ≡ false → stays ((e, o) ∷ rest) id ≡ stays rest id
 stays-later e id o rest other = ap (λ b. option_map_or (λ (x : ℕ × Option Numbered). x.1) (cond b (Some (e, o)) (find (λ (x : ℕ × Option Numbered). eqb x.0 id) rest)) None) other
 
 pub becomes : (vars : ℕ) (set : List ℕ) (number : ℕ) (known : List (ℕ × List ℤ)) (id : ℕ) (c : List ℤ) → clause_of known id ≡ Some c
@@ -96,7 +91,7 @@ kept-append [] ys = refl
 kept-append ((id, None) ∷ xs) ys = kept-append xs ys
 kept-append ((id, Some c) ∷ xs) ys = ap (λ (es : List (ℕ × List ℤ)). c ∷ es) (kept-append xs ys)
 
-renumbered-append : (vars : ℕ) (set : List ℕ) (number : ℕ) (xs ys : List (ℕ × List ℤ))
+pub renumbered-append : (vars : ℕ) (set : List ℕ) (number : ℕ) (xs ys : List (ℕ × List ℤ))
     → renumbered vars set number (xs ++ ys) ≡ renumbered vars set number xs ++ renumbered vars set (number + length (kept (renumbered vars set number xs))) ys
 renumbered-append vars set number [] ys = ap (λ n. renumbered vars set n ys) (omega arith)
 renumbered-append vars set number (x ∷ xs) ys = by (is_settled vars set x.1) (renumbered-append vars set number xs ys) (renumbered-append vars set (number + 1) xs ys)
@@ -114,10 +109,6 @@ renumbered-append vars set number (x ∷ xs) ys = by (is_settled vars set x.1) (
         ∙ ap (λ n. renumbered vars set (number + 1) xs ++ renumbered vars set n ys)
         (let count : ℕ = length (kept (renumbered vars set (number + 1) xs)) in
         let same : number + 1 + count ≡ number + suc count = omega arith in same))
-
--- so many stay of clauses, so the next one gets the number behind
-abbrev pub next_number : ℕ → List ℕ → List (ℕ × List ℤ) → ℕ
-next_number vars set known = 1 + length (kept (renumbered vars set 1 known))
 
 pub kept-settled : (vars : ℕ) (set : List ℕ) (known : List (ℕ × List ℤ)) (e : ℕ × List ℤ) → is_settled vars set e.1 ≡ true
     → kept (renumbered vars set 1 (known ++ e ∷ [])) ≡ kept (renumbered vars set 1 known)

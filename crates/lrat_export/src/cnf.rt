@@ -20,7 +20,7 @@ pub fn cnf_of(alloc: Global, problem: &Problem, set: &GroupSet) -> Result<Vec<u8
 }
 
 /// How many clauses are of the background or of a group of the set.
-fn count_present(problem: &Problem, set: &GroupSet) -> usize
+pub fn count_present(problem: &Problem, set: &GroupSet) -> usize
     ensures { result ≡ length (filter (is_present set.now) problem.now.clauses) }
 {
     let mut count = 0;
@@ -32,13 +32,13 @@ fn count_present(problem: &Problem, set: &GroupSet) -> usize
     count
 }
 
-fn is_present(clause: &Clause, set: &GroupSet) -> bool
+pub fn is_present(clause: &Clause, set: &GroupSet) -> bool
     ensures { result ≡ is_present set.now clause.now }
 {
     clause.group == 0 || set.contains(clause.group)
 }
 
-fn push_text(out: &mut Vec<u8>, text: &str) -> Result<(), AllocError>
+pub fn push_text(out: &mut Vec<u8>, text: &str) -> Result<(), AllocError>
     ensures { OnOk result (out.new.items ≡ out.old.items ++ text.now) }
 {
     out.extend_from_slice(text.as_bytes())
@@ -91,7 +91,7 @@ fn push_each(out: &mut Vec<u8>, lits: &[Lit]) -> Result<(), AllocError>
     Ok(())
 }
 
-fn push_lit(out: &mut Vec<u8>, lit: Lit) -> Result<(), AllocError>
+pub fn push_lit(out: &mut Vec<u8>, lit: Lit) -> Result<(), AllocError>
     ensures { OnOk result (out.new.items ≡ out.old.items ++ (signed_decimal lit ++ codes " ")) }
 {
     put_number(out, i128::from(lit.number()))?;

@@ -1,0 +1,9 @@
+use Rattle.std.proofs.Common.{take}
+use Rattle.sat_base.specs.Derivation.{numbered}
+use Rattle.gm_base.specs.Evidence.{selector_form}
+use Rattle.lrat_export.specs.Numbers.{AreEntries}
+use Rattle.lrat_export.proofs.numbering.number_inputs.Given as goal
+
+-- the clauses so far have their entries
+abbrev pub invariant-loop-at : goal.invariant-loop-at
+invariant-loop-at l = AreEntries l.problem.vars l.set (numbered 1 (take l.at (selector_form l.problem))) l.entries.items l.next
