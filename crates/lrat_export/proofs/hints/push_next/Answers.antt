@@ -3,7 +3,7 @@ use Rattle.std.specs.Prelude.{ℤ, neg_ℤ}
 use Rattle.lrat_check.specs.Marks.{place_of, AreMarked}
 use Rattle.lrat_check.proofs.MarkLemmas.{place_within, literal_negated, marked_more}
 use Rattle.lrat_export.specs.Export.{known_of}
-use Rattle.lrat_export.proofs.WalkLemmas.{walked-goes, walked-makes}
+use Rattle.lrat_export.proofs.WalkLemmas.{walked-goes, walked-makes, walked-ends}
 use Rattle.lrat_export.proofs.hints.push_next.Goals as goal
 
 -- the literal that becomes true has a place, and so has its negation
@@ -29,3 +29,10 @@ returns-in_ok-push_hint-in-Makes-clause-walked c = λ falses are.
     walked-makes (known_of source.problem.now source.set.now source.proof.now) falses c.args.hint c.in-Makes.number lit c.args.out.now.items c.push_hint.new.out.items c.mark.new.self
     (c.in-Makes.ensures.is falses are) c.in_ok-push_hint-in-Makes.ensures
     (subst (λ (ms : List Bool). AreMarked ms (neg_ℤ lit ∷ falses)) (sym is) (marked_more c.args.marks.now falses (neg_ℤ lit) within are))
+
+-- nothing may stand behind it
+pub returns-in_ok-push_hint-in-Ends-clause-walked : goal.returns-in_ok-push_hint-in-Ends-clause-walked
+returns-in_ok-push_hint-in-Ends-clause-walked c = λ falses are.
+    let source = c.args.source in
+    walked-ends (known_of source.problem.now source.set.now source.proof.now) falses c.args.hint c.in-Ends.number c.args.out.now.items c.push_hint-in-Ends.new.out.items c.args.marks.now
+    (c.in-Ends.ensures.is falses are) c.in_ok-push_hint-in-Ends.ensures
