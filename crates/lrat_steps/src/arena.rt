@@ -1,21 +1,8 @@
-//! Adding to lists whose lengths and numbers fit 32 bits. What does not fit is answered as want of memory.
-ghost use Rattle.std.specs.Prelude.{◌≡◌, ◌+◌, ◌++◌, ◌<◌, ◌^◌, ◌↔◌, All, IsTrue, IfOk, OnOk, OnErr};
+//! Adding to lists of literals and of hints in 32 bits. What does not fit is answered as want of memory.
+ghost use Rattle.std.specs.Prelude.{◌≡◌, ◌++◌, ◌<◌, ◌^◌, ◌↔◌, All, IsTrue, OnOk, OnErr};
 
 use sat_base::Lit;
 use std::alloc::AllocError;
-
-/// Where a list of this length ends once so many more were added.
-pub fn end_of(len: usize, more: usize) -> Result<u32, AllocError>
-    ensures { IfOk result (λ end. end ≡ len + more) }
-{
-    let Some(end) = len.checked_add(more) else {
-        return Err(AllocError);
-    };
-    let Ok(end) = u32::try_from(end) else {
-        return Err(AllocError);
-    };
-    Ok(end)
-}
 
 /// Adds literals and hints at the ends of their lists, all or none.
 pub fn push_both(

@@ -18,11 +18,11 @@ ghost use Rattle.lrat_steps.specs.Cone.{inputs_up_to, IsBackward};
 ghost use Rattle.lrat_steps.specs.Honest.{IsHonest};
 ghost use Rattle.lrat_steps.specs.Trimmed.{IsTrimmed};
 
-use crate::arena::{end_of, push_both};
+use crate::arena::push_both;
 use crate::cone::cone_of;
 use crate::renumber::derivation_of;
 use crate::step::{LogStep, Parts, StepKind, counts_of, parts_of};
-use sat_base::{Derivation, Lit};
+use sat_base::{Derivation, Lit, end_of};
 use std::alloc::{AllocError, Global};
 use std::marker::Model;
 

@@ -4,6 +4,7 @@ pub mod Derivation
 pub mod Database
 pub mod Units
 pub mod Work
+pub mod Cuts
 pub mod Spans
 pub mod Bits
 pub mod Forgotten

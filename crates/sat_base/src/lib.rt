@@ -22,6 +22,7 @@
 //! which stands on this crate.
 #![tactic(auto)]
 
+mod arena;
 mod assign;
 mod bits;
 mod crossing;
@@ -32,6 +33,7 @@ mod row;
 mod steps;
 mod worklist;
 
+pub use arena::end_of;
 pub use assign::{Assign, AssignBuilder};
 pub use derivation::{Derivation, DerivationBuilder};
 pub use lit::{Lit, Lits};

@@ -1,10 +1,13 @@
 //! Steps of a derivation.
 //!
 //! The literals of all steps stand one after another, and so do their hints, so that steps of any number are three pieces
-//! of memory.
-ghost use Rattle.std.specs.Prelude.{◌≡◌, ◌≤◌, ◌<◌, [], ◌∷◌, ◌++◌, All, Some, OnOk, OnErr, length, slice_get};
+//! of memory. Of each step a small span says where its own end: they begin where those of the step before it end, so no
+//! beginning is kept.
+ghost use Rattle.std.specs.Prelude.{◌≡◌, ◌≤◌, ◌<◌, [], ◌∷◌, ◌++◌, All, Some, OnOk, OnErr, length, slice_get, slice_index_or};
 ghost use Rattle.sat_base.specs.Derivation.{max_id, HasIds};
+ghost use Rattle.sat_base.specs.Cuts.{start};
 
+use crate::arena::{end_of, push_both};
 use crate::lit::Lit;
 use std::alloc::{AllocError, Global};
 use std::marker::Model;
@@ -18,14 +21,12 @@ pub struct Step<'a> {
     pub hints: &'a [u64],
 }
 
-// Where a step's literals and hints begin and end among those of all steps.
+// The id of a step, and where its literals and hints end among those of all steps.
 #[derive(Clone, Copy)]
 struct StepSpan {
     id: u64,
-    lits_from: usize,
-    lits_to: usize,
-    hints_from: usize,
-    hints_to: usize,
+    lits_to: u32,
+    hints_to: u32,
 }
 
 /// Steps in the order in which they were added.
@@ -61,27 +62,21 @@ impl Steps {
         }
     }
 
-    /// Adds a step at the end.
+    /// Adds a step at the end. What doesn't fit is answered as want of memory.
     pub(crate) fn push(&mut self, id: u64, lits: &[Lit], hints: &[u64]) -> Result<(), AllocError>
         requires id { id ≤ max_id }
         requires hints { All (λ h. h ≤ max_id) hints.now }
         ensures ok { OnOk result (self.new ≡ self.old ++ record { id = id; lits = lits.now; hints = hints.now } ∷ []) }
         ensures err { OnErr result (self.new ≡ self.old) }
     {
-        let lits_from = self.lits.len();
-        let hints_from = self.hints.len();
+        let lits_to = end_of(self.lits.len(), lits.len())?;
+        let hints_to = end_of(self.hints.len(), hints.len())?;
         // Room first, so that all is as it was where there is none.
         self.spans.reserve(1)?;
-        self.lits.reserve(lits.len())?;
-        self.hints.extend_from_slice(hints)?;
-        self.lits.extend_from_slice(lits)?;
-        let lits_to = self.lits.len();
-        let hints_to = self.hints.len();
+        push_both(&mut self.lits, &mut self.hints, lits, hints)?;
         self.spans.push_reserved(StepSpan {
             id,
-            lits_from,
             lits_to,
-            hints_from,
             hints_to,
         });
         Ok(())
@@ -107,11 +102,12 @@ impl Steps {
         requires { at < length self.now }
         ensures { slice_get self.now at ≡ Some (record { id = result.id; lits = result.lits.now; hints = result.hints.now }) }
     {
+        let before = span_before(self.spans.as_slice(), at);
         let span = self.spans[at];
         Step {
             id: span.id,
-            lits: &self.lits[span.lits_from..span.lits_to],
-            hints: &self.hints[span.hints_from..span.hints_to],
+            lits: &self.lits[before.lits_to as usize..span.lits_to as usize],
+            hints: &self.hints[before.hints_to as usize..span.hints_to as usize],
         }
     }
 
@@ -122,4 +118,19 @@ impl Steps {
     {
         let _spans = &self.spans;
     }
+}
+
+// The span before a place. Before the first one nothing stands.
+fn span_before(spans: &[StepSpan], at: usize) -> StepSpan
+    requires { at ≤ length spans.now }
+    ensures { result ≡ slice_index_or (start ∷ spans.now) at start }
+{
+    if at == 0 {
+        return StepSpan {
+            id: 0,
+            lits_to: 0,
+            hints_to: 0,
+        };
+    }
+    spans[at - 1]
 }

@@ -5,7 +5,4 @@ use Rattle.sat_base.proofs.steps.Steps.ids_fit.Goals as goal
 
 -- each number was small when it was put in
 pub returns : goal.returns
-returns c =
-    let d = c.self.inside in
-    subst (λ ss. HasIds (record { steps = ss; goal = c.args.goal })) c.self.view_is
-    (ids_of d.lits.items d.hints.items d.spans.items c.args.goal c.self.invariant.spans c.self.invariant.hints c.requires)
+returns c = subst (λ ss. HasIds (record { steps = ss; goal = c.args.goal })) c.self.view_is (ids_of c.self.inside c.args.goal c.self.invariant c.requires)

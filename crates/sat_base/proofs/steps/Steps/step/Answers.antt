@@ -1,18 +1,60 @@
-use Rattle.std.proofs.Common.{◌≡◌, ◌<◌, ℕ, List, Some, length, sym, ap, ap₂, ◌∙◌, subst}
-use Rattle.std.proofs.lemmas.List.{length-map}
-use Rattle.std.specs.Prelude.{ℤ, slice_get, slice_range}
-use Rattle.sat_base.specs.Derivation.{Step}
-use Rattle.sat_base.specs.Spans.{step_of}
-use Rattle.sat_base.proofs.SpanLemmas.{step_at}
+use Rattle.std.proofs.Common.{◌∙◌, ℕ, List, Some, length, sym, ap, ap₂, arith}
+use Rattle.std.specs.Prelude.{ℤ, slice_range}
+use Rattle.sat_base.specs.declared.steps.StepSpan.{StepSpan}
+use Rattle.sat_base.proofs.SpanLemmas.{spans_count, read_at}
 use Rattle.sat_base.proofs.steps.Steps.step.Goals as goal
 
--- what is lent is the step of the span at the place
+-- each step has a span
+pub span_before-before-requires : goal.span_before-before-requires
+span_before-before-requires c =
+    let count = spans_count c.self.inside c.args.self.now c.self.view_is in
+    let all = ap (λ (spans : List StepSpan). length spans) c.as_slice.ensures.value in
+    omega arith
+
+pub index-span-requires : goal.index-span-requires
+index-span-requires c = let count = spans_count c.self.inside c.args.self.now c.self.view_is in omega arith
+
+-- which says, with the one before it, where its literals and hints lie
+pub slice_bounds-result-count : goal.slice_bounds-result-count
+slice_bounds-result-count c =
+    (read_at c.self.inside c.args.self.now c.args.at c.as_slice.result.now c.span_before-before.result c.index-span.result.now c.self.invariant c.self.view_is c.requires
+    c.as_slice.ensures.value c.span_before-before.ensures c.index-span.ensures).cut.lits_ordered
+
+pub slice_bounds-result-start : goal.slice_bounds-result-start
+slice_bounds-result-start c =
+    (read_at c.self.inside c.args.self.now c.args.at c.as_slice.result.now c.span_before-before.result c.index-span.result.now c.self.invariant c.self.view_is c.requires
+    c.as_slice.ensures.value c.span_before-before.ensures c.index-span.ensures).cut.lits_ordered
+
+pub slice_bounds-result-end : goal.slice_bounds-result-end
+slice_bounds-result-end c =
+    let within = (read_at c.self.inside c.args.self.now c.args.at c.as_slice.result.now c.span_before-before.result c.index-span.result.now c.self.invariant c.self.view_is c.requires
+    c.as_slice.ensures.value c.span_before-before.ensures c.index-span.ensures).cut.lits_within in
+    let all = ap length c.deref.ensures.value in
+    omega arith
+
+pub slice_bounds-result-count-2 : goal.slice_bounds-result-count-2
+slice_bounds-result-count-2 c =
+    (read_at c.self.inside c.args.self.now c.args.at c.as_slice.result.now c.span_before-before.result c.index-span.result.now c.self.invariant c.self.view_is c.requires
+    c.as_slice.ensures.value c.span_before-before.ensures c.index-span.ensures).cut.hints_ordered
+
+pub slice_bounds-result-start-2 : goal.slice_bounds-result-start-2
+slice_bounds-result-start-2 c =
+    (read_at c.self.inside c.args.self.now c.args.at c.as_slice.result.now c.span_before-before.result c.index-span.result.now c.self.invariant c.self.view_is c.requires
+    c.as_slice.ensures.value c.span_before-before.ensures c.index-span.ensures).cut.hints_ordered
+
+pub slice_bounds-result-end-2 : goal.slice_bounds-result-end-2
+slice_bounds-result-end-2 c =
+    let within = (read_at c.self.inside c.args.self.now c.args.at c.as_slice.result.now c.span_before-before.result c.index-span.result.now c.self.invariant c.self.view_is c.requires
+    c.as_slice.ensures.value c.span_before-before.ensures c.index-span.ensures).cut.hints_within in
+    let all = ap length c.deref-2.ensures.value in
+    omega arith
+
+-- and what is lent is the step there
 pub returns : goal.returns
 returns c =
-    let d = c.self.inside in
+    let b = c.span_before-before.result in
     let s = c.index-span.result.now in
-    let size : length c.args.self.now ≡ length d.spans.items = ap length (sym c.self.view_is) ∙ length-map d.spans.items (step_of d.lits.items d.hints.items) in
-    ap (λ (steps : List Step). slice_get steps c.args.at) (sym c.self.view_is)
-    ∙ step_at d.lits.items d.hints.items d.spans.items c.args.at s c.index-span.ensures (subst (λ (n : ℕ). c.args.at < n) size c.requires)
-    ∙ ap₂ (λ (ls : List ℤ) (hs : List ℕ). Some (record { id = s.id; lits = slice_range ls s.lits_from s.lits_to; hints = slice_range hs s.hints_from s.hints_to }))
+    (read_at c.self.inside c.args.self.now c.args.at c.as_slice.result.now c.span_before-before.result c.index-span.result.now c.self.invariant c.self.view_is c.requires
+    c.as_slice.ensures.value c.span_before-before.ensures c.index-span.ensures).step
+    ∙ ap₂ (λ (ls : List ℤ) (hs : List ℕ). Some (record { id = s.id; lits = slice_range ls b.lits_to s.lits_to; hints = slice_range hs b.hints_to s.hints_to }))
     (sym c.deref.ensures.value) (sym c.deref-2.ensures.value)
