@@ -10,6 +10,7 @@
 ghost use Rattle.std.specs.Prelude.{◌≡◌, ◌+◌, ◌<◌, ℕ, true, List, [], ◌∷◌, ◌++◌, codes, length, map, IfSome, OnOk};
 ghost use Rattle.std.specs.List.{flat_map};
 ghost use Rattle.std.specs.Option.{option_map};
+ghost use Rattle.sat_base.specs.Hints.{ids_of};
 ghost use Rattle.gm_base.specs.Sets.{has};
 ghost use Rattle.evidence_rec.specs.Records.{set_of, AllAccepted};
 ghost use Rattle.evidence_rec.specs.Shorten.{least_serving, naming, shortened_refutations, shortened, shorten};
@@ -277,7 +278,7 @@ fn put_step<S: LineSink>(
     sink: &mut S,
     waiting: &mut Vec<u8>,
 ) -> Result<(), PutError<S::Error>>
-    ensures { Puts (S.took sink.old sink.new) (S.stopped sink.old sink.new) waiting.old.items waiting.new.items (line_text (step_line (record { id = step.entry.id; lits = step.entry.lits.now; hints = step.entry.hints.now }))) result }
+    ensures { Puts (S.took sink.old sink.new) (S.stopped sink.old sink.new) waiting.old.items waiting.new.items (line_text (step_line (record { id = step.entry.id; lits = step.entry.lits.now; hints = ids_of step.entry.hints }))) result }
 {
     let written = write_step(step, waiting);
     finish(written, sink, waiting)

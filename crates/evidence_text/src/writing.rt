@@ -4,10 +4,11 @@
 ghost use Rattle.std.specs.Prelude.{◌≡◌, ◌+◌, ◌<◌, [], ◌∷◌, ◌++◌, false, codes, if◌then◌else◌, length, slice_index_or, OnOk};
 ghost use Rattle.std.specs.List.{flat_map};
 ghost use Rattle.std.specs.Fmt.{decimal, signed_decimal};
+ghost use Rattle.sat_base.specs.Hints.{ids_of};
 ghost use Rattle.evidence_text.specs.Text.{line_text, head_text, set_line, step_line, goal_line, reference_line, witness_line, exhaustion_line, end_line, set_letter, trues_from};
 
 use crate::version::Version;
-use gm_base::{Assign, GroupSet, Kind, Lit, Problem, Step};
+use gm_base::{Assign, GroupSet, Hints, Kind, Lit, Problem, Step};
 use std::alloc::AllocError;
 use token_text::put_number;
 
@@ -36,11 +37,11 @@ fn push_groups(out: &mut Vec<u8>, groups: &[u32]) -> Result<(), AllocError>
 }
 
 /// Ids, each behind a blank.
-fn push_ids(out: &mut Vec<u8>, ids: &[u64]) -> Result<(), AllocError>
-    ensures { OnOk result (out.new.items ≡ out.old.items ++ flat_map (λ id. codes " " ++ decimal id) ids.now) }
+fn push_ids(out: &mut Vec<u8>, ids: Hints<'_>) -> Result<(), AllocError>
+    ensures { OnOk result (out.new.items ≡ out.old.items ++ flat_map (λ id. codes " " ++ decimal id) (ids_of ids.entry)) }
 {
-    for id in ids {
-        push_number(out, *id)?;
+    for at in 0..ids.len() {
+        push_number(out, ids.at(at))?;
     }
     Ok(())
 }
@@ -129,7 +130,7 @@ pub(crate) fn write_set(kind: Kind, set: &GroupSet, out: &mut Vec<u8>) -> Result
 
 /// Appends the line of a step of a derivation.
 pub(crate) fn write_step(step: Step<'_>, out: &mut Vec<u8>) -> Result<(), AllocError>
-    ensures { OnOk result (out.new.items ≡ out.old.items ++ line_text (step_line (record { id = step.entry.id; lits = step.entry.lits.now; hints = step.entry.hints.now }))) }
+    ensures { OnOk result (out.new.items ≡ out.old.items ++ line_text (step_line (record { id = step.entry.id; lits = step.entry.lits.now; hints = ids_of step.entry.hints }))) }
 {
     push_text(out, "d")?;
     push_number(out, step.id)?;

@@ -33,6 +33,8 @@ pub use group_set::GroupSet;
 pub use index::Placed;
 pub use kind::{Kind, Side};
 pub use problem::{Problem, clause_fits};
-pub use sat_base::{Assign, AssignBuilder, Derivation, DerivationBuilder, Lit, Lits, Purse, Step};
+pub use sat_base::{
+    Assign, AssignBuilder, Derivation, DerivationBuilder, Hints, Lit, Lits, Purse, Step,
+};
 pub use selectors::{selector, write_with_selector};
 pub use sets::Sets;

@@ -8,12 +8,13 @@ ghost use Rattle.std.specs.List.{AllByRecursion};
 ghost use Rattle.std.specs.Option.{option_copied};
 ghost use Rattle.sat_base.specs.Literals.{AreLiterals};
 ghost use Rattle.sat_base.specs.Derivation.{clause_of, numbered};
+ghost use Rattle.sat_base.specs.Hints.{ids_of};
 
 use crate::clauses::ClauseList;
 use crate::follow::clause_refusal;
 use crate::marks::Marks;
 use crate::why::Why;
-use sat_base::{Lit, Lits};
+use sat_base::{Hints, Lit, Lits};
 use std::alloc::{AllocError, Global};
 use std::marker::Model;
 
@@ -132,13 +133,13 @@ impl Checker {
 
     /// Checks a step, and keeps its clause under its id where it is accepted. Want of memory is answered only for a step
     /// that is accepted, and then it is not kept.
-    pub fn step(&mut self, id: u64, lits: &[Lit], hints: &[u64]) -> Result<Checked, AllocError>
-        ensures answer { IfOk result (λ checked. refusal_of checked ≡ step_refusal self.old.vars self.old.known id lits.now hints.now) }
-        ensures accepts { IfOk result (λ checked. (refusal_of checked ≡ None) ↔ IsStep self.old.vars self.old.known id lits.now hints.now) }
+    pub fn step(&mut self, id: u64, lits: &[Lit], hints: Hints<'_>) -> Result<Checked, AllocError>
+        ensures answer { IfOk result (λ checked. refusal_of checked ≡ step_refusal self.old.vars self.old.known id lits.now (ids_of hints.entry)) }
+        ensures accepts { IfOk result (λ checked. (refusal_of checked ≡ None) ↔ IsStep self.old.vars self.old.known id lits.now (ids_of hints.entry)) }
         ensures known { IfOk result (λ checked. self.new.known ≡ known_after checked self.old.known id lits.now) }
         ensures refused { IfOk result (λ checked. IsSome (refusal_of checked) → self.new ≡ self.old) }
         ensures err { OnErr result (self.new.known ≡ self.old.known) }
-        ensures only_accepted { OnErr result (IsStep self.old.vars self.old.known id lits.now hints.now) }
+        ensures only_accepted { OnErr result (IsStep self.old.vars self.old.known id lits.now (ids_of hints.entry)) }
         ensures succeeds { HasRoomFor self.old 1 (length lits.now) → IsOk result }
         ensures vars { self.new.vars ≡ self.old.vars }
         ensures inputs { self.new.inputs ≡ self.old.inputs }
@@ -153,9 +154,9 @@ impl Checker {
     }
 
     // Why a step is refused, or that it isn't.
-    fn refusal(&mut self, id: u64, lits: &[Lit], hints: &[u64]) -> Option<Why>
-        ensures answer { result ≡ step_refusal self.old.vars self.old.known id lits.now hints.now }
-        ensures accepts { (result ≡ None) ↔ IsStep self.old.vars self.old.known id lits.now hints.now }
+    fn refusal(&mut self, id: u64, lits: &[Lit], hints: Hints<'_>) -> Option<Why>
+        ensures answer { result ≡ step_refusal self.old.vars self.old.known id lits.now (ids_of hints.entry) }
+        ensures accepts { (result ≡ None) ↔ IsStep self.old.vars self.old.known id lits.now (ids_of hints.entry) }
         ensures same { self.new ≡ self.old }
     {
         if id <= self.clauses.last_id() {

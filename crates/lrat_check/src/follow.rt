@@ -7,6 +7,7 @@ ghost use Rattle.std.specs.Prelude.{◌≡◌, ◌↔◌, [], IsTrue, length, ne
 ghost use Rattle.std.specs.List.{list_any};
 ghost use Rattle.sat_base.specs.Literals.{AreLiterals};
 ghost use Rattle.sat_base.specs.Derivation.{contains_lit};
+ghost use Rattle.sat_base.specs.Hints.{ids_of};
 ghost use Rattle.lrat_check.specs.Refusal.{hints_refusal, clause_refusal};
 ghost use Rattle.lrat_check.specs.Marks.{HasPlaces, HavePlaces, AreMarked, unmarked, is_marked};
 ghost use Rattle.lrat_check.specs.Opened.{IsOpened};
@@ -14,18 +15,18 @@ ghost use Rattle.lrat_check.specs.Opened.{IsOpened};
 use crate::clauses::ClauseList;
 use crate::marks::Marks;
 use crate::why::Why;
-use sat_base::Lit;
+use sat_base::{Hints, Lit};
 
 /// Why a clause does not follow along the hints, with no literal marked at first. Marks stay behind.
 pub fn clause_refusal(
     clauses: &ClauseList,
     marks: &mut Marks,
     lits: &[Lit],
-    hints: &[u64],
+    hints: Hints<'_>,
 ) -> Option<Why>
     requires places { HasPlaces clauses.now.vars marks.old }
     requires clear { AreMarked marks.old [] }
-    ensures answer { result ≡ clause_refusal clauses.now.vars clauses.now.known lits.now hints.now }
+    ensures answer { result ≡ clause_refusal clauses.now.vars clauses.now.known lits.now (ids_of hints.entry) }
     ensures places { HasPlaces clauses.now.vars marks.new }
 {
     if !are_over(clauses.vars(), lits) {
@@ -106,15 +107,15 @@ fn look(marks: &Marks, clause: &[Lit]) -> Opened
 }
 
 // Why the hints don't lead to a false clause, where the marked literals are false.
-fn follow(clauses: &ClauseList, marks: &mut Marks, lits: &[Lit], hints: &[u64]) -> Option<Why>
+fn follow(clauses: &ClauseList, marks: &mut Marks, lits: &[Lit], hints: Hints<'_>) -> Option<Why>
     requires places { HasPlaces clauses.now.vars marks.old }
     requires marked { AreMarked marks.old lits.now }
-    ensures answer { result ≡ hints_refusal clauses.now.known lits.now hints.now }
+    ensures answer { result ≡ hints_refusal clauses.now.known lits.now (ids_of hints.entry) }
     ensures places { HasPlaces clauses.now.vars marks.new }
 {
-    for (i, hint) in hints.iter().enumerate() {
+    for i in 0..hints.len() {
         let last = i + 1 == hints.len();
-        let Some(clause) = clauses.clause(*hint) else {
+        let Some(clause) = clauses.clause(hints.at(i)) else {
             return Some(Why::UnknownHint);
         };
         match look(marks, clause) {

@@ -6,7 +6,7 @@
 //!
 //! ```text
 //! let mut checker = Checker::new(alloc, &inputs, vars)?;
-//! match checker.step(id, &lits, &hints)? {
+//! match checker.step(id, &lits, Hints::Wide(&hints))? {
 //!     Checked::Ok => ..,           // checker.clause(id) is this clause
 //!     Checked::Refused(why) => .., // nothing has changed
 //! }

@@ -1,6 +1,7 @@
 //! The hints that stay.
 ghost use Rattle.std.specs.Prelude.{◌≡◌, ℕ, ◌+◌, ◌<◌, [], ◌∷◌, ◌++◌, List, ℤ, Some, None, length, IfOk, IfSome, IfNone, OnOk, slice_index_or};
 ghost use Rattle.sat_base.specs.Derivation.{all_known};
+ghost use Rattle.sat_base.specs.Hints.{ids_of};
 ghost use Rattle.gm_base.specs.Evidence.{selector_form};
 ghost use Rattle.lrat_check.specs.Marks.{HasPlaces, AreMarked};
 ghost use Rattle.lrat_export.specs.Export.{bared, stays, known_of, hints_of};
@@ -11,7 +12,7 @@ use crate::cnf::push_text;
 use crate::looking::{Opened, look};
 use crate::marks::Marks;
 use crate::numbering::{Entry, find};
-use gm_base::{Derivation, GroupSet, Lit, Problem};
+use gm_base::{Derivation, GroupSet, Hints, Lit, Problem};
 use std::alloc::AllocError;
 use token_text::put_number;
 
@@ -47,16 +48,16 @@ pub fn push_hints(
     source: Source<'_>,
     marks: &mut Marks,
     lits: &[Lit],
-    hints: &[u64],
+    hints: Hints<'_>,
 ) -> Result<(), AllocError>
     requires numbers { AreNumbers source.problem.now source.set.now source.proof.now source.entries.now }
     requires places { HasPlaces source.problem.now.vars marks.old }
     requires marked { AreMarked marks.old (bared source.problem.now.vars lits.now) }
-    ensures text { OnOk result (out.new.items ≡ out.old.items ++ hints_text (hints_of (known_of source.entry.problem.now source.entry.set.now source.entry.proof.now) (bared source.entry.problem.now.vars lits.now) hints.now)) }
+    ensures text { OnOk result (out.new.items ≡ out.old.items ++ hints_text (hints_of (known_of source.entry.problem.now source.entry.set.now source.entry.proof.now) (bared source.entry.problem.now.vars lits.now) (ids_of hints.entry))) }
     ensures places { HasPlaces source.entry.problem.now.vars marks.new }
 {
-    for hint in hints {
-        let ended = push_next(out, source, marks, *hint)?;
+    for at in 0..hints.len() {
+        let ended = push_next(out, source, marks, hints.at(at))?;
         if ended {
             return Ok(());
         }

@@ -6,6 +6,7 @@
 ghost use Rattle.std.specs.Prelude.{◌≡◌, ℕ, ◌≤◌, ◌<◌, true, [], ◌∷◌, ◌++◌, length, List, codes, IfOk, OnOk};
 ghost use Rattle.std.specs.List.{flat_map};
 ghost use Rattle.std.specs.Fmt.{signed_decimal};
+ghost use Rattle.sat_base.specs.Hints.{ids_of};
 ghost use Rattle.gm_base.specs.Sets.{IsGroupSet};
 ghost use Rattle.gm_base.specs.Evidence.{refutes};
 ghost use Rattle.gm_base.specs.declared.kind.Kind.TheVariants.{Conflict};
@@ -131,7 +132,7 @@ fn push_if_stays(
 ) -> Result<u64, AllocError>
     requires numbers { AreNumbers source.problem.now source.set.now source.proof.now source.entries.now }
     requires places { HasPlaces source.problem.now.vars marks.old }
-    ensures text { IfOk result (λ next. GoesOn source.entry.problem.now.vars source.entry.set.now (known_of source.entry.problem.now source.entry.set.now source.entry.proof.now) out.old.items out.new.items number next (record { id = step.entry.id; lits = step.entry.lits.now; hints = step.entry.hints.now })) }
+    ensures text { IfOk result (λ next. GoesOn source.entry.problem.now.vars source.entry.set.now (known_of source.entry.problem.now source.entry.set.now source.entry.proof.now) out.old.items out.new.items number next (record { id = step.entry.id; lits = step.entry.lits.now; hints = ids_of step.entry.hints })) }
     ensures places { HasPlaces source.entry.problem.now.vars marks.new }
 {
     if is_settled(source.problem.vars(), source.set, step.lits) {
@@ -153,7 +154,7 @@ fn push_step(
 ) -> Result<(), AllocError>
     requires numbers { AreNumbers source.problem.now source.set.now source.proof.now source.entries.now }
     requires places { HasPlaces source.problem.now.vars marks.old }
-    ensures text { OnOk result (out.new.items ≡ out.old.items ++ step_text (record { id = number; lits = bared source.entry.problem.now.vars step.entry.lits.now; hints = hints_of (known_of source.entry.problem.now source.entry.set.now source.entry.proof.now) (bared source.entry.problem.now.vars step.entry.lits.now) step.entry.hints.now })) }
+    ensures text { OnOk result (out.new.items ≡ out.old.items ++ step_text (record { id = number; lits = bared source.entry.problem.now.vars step.entry.lits.now; hints = hints_of (known_of source.entry.problem.now source.entry.set.now source.entry.proof.now) (bared source.entry.problem.now.vars step.entry.lits.now) (ids_of step.entry.hints) })) }
     ensures places { HasPlaces source.entry.problem.now.vars marks.new }
 {
     let vars = source.problem.vars();

@@ -91,18 +91,18 @@ cut_at lits hints before (x ∷ xs) (suc at) b d s all before_is is within = cut
 
 -- what a place holds, where `b` is the span before that place and `s` the one there
 pub record IsRead (arenas : Inside) (steps : List Step) (at : ℕ) (b s : StepSpan) : Type 0 where
-  pub cut : IsCut (length arenas.lits.items) (length arenas.hints.items) b s
-  pub step : slice_get steps at ≡ Some (step_of arenas.lits.items arenas.hints.items b s)
+  pub cut : IsCut (length arenas.lits.items) (length arenas.hints) b s
+  pub step : slice_get steps at ≡ Some (step_of arenas.lits.items arenas.hints b s)
 
 -- a span for each step
 pub spans_count : (arenas : Inside) (steps : List Step) → steps_of arenas ≡ steps → length arenas.spans.items ≡ length steps
-spans_count arenas steps is = sym (length-steps arenas.lits.items arenas.hints.items start arenas.spans.items) ∙ ap (λ (xs : List Step). length xs) is
+spans_count arenas steps is = sym (length-steps arenas.lits.items arenas.hints start arenas.spans.items) ∙ ap (λ (xs : List Step). length xs) is
 
 pub read_at : (arenas : Inside) (steps : List Step) (at : ℕ) (spans : List StepSpan) (b s : StepSpan) → IsLaidOut arenas → steps_of arenas ≡ steps → at < length steps
     → spans ≡ arenas.spans.items → b ≡ get_or (start ∷ spans) at start → s ≡ get_or arenas.spans.items at s → IsRead arenas steps at b s
 read_at arenas steps at spans b s laid is lt spans_are before_is here =
     let lits = arenas.lits.items in
-    let hints = arenas.hints.items in
+    let hints = arenas.hints in
     let all = arenas.spans.items in
     let within : at < length all = omega (arith, spans_count arenas steps is) in
     let before : b ≡ get_or (start ∷ all) at start = before_is ∙ ap (λ (xs : List StepSpan). get_or (start ∷ xs) at start) spans_are in
@@ -128,8 +128,8 @@ hints_within lits hints before (s ∷ spans) small (suc k) d lt = hints_within l
 pub ids_of : (s : Inside) (goal : ℕ) → IsLaidOut s → goal ≤ max_id → HasIds (record { steps = steps_of s; goal = goal })
 ids_of s goal laid least =
     record {
-      ids = ids_within s.lits.items s.hints.items start s.spans.items laid.spans;
-      hints = hints_within s.lits.items s.hints.items start s.spans.items laid.hints;
+      ids = ids_within s.lits.items s.hints start s.spans.items laid.spans;
+      hints = hints_within s.lits.items s.hints start s.spans.items laid.hints;
       goal = least;
     }
 
@@ -137,9 +137,9 @@ ids_of s goal laid least =
 pub record IsPushed (old new : Inside) (s : StepSpan) (more_lits : List ℤ) (more_hints : List ℕ) : Type 0 where
   pub spans : new.spans.items ≡ old.spans.items ++ s ∷ []
   pub lits : new.lits.items ≡ old.lits.items ++ more_lits
-  pub hints : new.hints.items ≡ old.hints.items ++ more_hints
+  pub hints : new.hints ≡ old.hints ++ more_hints
   pub lits_to : s.lits_to ≡ length old.lits.items + length more_lits
-  pub hints_to : s.hints_to ≡ length old.hints.items + length more_hints
+  pub hints_to : s.hints_to ≡ length old.hints + length more_hints
   pub id : s.id ≤ max_id
   pub small : All (λ h. h ≤ max_id) more_hints
 
@@ -148,21 +148,21 @@ pub steps_pushed : (old new : Inside) (s : StepSpan) (more_lits : List ℤ) (mor
     → steps_of new ≡ steps_of old ++ record { id = s.id; lits = more_lits; hints = more_hints } ∷ []
 steps_pushed old new s more_lits more_hints laid p =
     let all_lits = length-append old.lits.items more_lits in
-    let all_hints = length-append old.hints.items more_hints in
+    let all_hints = length-append old.hints more_hints in
     ap₂ (λ (lits : List ℤ) (hints : List ℕ). steps_behind lits hints start new.spans.items) p.lits p.hints
-    ∙ ap (λ (spans : List StepSpan). steps_behind (old.lits.items ++ more_lits) (old.hints.items ++ more_hints) start spans) p.spans
-    ∙ steps_after_push old.lits.items more_lits old.hints.items more_hints start old.spans.items s laid.spans
+    ∙ ap (λ (spans : List StepSpan). steps_behind (old.lits.items ++ more_lits) (old.hints ++ more_hints) start spans) p.spans
+    ∙ steps_after_push old.lits.items more_lits old.hints more_hints start old.spans.items s laid.spans
     (omega (arith, p.lits_to)) (omega (arith, p.hints_to))
 
 pub laid_out_pushed : (old new : Inside) (s : StepSpan) (more_lits : List ℤ) (more_hints : List ℕ) → IsLaidOut old → IsPushed old new s more_lits more_hints → IsLaidOut new
 laid_out_pushed old new s more_lits more_hints laid p =
     let lits_to : s.lits_to ≡ length new.lits.items = p.lits_to ∙ sym (ap (λ (ls : List ℤ). length ls) p.lits ∙ length-append old.lits.items more_lits) in
-    let hints_to : s.hints_to ≡ length new.hints.items = p.hints_to ∙ sym (ap (λ (hs : List ℕ). length hs) p.hints ∙ length-append old.hints.items more_hints) in
-    let more = behind_after_push (length old.lits.items) (length old.hints.items) start old.spans.items s laid.spans (omega (arith, p.lits_to)) (omega (arith, p.hints_to)) p.id in
+    let hints_to : s.hints_to ≡ length new.hints = p.hints_to ∙ sym (ap (λ (hs : List ℕ). length hs) p.hints ∙ length-append old.hints more_hints) in
+    let more = behind_after_push (length old.lits.items) (length old.hints) start old.spans.items s laid.spans (omega (arith, p.lits_to)) (omega (arith, p.hints_to)) p.id in
     record {
       spans =
-          subst (λ (spans : List StepSpan). AreBehind (length new.lits.items) (length new.hints.items) start spans) (sym p.spans)
-          (subst (λ (n : ℕ). AreBehind n (length new.hints.items) start (old.spans.items ++ s ∷ [])) lits_to
+          subst (λ (spans : List StepSpan). AreBehind (length new.lits.items) (length new.hints) start spans) (sym p.spans)
+          (subst (λ (n : ℕ). AreBehind n (length new.hints) start (old.spans.items ++ s ∷ [])) lits_to
           (subst (λ (n : ℕ). AreBehind s.lits_to n start (old.spans.items ++ s ∷ [])) hints_to more));
-      hints = subst (λ (hs : List ℕ). All (λ h. h ≤ max_id) hs) (sym p.hints) (All-append (λ h. h ≤ max_id) old.hints.items more_hints laid.hints p.small);
+      hints = subst (λ (hs : List ℕ). All (λ h. h ≤ max_id) hs) (sym p.hints) (All-append (λ h. h ≤ max_id) old.hints more_hints laid.hints p.small);
     }

@@ -4,6 +4,8 @@ pub mod Derivation
 pub mod Database
 pub mod Units
 pub mod Work
+pub mod Hints
+pub mod HintLists
 pub mod Cuts
 pub mod Spans
 pub mod Bits

@@ -6,8 +6,8 @@ use Rattle.sat_base.specs.declared.steps.Steps.TheInside.{Inside}
 
 -- the steps of all spans
 abbrev pub steps_of : Inside → List Step
-steps_of s = steps_behind s.lits.items s.hints.items start s.spans.items
+steps_of s = steps_behind s.lits.items s.hints start s.spans.items
 
 pub record IsLaidOut (s : Inside) : Type 0 where
-  pub spans : AreBehind (length s.lits.items) (length s.hints.items) start s.spans.items
-  pub hints : All (λ h. h ≤ max_id) s.hints.items
+  pub spans : AreBehind (length s.lits.items) (length s.hints) start s.spans.items
+  pub hints : All (λ h. h ≤ max_id) s.hints

@@ -1,6 +1,7 @@
 //! Adding to lists whose lengths fit 32 bits. What does not fit is answered as want of memory.
 ghost use Rattle.std.specs.Prelude.{◌≡◌, ◌+◌, ◌++◌, IfOk, OnOk, OnErr};
 
+use crate::hints::HintList;
 use crate::lit::Lit;
 use std::alloc::AllocError;
 
@@ -20,16 +21,16 @@ pub fn end_of(len: usize, more: usize) -> Result<u32, AllocError>
 /// Adds literals and hints at the ends of their lists, all or none.
 pub(crate) fn push_both(
     lits: &mut Vec<Lit>,
-    hints: &mut Vec<u64>,
+    hints: &mut HintList,
     more_lits: &[Lit],
     more_hints: &[u64],
 ) -> Result<(), AllocError>
     ensures lits { OnOk result (lits.new.items ≡ lits.old.items ++ more_lits.now) }
-    ensures hints { OnOk result (hints.new.items ≡ hints.old.items ++ more_hints.now) }
+    ensures hints { OnOk result (hints.new ≡ hints.old ++ more_hints.now) }
     ensures err_lits { OnErr result (lits.new.items ≡ lits.old.items) }
-    ensures err_hints { OnErr result (hints.new.items ≡ hints.old.items) }
+    ensures err_hints { OnErr result (hints.new ≡ hints.old) }
 {
     lits.reserve(more_lits.len())?;
-    hints.extend_from_slice(more_hints)?;
+    hints.push_all(more_hints)?;
     lits.extend_from_slice(more_lits)
 }

@@ -9,6 +9,7 @@
 //! once it is finished: a copy is one more reference to the same steps.
 ghost use Rattle.std.specs.Prelude.{◌≡◌, ◌≤◌, ◌<◌, [], ◌∷◌, ◌++◌, All, Some, IfOk, OnOk, OnErr, length, slice_get};
 ghost use Rattle.sat_base.specs.Derivation.{Derivation, max_id, HasIds};
+ghost use Rattle.sat_base.specs.Hints.{ids_of};
 
 use crate::lit::Lit;
 use crate::steps::{Step, Steps};
@@ -106,7 +107,7 @@ impl Derivation {
     /// The step at a place, from 0.
     pub fn step(&self, at: usize) -> Step<'_>
         requires { at < length self.now.steps }
-        ensures { slice_get self.now.steps at ≡ Some (record { id = result.id; lits = result.lits.now; hints = result.hints.now }) }
+        ensures { slice_get self.now.steps at ≡ Some (record { id = result.id; lits = result.lits.now; hints = ids_of result.hints }) }
     {
         self.steps.step(at)
     }

@@ -6,8 +6,10 @@
 ghost use Rattle.std.specs.Prelude.{◌≡◌, ◌≤◌, ◌<◌, [], ◌∷◌, ◌++◌, All, Some, OnOk, OnErr, length, slice_get, slice_index_or};
 ghost use Rattle.sat_base.specs.Derivation.{max_id, HasIds};
 ghost use Rattle.sat_base.specs.Cuts.{start};
+ghost use Rattle.sat_base.specs.Hints.{ids_of};
 
 use crate::arena::{end_of, push_both};
+use crate::hints::{HintList, Hints};
 use crate::lit::Lit;
 use std::alloc::{AllocError, Global};
 use std::marker::Model;
@@ -18,7 +20,7 @@ use std::marker::Model;
 pub struct Step<'a> {
     pub id: u64,
     pub lits: &'a [Lit],
-    pub hints: &'a [u64],
+    pub hints: Hints<'a>,
 }
 
 // The id of a step, and where its literals and hints end among those of all steps.
@@ -34,7 +36,7 @@ struct StepSpan {
 pub(crate) struct Steps {
     spans: Vec<StepSpan>,
     lits: Vec<Lit>,
-    hints: Vec<u64>,
+    hints: HintList,
 }
 
 impl Model for Steps {
@@ -58,7 +60,7 @@ impl Steps {
         Steps {
             spans: Vec::new(alloc),
             lits: Vec::new(alloc),
-            hints: Vec::new(alloc),
+            hints: HintList::new(alloc),
         }
     }
 
@@ -100,14 +102,16 @@ impl Steps {
     /// The step at a place, from 0.
     pub(crate) fn step(&self, at: usize) -> Step<'_>
         requires { at < length self.now }
-        ensures { slice_get self.now at ≡ Some (record { id = result.id; lits = result.lits.now; hints = result.hints.now }) }
+        ensures { slice_get self.now at ≡ Some (record { id = result.id; lits = result.lits.now; hints = ids_of result.hints }) }
     {
         let before = span_before(self.spans.as_slice(), at);
         let span = self.spans[at];
         Step {
             id: span.id,
             lits: &self.lits[before.lits_to as usize..span.lits_to as usize],
-            hints: &self.hints[before.hints_to as usize..span.hints_to as usize],
+            hints: self
+                .hints
+                .range(before.hints_to as usize, span.hints_to as usize),
         }
     }
 

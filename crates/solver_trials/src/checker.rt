@@ -17,7 +17,7 @@ ghost use Rattle.std.specs.Prelude.{◌≡◌, ◌<◌, ◌^◌, true, length, I
 ghost use Rattle.sat_base.specs.Literals.{AreLiterals};
 
 use lrat_check::{Checked, Checker, Counts, Mismatch, Why};
-use sat_base::{Lit, Lits};
+use sat_base::{Hints, Lit, Lits};
 use std::alloc::{AllocError, Global};
 use trial_lits::{MOST, add, behind, ids_at, lits_at, tell, tell_lit, tell_number, vars_at};
 use trial_script::{Player, Step};
@@ -162,7 +162,7 @@ fn check(
     let Some(hints) = ids_at(alloc, step, behind(step, ":"))? else {
         return Ok(false);
     };
-    match checker.step(id, &lits, &hints)? {
+    match checker.step(id, &lits, Hints::Wide(&hints))? {
         Checked::Ok => tell(out, "accepted")?,
         Checked::Refused(why) => tell_number(out, "refused", u64::from(why.number()))?,
     }

@@ -21,9 +21,9 @@ ghost use Rattle.lrat_steps.specs.Rows.{worked_log};
 ghost use Rattle.lrat_steps.specs.Log.{steps_of};
 
 use lrat_steps::{Log, LogStep, StepKind, may_forget};
-use sat_base::{Derivation, Lit};
+use sat_base::{Derivation, Hints, Lit};
 use std::alloc::{AllocError, Global};
-use trial_lits::{MOST, add, add_ids, add_lits, behind, ids_at, lits_at, tell, tell_number};
+use trial_lits::{MOST, add, add_lits, behind, ids_at, lits_at, tell, tell_number};
 use trial_script::{Player, Step};
 
 /// A log.
@@ -161,8 +161,15 @@ fn tell_derivation(derivation: &Derivation, out: &mut String) -> Result<(), Allo
         out.push_str(" :")?;
         add_lits(out, step.lits)?;
         out.push_str(" :")?;
-        add_ids(out, step.hints)?;
+        add_hints(out, step.hints)?;
         out.push_str("\n")?;
+    }
+    Ok(())
+}
+
+fn add_hints(out: &mut String, hints: Hints<'_>) -> Result<(), AllocError> {
+    for at in 0..hints.len() {
+        add(out, "", hints.at(at))?;
     }
     Ok(())
 }

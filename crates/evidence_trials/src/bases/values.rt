@@ -2,7 +2,7 @@
 ghost use Rattle.std.specs.Prelude.{◌<◌, length};
 
 use crate::derivations::{id_at, lit_at, push_step};
-use sat_base::{Assign, AssignBuilder, Derivation, DerivationBuilder, Lit, WorkList};
+use sat_base::{Assign, AssignBuilder, Derivation, DerivationBuilder, Hints, Lit, WorkList};
 use std::alloc::{AllocError, Global};
 use trial_script::{Step, hold, known, show};
 
@@ -258,8 +258,9 @@ fn push_lits(lits: &[Lit], out: &mut String) -> Result<(), AllocError> {
     out.push_str(" 0")
 }
 
-fn push_hints(hints: &[u64], out: &mut String) -> Result<(), AllocError> {
-    for hint in hints {
+fn push_hints(hints: Hints<'_>, out: &mut String) -> Result<(), AllocError> {
+    for at in 0..hints.len() {
+        let hint = hints.at(at);
         write!(out, " {hint}")?;
     }
     Ok(())

@@ -1,7 +1,8 @@
 use Rattle.std.proofs.Common.{◌≡◌, ◌<◌, ◌∙◌, ap, sym, subst, arith, length, Some, ℤ, ◌∷◌, length-set, true, set}
 use Rattle.std.specs.Prelude.{neg_ℤ}
 use Rattle.sat_base.specs.Literals.{IsLiteral}
-use Rattle.sat_base.specs.Derivation.{open_lits, only_lit, is_nil}
+use Rattle.sat_base.specs.Derivation.{clause_of, open_lits, only_lit, is_nil}
+use Rattle.sat_base.specs.Hints.{ids_of}
 use Rattle.lrat_check.specs.Marks.{place_of, AreMarked}
 use Rattle.lrat_check.proofs.MarkLemmas.{unmarked_open, have_places, place_within, literal_negated, marked_more}
 use Rattle.lrat_check.proofs.OpenLemmas.{only_over}
@@ -12,14 +13,14 @@ use Rattle.lrat_check.proofs.follow.follow.Goals as goal
 pub returns-then-last-clause-answer : goal.returns-then-last-clause-answer
 returns-then-last-clause-answer c =
     let f = c.loop-i.invariant.followed in
-    sym (nothing_last c.args.clauses.now.known f.falses c.args.hints.now c.loop-i.i (omega arith) c.in-Some.clause.now c.if-last.true (sym c.in-Some.ensures.clause)
+    sym (nothing_last c.args.clauses.now.known f.falses (ids_of c.args.hints) c.loop-i.i (omega arith) c.in-Some.clause.now (c.if-last.true ∙ c.len.ensures) (ap (clause_of c.args.clauses.now.known) (sym c.at.ensures) ∙ sym c.in-Some.ensures.clause)
     (sym (unmarked_open c.loop-i.marks f.falses c.in-Some.clause.now f.marked) ∙ c.in-Nothing.ensures))
     ∙ f.rest
 
 pub returns-else-last-clause-answer : goal.returns-else-last-clause-answer
 returns-else-last-clause-answer c =
     let f = c.loop-i.invariant.followed in
-    sym (nothing_more c.args.clauses.now.known f.falses c.args.hints.now c.loop-i.i (omega arith) c.in-Some.clause.now c.if-last.false (sym c.in-Some.ensures.clause)
+    sym (nothing_more c.args.clauses.now.known f.falses (ids_of c.args.hints) c.loop-i.i (omega arith) c.in-Some.clause.now (λ same. c.if-last.false (same ∙ sym c.len.ensures)) (ap (clause_of c.args.clauses.now.known) (sym c.at.ensures) ∙ sym c.in-Some.ensures.clause)
     (sym (unmarked_open c.loop-i.marks f.falses c.in-Some.clause.now f.marked) ∙ c.in-Nothing.ensures))
     ∙ f.rest
 
@@ -29,7 +30,7 @@ returns-then-last-2-clause-answer c =
     let f = c.loop-i.invariant.followed in
     let open_is = unmarked_open c.loop-i.marks f.falses c.in-Some.clause.now f.marked in
     let one : only_lit (open_lits f.falses c.in-Some.clause.now) ≡ Some c.in-One.lit = ap only_lit (sym open_is) ∙ c.in-One.ensures in
-    sym (open_last c.args.clauses.now.known f.falses c.args.hints.now c.loop-i.i (omega arith) c.in-Some.clause.now c.if-last-2.true (sym c.in-Some.ensures.clause)
+    sym (open_last c.args.clauses.now.known f.falses (ids_of c.args.hints) c.loop-i.i (omega arith) c.in-Some.clause.now (c.if-last-2.true ∙ c.len.ensures) (ap (clause_of c.args.clauses.now.known) (sym c.at.ensures) ∙ sym c.in-Some.ensures.clause)
     (not_nil (open_lits f.falses c.in-Some.clause.now) c.in-One.lit one))
     ∙ f.rest
 
@@ -38,7 +39,7 @@ pub returns-then-last-3-clause-answer : goal.returns-then-last-3-clause-answer
 returns-then-last-3-clause-answer c =
     let f = c.loop-i.invariant.followed in
     let open_is = unmarked_open c.loop-i.marks f.falses c.in-Some.clause.now f.marked in
-    sym (open_last c.args.clauses.now.known f.falses c.args.hints.now c.loop-i.i (omega arith) c.in-Some.clause.now c.if-last-3.true (sym c.in-Some.ensures.clause)
+    sym (open_last c.args.clauses.now.known f.falses (ids_of c.args.hints) c.loop-i.i (omega arith) c.in-Some.clause.now (c.if-last-3.true ∙ c.len.ensures) (ap (clause_of c.args.clauses.now.known) (sym c.at.ensures) ∙ sym c.in-Some.ensures.clause)
     (ap is_nil (sym open_is) ∙ c.in-Many.ensures.1))
     ∙ f.rest
 
@@ -46,7 +47,7 @@ pub returns-else-last-3-clause-answer : goal.returns-else-last-3-clause-answer
 returns-else-last-3-clause-answer c =
     let f = c.loop-i.invariant.followed in
     let open_is = unmarked_open c.loop-i.marks f.falses c.in-Some.clause.now f.marked in
-    sym (many_more c.args.clauses.now.known f.falses c.args.hints.now c.loop-i.i (omega arith) c.in-Some.clause.now c.if-last-3.false (sym c.in-Some.ensures.clause)
+    sym (many_more c.args.clauses.now.known f.falses (ids_of c.args.hints) c.loop-i.i (omega arith) c.in-Some.clause.now (λ same. c.if-last-3.false (same ∙ sym c.len.ensures)) (ap (clause_of c.args.clauses.now.known) (sym c.at.ensures) ∙ sym c.in-Some.ensures.clause)
     (ap only_lit (sym open_is) ∙ c.in-Many.ensures.0) (ap is_nil (sym open_is) ∙ c.in-Many.ensures.1))
     ∙ f.rest
 
@@ -78,7 +79,7 @@ loop-i-preserved c =
       followed = record {
         falses = neg_ℤ c.in-One.lit ∷ f.falses;
         marked = subst (λ ms. AreMarked ms (neg_ℤ c.in-One.lit ∷ f.falses)) (sym is) (marked_more c.loop-i.marks f.falses (neg_ℤ c.in-One.lit) within f.marked);
-        rest = sym (unit_more c.args.clauses.now.known f.falses c.args.hints.now c.loop-i.i (omega arith) c.in-Some.clause.now c.in-One.lit c.if-last-2.false (sym c.in-Some.ensures.clause)
+        rest = sym (unit_more c.args.clauses.now.known f.falses (ids_of c.args.hints) c.loop-i.i (omega arith) c.in-Some.clause.now c.in-One.lit (λ same. c.if-last-2.false (same ∙ sym c.len.ensures)) (ap (clause_of c.args.clauses.now.known) (sym c.at.ensures) ∙ sym c.in-Some.ensures.clause)
             (ap only_lit (sym open_is) ∙ c.in-One.ensures)) ∙ f.rest;
       };
     }

@@ -1,6 +1,7 @@
 use Rattle.std.proofs.Common.{◌≡◌, ◌∙◌, ◌-◌, ℕ, ap, subst, arith, Some}
 use Rattle.std.specs.Prelude.{slice_get}
 use Rattle.sat_base.specs.Derivation.{Step}
+use Rattle.sat_base.specs.Hints.{ids_of}
 use Rattle.lrat_export.specs.Export.{bared}
 use Rattle.lrat_export.proofs.EntryLemmas.{lits-given, lits-step}
 use Rattle.lrat_export.proofs.hints.lits_at.Goals as goal
@@ -13,6 +14,6 @@ returns-then-place-len c =
 
 pub returns-else-place-len : goal.returns-else-place-len
 returns-else-place-len c =
-    let s : Step = record { id = c.step.result.id; lits = c.step.result.lits.now; hints = c.step.result.hints.now } in
+    let s : Step = record { id = c.step.result.id; lits = c.step.result.lits.now; hints = ids_of c.step.result.hints } in
     let here = subst (λ (n : ℕ). slice_get c.args.proof.now.steps (c.args.place - n) ≡ Some s) c.len-else-place-len.ensures c.step.ensures in
     lits-step c.args.problem.now c.args.proof.now c.args.place s (omega (arith, c.len.ensures, c.if-place-len.false)) here

@@ -32,22 +32,15 @@ slice_bounds-result-end c =
     let all = ap length c.deref.ensures.value in
     omega arith
 
-pub slice_bounds-result-count-2 : goal.slice_bounds-result-count-2
-slice_bounds-result-count-2 c =
+pub range-requires-clause-ordered : goal.range-requires-clause-ordered
+range-requires-clause-ordered c =
     (read_at c.self.inside c.args.self.now c.args.at c.as_slice.result.now c.span_before-before.result c.index-span.result.now c.self.invariant c.self.view_is c.requires
     c.as_slice.ensures.value c.span_before-before.ensures c.index-span.ensures).cut.hints_ordered
 
-pub slice_bounds-result-start-2 : goal.slice_bounds-result-start-2
-slice_bounds-result-start-2 c =
+pub range-requires-clause-within : goal.range-requires-clause-within
+range-requires-clause-within c =
     (read_at c.self.inside c.args.self.now c.args.at c.as_slice.result.now c.span_before-before.result c.index-span.result.now c.self.invariant c.self.view_is c.requires
-    c.as_slice.ensures.value c.span_before-before.ensures c.index-span.ensures).cut.hints_ordered
-
-pub slice_bounds-result-end-2 : goal.slice_bounds-result-end-2
-slice_bounds-result-end-2 c =
-    let within = (read_at c.self.inside c.args.self.now c.args.at c.as_slice.result.now c.span_before-before.result c.index-span.result.now c.self.invariant c.self.view_is c.requires
-    c.as_slice.ensures.value c.span_before-before.ensures c.index-span.ensures).cut.hints_within in
-    let all = ap length c.deref-2.ensures.value in
-    omega arith
+    c.as_slice.ensures.value c.span_before-before.ensures c.index-span.ensures).cut.hints_within
 
 -- and what is lent is the step there
 pub returns : goal.returns
@@ -56,5 +49,5 @@ returns c =
     let s = c.index-span.result.now in
     (read_at c.self.inside c.args.self.now c.args.at c.as_slice.result.now c.span_before-before.result c.index-span.result.now c.self.invariant c.self.view_is c.requires
     c.as_slice.ensures.value c.span_before-before.ensures c.index-span.ensures).step
-    ∙ ap₂ (λ (ls : List ℤ) (hs : List ℕ). Some (record { id = s.id; lits = slice_range ls b.lits_to s.lits_to; hints = slice_range hs b.hints_to s.hints_to }))
-    (sym c.deref.ensures.value) (sym c.deref-2.ensures.value)
+    ∙ ap₂ (λ (ls : List ℤ) (hs : List ℕ). Some (record { id = s.id; lits = slice_range ls b.lits_to s.lits_to; hints = hs }))
+    (sym c.deref.ensures.value) (sym c.range.ensures)
