@@ -1,5 +1,5 @@
 -- Lemmas on sets of groups.
-use Rattle.std.proofs.Common.{◌≡◌, ◌≢◌, ℕ, zero, suc, ◌+◌, ◌<◌, ◌≤◌, Bool, true, false, not, ◌&&◌, ◌||◌, cond, take, drop, get_or, append-nil, List, [], ◌∷◌, ◌++◌, length, refl, sym, ◌∙◌, ap, subst, inl, inr, arith, eqb, ltb}
+use Rattle.std.proofs.Common.{◌≡◌, ◌≢◌, ℕ, zero, suc, ◌+◌, ◌-◌, ◌<◌, ◌≤◌, Bool, true, false, not, ◌&&◌, ◌||◌, cond, take, drop, get_or, append-nil, List, [], ◌∷◌, ◌++◌, length, refl, sym, ◌∙◌, ap, subst, inl, inr, arith, eqb, ltb}
 use Rattle.std.specs.List.{list_all, filter, range_with_len}
 use Rattle.std.proofs.lemmas.List.Elements.{filter-append}
 use Rattle.std.proofs.lemmas.Bool.{ltb-true, ltb-false, le-ltb, cond_both, cond-true, cond-false, or_cases, or_left, or_right, and_parts, and_from, not-true, false≢true, false_from_ne_true, true_from_ne_false, eqb-true, eq-eqb, ne_eqb, cases_Bool, cases_eq, or_from, cases_lt}
@@ -8,7 +8,8 @@ use Rattle.std.proofs.lemmas.List.Folds.{list_any_at}
 use Rattle.std.proofs.lemmas.List.Sorted.{searched}
 use Rattle.std.specs.List.Sorted.{IsBinarySearchResult}
 use Rattle.std.specs.Ordering.{nat_cmp}
-use Rattle.std.specs.Prelude.{Result, Ok, Err, is_ok, MatchResult}
+use Rattle.std.specs.Prelude.{Result, Ok, Err, is_ok, MatchResult, Some, slice_get}
+use Rattle.std.proofs.lemmas.Option.{get_or_from_slice_get}
 use Rattle.std.proofs.lemmas.Map.Views.{any-filter_same}
 use Rattle.gm_base.specs.Sets.{AscendsAbove, IsGroupSet, has, IsSubset, without, with_group, all_groups, complement}
 use Rattle.sat_base.proofs.Members.{all_at, any_from}
@@ -188,6 +189,26 @@ AscendsAbove-has low set g h i =
 pub has-head : (g : ℕ) (gs : List ℕ) → has (g ∷ gs) g ≡ true
 has-head g gs = or_left (eqb g g) (has gs g) (eq-eqb g g refl)
 
+-- no group of an ascending list is above its last one
+pub at_most_last : (low : ℕ) (xs : List ℕ) (i g d : ℕ) → AscendsAbove low xs → i + 1 ≡ length xs → has xs g ≡ true → g ≤ get_or xs i d
+at_most_last low [] i g d ok end h = absurd (false≢true h)
+at_most_last low (x ∷ []) zero g d ok end h =
+    elim (or_cases (eqb x g) false h) [
+      | inl here ↦ let same = eqb-true x g here in omega arith
+      | inr later ↦ absurd (false≢true later)
+    ]
+at_most_last low (x ∷ []) (suc i) g d ok end h = absurd (omega arith)
+at_most_last low (x ∷ y ∷ ys) zero g d ok end h = absurd (omega arith)
+at_most_last low (x ∷ y ∷ ys) (suc i) g d ok end h =
+    elim (or_cases (eqb x g) (has (y ∷ ys) g) h) [
+      | inl here ↦
+          let same = eqb-true x g here in
+          let above = ok.1.0 in
+          let most = at_most_last x (y ∷ ys) i y d ok.1 (omega arith) (has-head y ys) in
+          omega arith
+      | inr later ↦ at_most_last x (y ∷ ys) i g d ok.1 (omega arith) later
+    ]
+
 -- a subset of an ascending list, without their common head
 IsSubset-tail : (x y : ℕ) (xs ys : List ℕ) → x ≡ y → AscendsAbove x xs → IsSubset (x ∷ xs) (y ∷ ys) → IsSubset xs ys
 IsSubset-tail x y xs ys same ok sub g i =
@@ -242,6 +263,22 @@ has-all_groups groups g low high = has-range 1 groups g low (omega arith)
 
 pub all_groups-has : (groups g : ℕ) → has (all_groups groups) g ≡ true → (0 < g) × (g ≤ groups)
 all_groups-has groups g h = let (low, high) = range-has 1 groups g h in (low, omega arith)
+
+-- the groups of a set are among those up to its last one
+pub IsSubset-up_to_last : (set : List ℕ) (last : ℕ) → IsGroupSet set → slice_get set (length set - 1) ≡ Some last → IsSubset set (all_groups last)
+IsSubset-up_to_last [] last ok is g h = absurd (false≢true h)
+IsSubset-up_to_last (x ∷ xs) last ok is g h =
+    let at = length (x ∷ xs) - 1 in
+    let most = at_most_last 0 (x ∷ xs) at g last ok (omega arith) h in
+    let there = get_or_from_slice_get (x ∷ xs) at last last is in
+    has-all_groups last g (AscendsAbove-has 0 (x ∷ xs) g ok h) (omega arith)
+
+-- the complement of the complement is the set
+pub complement_twice : (groups : ℕ) (set : List ℕ) → IsGroupSet set → IsSubset set (all_groups groups) → complement groups (complement groups set) ≡ set
+complement_twice groups set ok within =
+    AscendsAbove-same 0 (complement groups (complement groups set)) set
+    (IsGroupSet-complement groups (complement groups set) (complement groups (complement groups set)) refl) ok
+    (complement_twice-IsSubset groups set) (IsSubset-complement_twice groups set within)
 
 -- the complement of a set up to i, where the groups of the set from the place `at` on are above i, and those before are not
 pub record Merged (set rest : List ℕ) (i at : ℕ) : Type 0 where

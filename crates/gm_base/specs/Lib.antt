@@ -1,4 +1,5 @@
 pub mod Sets
+pub mod Compact
 pub mod Problem
 pub mod Lent
 pub mod Minimal

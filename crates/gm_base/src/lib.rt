@@ -12,7 +12,7 @@
 //!
 //! Literals, assignments and derivations are those of `sat_base`, and can be had from here too. For those who enumerate, a
 //! [`Kind`] says whether a minimal set is a conflict or a correction, a [`Side`] which sets it takes out of the map, and
-//! `specs/Explored.antt` which sets all that was found has explored.
+//! `specs/Explored.antt` which sets all that was found has explored. A set that is only kept is a [`CompactSet`].
 //!
 //! Start reading at `specs/Sets.antt`, `specs/Problem.antt` and `specs/Minimal.antt`, on which every promise of the
 //! program stands. `specs/Rows.antt` has worked examples that the definitions compute, and the module `laws` what is
@@ -20,6 +20,7 @@
 #![tactic(auto)]
 
 mod clause;
+mod compact_set;
 mod group_set;
 mod index;
 mod kind;
@@ -29,6 +30,7 @@ mod selectors;
 mod sets;
 
 pub use clause::{Clause, Clauses};
+pub use compact_set::CompactSet;
 pub use group_set::GroupSet;
 pub use index::Placed;
 pub use kind::{Kind, Side};
