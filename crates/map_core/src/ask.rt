@@ -14,7 +14,7 @@ use crate::entry::{Entry, Reply};
 use crate::replies::Taken;
 use crate::turn::Turn;
 use evidence_rec::{MapEngine, Seed};
-use gm_base::{Derivation, GroupSet, Purse};
+use gm_base::{CompactSet, Derivation, GroupSet, Purse};
 use std::alloc::{AllocError, Global};
 
 /// The reply, for the worker and for the history, with what else a take changes.
@@ -56,7 +56,7 @@ fn job(alloc: Global, number: u64, turn: Turn, used: u64, seed: GroupSet) -> Tak
     ensures not_dry { result.kept ≢ Dry }
 {
     let spent = turn.spend(used);
-    let Ok(copy) = seed.copy(alloc) else {
+    let Ok(compact) = CompactSet::of(alloc, &seed) else {
         return answer(spent.retire(), Some(used), Taken::Memory, Reply::Memory);
     };
     let grant = spent.common.available.min(FIRST_GRANT);
@@ -67,7 +67,7 @@ fn job(alloc: Global, number: u64, turn: Turn, used: u64, seed: GroupSet) -> Tak
     };
     let kept = Reply::Job {
         turn: number,
-        seed: copy,
+        seed: compact,
         grant,
     };
     answer(spent.grant(grant), Some(used), reply, kept)

@@ -28,7 +28,7 @@ use crate::regrant::{kept_refill, regrant};
 use crate::replies::{Posted, Refilled, Taken};
 use crate::turn::{Turn, Worker};
 use evidence_rec::{MapEngine, Record, Records};
-use gm_base::{Derivation, GroupSet, Problem};
+use gm_base::{CompactSet, Derivation, GroupSet, Problem};
 use lrat_steps::Log;
 use std::alloc::{AllocError, Global};
 use std::marker::Model;
@@ -119,7 +119,7 @@ impl<M: MapEngine> MapCore<M> {
         let given = regrant(&mut self.history, self.workers.len(), turn);
         let entry = Entry {
             worker: w,
-            call: Call::Refill(asked),
+            call: Call::Refill(CompactSet::from_set(self.alloc, asked)),
             used,
             engine: None,
             reply: kept_refill(given.reply),

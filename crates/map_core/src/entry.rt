@@ -1,13 +1,13 @@
 //! Calls of workers, and their replies.
 use evidence_rec::Records;
-use gm_base::{GroupSet, Kind, Problem};
+use gm_base::{CompactSet, GroupSet, Kind, Problem};
 
 /// What a worker asks for.
 #[derive(Drop)]
 pub enum Call {
     Take,
     /// With the set that its solver was asked about.
-    Refill(GroupSet),
+    Refill(CompactSet),
     /// With the kind and the set of the record.
     Post(Kind, GroupSet),
     Retire,
@@ -19,7 +19,7 @@ pub enum Reply {
     /// With the number of the entry, a set that no record explores, and what is granted for it.
     Job {
         turn: u64,
-        seed: GroupSet,
+        seed: CompactSet,
         grant: u64,
     },
     Grant(u64),

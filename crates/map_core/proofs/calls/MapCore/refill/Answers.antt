@@ -1,4 +1,4 @@
-use Rattle.std.proofs.Common.{length, [], ◌∷◌, ◌++◌, sym, ap, ◌∙◌, subst, refl, arith, None}
+use Rattle.std.proofs.Common.{◌≡◌, ℕ, List, length, [], ◌∷◌, ◌++◌, sym, ap, ◌∙◌, subst, refl, arith, None}
 use Rattle.map_core.specs.Core.{CoreStep, turn_at, settle, give_back, Refills}
 use Rattle.map_core.specs.Kept.{IsReady, state_of}
 use Rattle.map_core.specs.Replies.{refill_reply}
@@ -9,6 +9,19 @@ use Rattle.map_core.specs.declared.entry.Call.TheVariants.{Refill}
 use Rattle.map_core.proofs.Kept.{call_kept, step_made, proof_kept, idle, no_take}
 use Rattle.map_core.proofs.calls.MapCore.refill.Goals as goal
 
+-- the entry of a refill
+abbrev made : ℕ → ℕ → List ℕ → Reply → Entry
+made who used asked reply = record { worker = who; call = Refill asked; used = used; engine = None; reply = reply }
+
+-- the entry that was written down has the set that was asked about, in whichever form it is kept, and what was answered
+written : (who used : ℕ) (asked asked' : List ℕ) (reply reply' : Reply) (old mid new : List Entry)
+    → asked' ≡ asked → reply' ≡ reply → mid ≡ old → new ≡ mid ++ made who used asked' reply' ∷ []
+    → new ≡ old ++ made who used asked reply ∷ []
+written who used asked asked' reply reply' old mid new a r same is =
+    is ∙ ap (λ es. es ++ made who used asked' reply' ∷ []) same
+    ∙ ap (λ x. old ++ made who used x reply' ∷ []) a
+    ∙ ap (λ x. old ++ made who used asked x ∷ []) r
+
 -- no record and no engine is touched
 pub invariant_of-self : goal.invariant_of-self
 invariant_of-self g c =
@@ -16,10 +29,7 @@ invariant_of-self g c =
     let k = c.self.invariant in
     let r = subst (λ s. IsReady s c.args.w c.args.used) (sym c.self.view_is) c.settled.ensures.ready in
     let given = c.regrant-given in
-    let made : Reply → Entry =
-    λ reply. record
-    { worker = c.args.w; call = Refill c.args.asked; used = c.args.used; engine = None; reply = reply } in
-    let e : Entry = made (refill_reply given.result.reply) in
+    let e : Entry = made c.args.w c.args.used c.args.asked (refill_reply given.result.reply) in
     let f = c.finish-self-inside in
     let u = given.result.turn in
     let is =
@@ -28,8 +38,7 @@ invariant_of-self g c =
     let refills = subst (λ t. Refills t (refill_reply given.result.reply) u) is given.ensures.refills in
     let same = given.ensures.exhausted ∙ ap (λ (t : Turn). t.common.exhausted) is in
     let history =
-    f.ensures.history ∙ ap (λ h. h ++ made c.kept_refill.result ∷ []) given.ensures.history ∙ ap
-    (λ x. i.history.items ++ made x ∷ []) c.kept_refill.ensures in
+    written c.args.w c.args.used _ _ _ _ _ _ _ c.from_set.ensures c.kept_refill.ensures given.ensures.history f.ensures.history in
     let size = ap length given.ensures.history in
     let longer = f.ensures.capacity in
     let more = given.ensures.capacity in
@@ -46,10 +55,7 @@ returns-clause-step g c =
     let i = c.self.inside in
     let r = subst (λ s. IsReady s c.args.w c.args.used) (sym c.self.view_is) c.settled.ensures.ready in
     let given = c.regrant-given in
-    let made : Reply → Entry =
-    λ reply. record
-    { worker = c.args.w; call = Refill c.args.asked; used = c.args.used; engine = None; reply = reply } in
-    let e : Entry = made (refill_reply given.result.reply) in
+    let e : Entry = made c.args.w c.args.used c.args.asked (refill_reply given.result.reply) in
     let f = c.finish-self-inside in
     let u = given.result.turn in
     let is =
@@ -57,8 +63,7 @@ returns-clause-step g c =
     (c.settled.ensures.turn ∙ ap (λ s. settle c.args.used (turn_at s c.args.w)) (sym c.self.view_is)) in
     let refills = subst (λ t. Refills t (refill_reply given.result.reply) u) is given.ensures.refills in
     let history =
-    f.ensures.history ∙ ap (λ h. h ++ made c.kept_refill.result ∷ []) given.ensures.history ∙ ap
-    (λ x. i.history.items ++ made x ∷ []) c.kept_refill.ensures in
+    written c.args.w c.args.used _ _ _ _ _ _ _ c.from_set.ensures c.kept_refill.ensures given.ensures.history f.ensures.history in
     let t =
     state_of g.M.MapEngine.TOPS i.problem i.first i.budget i.limit f.result i.records.items f.new.workers.items
     f.new.history.items in
