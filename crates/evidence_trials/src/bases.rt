@@ -16,6 +16,7 @@
 //! steps              a copy of it
 //! groups 3 9         the set
 //! without 9          another set is the set without a group, or with `complement 11` the other groups, or with `copy` a copy
+//! compact            another set is what is written down of the set where that is kept by what it has or lacks
 //! other 1 2          another set
 //! contains 9         whether the set has the group
 //! subset             whether the other set is within the set, and the set within the other

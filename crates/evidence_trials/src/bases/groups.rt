@@ -1,7 +1,7 @@
 //! Sets of groups, and problems.
 use crate::problems::{problem_of, push_clause};
 use crate::sets::set_from;
-use gm_base::{Assign, Clause, GroupSet, Problem};
+use gm_base::{Assign, Clause, CompactSet, GroupSet, Problem};
 use std::alloc::{AllocError, Global};
 use std::cmp::Ordering;
 use trial_script::{Step, known, show};
@@ -32,7 +32,7 @@ pub fn call_sets(
     match step.word(0) {
         "groups" => put_set(&mut sets.set, set_from(alloc, step, 1), out),
         "other" => put_set(&mut sets.other, set_from(alloc, step, 1), out),
-        "without" | "complement" | "copy" => {
+        "without" | "complement" | "copy" | "compact" => {
             put_set(&mut sets.other, made_of(&sets.set, alloc, step), out)
         }
         "contains" => show_contains(&sets.set, step.count(1), out),
@@ -77,6 +77,10 @@ fn show_both(first: bool, second: bool, out: &mut String) -> Result<bool, AllocE
 fn made_of(set: &GroupSet, alloc: Global, step: &Step<'_>) -> Result<Option<GroupSet>, AllocError> {
     if step.word(0) == "copy" {
         return Ok(Some(set.copy(alloc)?));
+    }
+    if step.word(0) == "compact" {
+        let compact = CompactSet::of(alloc, set)?;
+        return Ok(Some(compact.to_set(alloc)?));
     }
     let Some(number) = step.count(1) else {
         return Ok(None);
