@@ -1,15 +1,15 @@
 -- Lemmas on the index of clauses by group.
-use Rattle.std.proofs.Common.{◌≡◌, ◌⊎◌, ℕ, zero, suc, ◌+◌, ◌-◌, ◌<◌, ◌≤◌, Bool, true, false, not, ◌||◌, List, [], ◌∷◌, ◌++◌, length, get_or, take, drop, refl, sym, ◌∙◌, ap, subst, inl, inr, arith, eqb, ltb, leb, length-drop, length-append}
+use Rattle.std.proofs.Common.{◌≡◌, ◌⊎◌, ℕ, zero, suc, ◌+◌, ◌-◌, ◌<◌, ◌≤◌, Bool, true, false, not, ◌||◌, List, [], ◌∷◌, ◌++◌, length, get_or, take, drop, refl, sym, ◌∙◌, ap, subst, inl, inr, arith, eqb, length-drop, length-append}
 use Rattle.std.specs.Prelude.{Some, slice_get, IsSomeAnd, All, Contains}
 use Rattle.std.specs.List.{AllWithin, list_all}
-use Rattle.std.proofs.lemmas.Bool.{ltb-true, ltb-false, leb-true, leb-false, cases_lt, eqb-true, eq-eqb, false≢true, or_left, or_right, or_cases, cases_Bool, false_from_ne_true}
-use Rattle.std.proofs.lemmas.List.{get_or_default, get_or-take, get_or-drop, length-take}
+use Rattle.std.proofs.lemmas.Bool.{cases_lt, eqb-true, eq-eqb, false≢true, or_left, or_right, or_cases, cases_Bool, false_from_ne_true}
+use Rattle.std.proofs.lemmas.List.{get_or_default, get_or-take, get_or-drop, get_or_append_left, get_or_push, length-take}
 use Rattle.std.specs.List.Sorted.{IsPermutation, IsNonDecreasingBy}
 use Rattle.std.proofs.lemmas.List.Sorted.{All-permutation, Contains-permutation}
 use Rattle.std.proofs.lemmas.List.Elements.{All-push, All-contains, Contains-append_left, Contains-push, Contains-get_or}
 use Rattle.gm_base.specs.declared.clause.Clause.{Clause}
 use Rattle.gm_base.specs.declared.index.Placed.{Placed}
-use Rattle.gm_base.specs.Index.{IsOfGroup, IsIndex, ArePlaces, group_true}
+use Rattle.gm_base.specs.Index.{IsOfGroup, IsIndex, ArePlaces, Begins, AreStarts, group_true}
 use Rattle.std.proofs.lemmas.List.{take_all}
 use Rattle.gm_base.specs.Sets.{has}
 use Rattle.sat_base.specs.Literals.{clause_true}
@@ -17,42 +17,103 @@ use Rattle.gm_base.specs.Problem.{Problem, satisfies, is_present}
 use Rattle.sat_base.specs.Members.{In}
 use Rattle.sat_base.proofs.Members.{all_at, all_from, any_from}
 
--- what stands in the part that the two searches leave is of the group
-pub stretch-of_group : (index : List Placed) (group from count : ℕ)
-    → AllWithin (λ p. ltb p.group group ≡ false) index from (length index)
-    → AllWithin (λ p. leb p.group group ≡ true) (drop from index) 0 count
-    → All (λ p. p.group ≡ group) (take count (drop from index))
-stretch-of_group index group from count low high k d lt =
-    let short = length-take count (drop from index) in
+-- a group's stretch ends where the next one's begins
+pub Begins-order : (index : List Placed) (group from to : ℕ) → Begins index group from → Begins index (group + 1) to → from ≤ to
+Begins-order index group from to here next =
+    let none : Placed = record { group = 0; at = 0 } in
+    elim (cases_lt to from) [
+      | inl back ↦
+          let within = here.within in
+          let low = here.below to none (omega arith) back in
+          let high = next.from to none (omega arith) (omega arith) in
+          absurd (omega arith)
+      | inr order ↦ order
+    ]
+
+-- what stands between the two is of the group
+pub stretch-of_group : (index : List Placed) (group from to : ℕ) → Begins index group from → Begins index (group + 1) to
+    → All (λ p. p.group ≡ group) (take (to - from) (drop from index))
+stretch-of_group index group from to here next k d lt =
+    let short = length-take (to - from) (drop from index) in
     let rest = length-drop from index in
-    let here = get_or-take count (drop from index) k d (omega arith) ∙ get_or-drop from index k d in
-    let at_least = ltb-false (get_or index (from + k) d).group group (low (from + k) d (omega arith) (omega arith)) in
-    let at_most = leb-true (get_or index (from + k) d).group group (ap (λ p. leb p.group group) (sym (get_or-drop from index k d)) ∙ high k d (omega arith) (omega arith)) in
-    ap (λ p. p.group) here ∙ omega arith
+    let within = next.within in
+    let there = get_or-take (to - from) (drop from index) k d (omega arith) ∙ get_or-drop from index k d in
+    let at_least = here.from (from + k) d (omega arith) (omega arith) in
+    let at_most = next.below (from + k) d (omega arith) (omega arith) in
+    ap (λ p. p.group) there ∙ omega arith
 
 -- and each of the group stands there
-pub stretch-each : (index : List Placed) (group from count : ℕ) → from ≤ length index
-    → AllWithin (λ p. ltb p.group group ≡ true) index 0 from
-    → AllWithin (λ p. leb p.group group ≡ false) (drop from index) count (length (drop from index))
-    → All (λ p. p.group ≡ group → Contains (take count (drop from index)) p) index
-stretch-each index group from count in_range low high k d lt same =
+pub stretch-each : (index : List Placed) (group from to : ℕ) → Begins index group from → Begins index (group + 1) to
+    → All (λ p. p.group ≡ group → Contains (take (to - from) (drop from index)) p) index
+stretch-each index group from to here next k d lt same =
     elim (cases_lt k from) [
-      | inl before ↦ absurd (let below = ltb-true (get_or index k d).group group (low k d (omega arith) before) in omega arith)
+      | inl before ↦ absurd (let low = here.below k d (omega arith) before in omega arith)
       | inr past ↦
           let rest = length-drop from index in
-          let short = length-take count (drop from index) in
+          let short = length-take (to - from) (drop from index) in
+          let within = next.within in
           let place : from + (k - from) ≡ k = omega arith in
           let there = λ (e : Placed). get_or-drop from index (k - from) e ∙ ap (λ n. get_or index n e) place in
-          elim (cases_lt (k - from) count) [
-            | inl within ↦ (
+          elim (cases_lt k to) [
+            | inl inside ↦ (
               k - from,
               omega arith,
-              get_or-take count (drop from index) (k - from) (get_or index k d) within ∙ there (get_or index k d) ∙ get_or_default index k (get_or index k d) d lt,
+              get_or-take (to - from) (drop from index) (k - from) (get_or index k d) (omega arith) ∙ there (get_or index k d)
+                  ∙ get_or_default index k (get_or index k d) d lt,
             )
-            | inr beyond ↦
-                absurd (let above = leb-false (get_or index k d).group group (ap (λ p. leb p.group group) (sym (there d)) ∙ high (k - from) d beyond (omega arith)) in omega arith)
+            | inr beyond ↦ absurd (let high = next.from k d beyond lt in omega arith)
           ]
     ]
+
+-- of a group that is above all there is none
+pub stretch-none : (index : List Placed) (starts : List ℕ) (group : ℕ) (part : List Placed) → AreStarts index starts → length starts ≤ group + 1
+    → All (λ p. p.group ≡ group → Contains part p) index
+stretch-none index starts group part h past k d lt same = absurd (let high = h.high k d lt in omega arith)
+
+-- where the groups below this one begin; what stands before the last of these places is of groups below
+pub record StartsUpTo (index : List Placed) (group at : ℕ) (starts : List ℕ) : Type 0 where
+  pub count : length starts ≡ group
+  pub within : at ≤ length index
+  pub below : AllWithin (λ p. p.group < group) index 0 at
+  pub each : (g d : ℕ) → g < group → Begins index g (get_or starts g d)
+
+pub StartsUpTo-start : (index : List Placed) (starts : List ℕ) → starts ≡ [] → StartsUpTo index 0 0 starts
+StartsUpTo-start index starts none =
+    record {
+      count = ap length none;
+      within = omega arith;
+      below = λ k d low high. absurd (omega arith);
+      each = λ g d lt. absurd (omega arith);
+    }
+
+pub StartsUpTo-next : (index : List Placed) (group at next : ℕ) (old new : List ℕ) → StartsUpTo index group at old → Begins index group next
+    → new ≡ old ++ next ∷ [] → StartsUpTo index (group + 1) next new
+StartsUpTo-next index group at next old new h begins push =
+    let count = h.count in
+    let longer : length new ≡ length old + 1 = ap length push ∙ length-append old (next ∷ []) in
+    record {
+      count = omega arith;
+      within = begins.within;
+      below = λ k d low high. let less = begins.below k d low high in omega arith;
+      each = λ g d lt.
+          elim (cases_lt g group) [
+            | inl before ↦
+                subst (Begins index g) (sym (ap (λ xs. get_or xs g d) push ∙ get_or_append_left old (next ∷ []) d g (omega arith))) (h.each g d before)
+            | inr here ↦
+                let same : length old ≡ g = omega arith in
+                let last : get_or new g d ≡ next = ap (λ xs. get_or xs g d) push ∙ get_or_push old next d g same in
+                subst (Begins index g) (sym last) (subst (λ i. Begins index i next) (sym count ∙ same) begins)
+          ];
+    }
+
+pub AreStarts-from_all : (index : List Placed) (greatest count at : ℕ) (starts : List ℕ) → StartsUpTo index count at starts
+    → All (λ p. p.group ≤ greatest) index → count ≡ greatest + 2 → AreStarts index starts
+AreStarts-from_all index greatest count at starts h high is =
+    let len = h.count in
+    record {
+      high = λ k d lt. let most = high k d lt in omega arith;
+      each = λ g d lt. h.each g d (omega arith);
+    }
 
 -- and what stands there is of the index
 pub stretch-inside : (index : List Placed) (from count : ℕ) → All (Contains index) (take count (drop from index))

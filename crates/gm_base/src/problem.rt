@@ -1,14 +1,14 @@
 //! Problems.
 //!
 //! A problem is a list of clauses in groups. Beside them stands an index, by which the clauses of a group are found
-//! without a walk over the others. Contracts see the clauses alone. Both never change, so copies share them.
+//! without a walk over the others. Contracts see the clauses alone. None of it ever changes, so copies share all.
 ghost use Rattle.std.specs.Prelude.{◌≡◌, ◌<◌, ◌+◌, ◌^◌, ◌↔◌, IsTrue, IfOk, Some, length, slice_get};
 ghost use Rattle.gm_base.specs.Problem.{IsClause, IsProblem, satisfies};
 ghost use Rattle.gm_base.specs.Index.{ArePlaces, group_true};
 
 use crate::clause::{Clause, Clauses};
 use crate::group_set::GroupSet;
-use crate::index::{Placed, index_of, stretch};
+use crate::index::{Placed, index_of, starts_of, stretch};
 use sat_base::Assign;
 use std::alloc::{AllocError, Global};
 use std::marker::Model;
@@ -21,13 +21,15 @@ pub struct Problem {
     groups: u32,
     clauses: Arc<Vec<Clause>, Global>,
     index: Arc<Vec<Placed>, Global>,
+    /// Where the clauses of each group begin in the index.
+    starts: Arc<Vec<u32>, Global>,
 }
 
 impl Model for Problem {
     ghost use Rattle.std.specs.Prelude.{◌+◌, ◌^◌, ◌<◌};
     ghost use Rattle.std.specs.Arc.{arc_value};
     ghost use Rattle.gm_base.specs.Problem.{Problem, IsProblem};
-    ghost use Rattle.gm_base.specs.Index.{IsIndex};
+    ghost use Rattle.gm_base.specs.Index.{IsIndex, AreStarts};
 
     ghost Value = { Problem };
 
@@ -38,6 +40,7 @@ impl Model for Problem {
           well_formed : IsProblem (record { vars = p.vars; groups = p.groups; clauses = (arc_value p.clauses).items });
           small : p.vars + p.groups < 2 ^ 31;
           index : IsIndex (arc_value p.clauses).items (arc_value p.index).items;
+          starts : AreStarts (arc_value p.index).items (arc_value p.starts).items;
         } };
 }
 
@@ -55,13 +58,16 @@ impl Problem {
     {
         let clauses = clauses.into_vec();
         let index = index_of(alloc, clauses.as_slice())?;
+        let starts = starts_of(alloc, index.as_slice())?;
         let clauses = Arc::new(alloc, clauses)?;
         let index = Arc::new(alloc, index)?;
+        let starts = Arc::new(alloc, starts)?;
         Ok(Problem {
             vars,
             groups,
             clauses,
             index,
+            starts,
         })
     }
 
@@ -71,11 +77,13 @@ impl Problem {
     {
         let clauses = Arc::try_clone(&self.clauses)?;
         let index = Arc::try_clone(&self.index)?;
+        let starts = Arc::try_clone(&self.starts)?;
         Ok(Problem {
             vars: self.vars,
             groups: self.groups,
             clauses,
             index,
+            starts,
         })
     }
 
@@ -114,7 +122,7 @@ impl Problem {
     pub fn places(&self, group: u32) -> &[Placed]
         ensures { ArePlaces self.now.clauses group result.now }
     {
-        stretch(self.index.as_slice(), group)
+        stretch(self.index.as_slice(), self.starts.as_slice(), group)
     }
 
     /// Whether the assignment makes the clauses of this group true. It looks at these clauses alone.
