@@ -1,7 +1,8 @@
 -- Lemmas on columns.
 use Rattle.std.proofs.Common.{◌≡◌, ◌≢◌, ℕ, zero, suc, ◌+◌, ◌-◌, ◌*◌, ◌^◌, ◌/◌, ◌%◌, ◌<◌, ◌≤◌, min, max, Bool, true, false, not, ◌==◌, ◌&&◌, ◌||◌, cond, List, [], ◌∷◌, length, take, drop, refl, sym, ◌∙◌, ap, subst, inl, inr, arith, w64, eqb}
 use Rattle.std.specs.Prelude.{ℤ, pos, negsuc, slice_index_or, None, All, bit_and, bit_or}
-use Rattle.std.specs.Int.{bit_at, bit_not}
+use Rattle.std.specs.Int.{Width, bit_at, bit_not}
+use mir.Val.{bits}
 use Rattle.std.specs.List.{list_all}
 use Rattle.std.proofs.lemmas.Bool.{cases_eq, and_parts, and_from, eq-eqb}
 use Rattle.std.proofs.lemmas.List.{get_or-map, get_or-take, get_or-drop, take_all}
@@ -41,13 +42,14 @@ flipped (suc (suc x)) l = absurd (omega arith)
 pub is_set-or : (a b k : ℕ) → is_set (bit_or a b) k ≡ (is_set a k || is_set b k)
 is_set-or a b k = ap (λ x. x == 1) (bit_at_or a b k) ∙ greater (bit_at a k) (bit_at b k) (bit_at-lt a k) (bit_at-lt b k)
 
-pub is_set-and : (a b k : ℕ) → is_set (bit_and a b) k ≡ true → (is_set a k ≡ true) × (is_set b k ≡ true)
-is_set-and a b k t =
-    and_parts (is_set a k) (is_set b k)
-    (sym (ap (λ x. x == 1) (bit_at_and a b k) ∙ lesser (bit_at a k) (bit_at b k) (bit_at-lt a k) (bit_at-lt b k)) ∙ t)
+pub is_set-both : (a b k : ℕ) → is_set (bit_and a b) k ≡ (is_set a k && is_set b k)
+is_set-both a b k = ap (λ x. x == 1) (bit_at_and a b k) ∙ lesser (bit_at a k) (bit_at b k) (bit_at-lt a k) (bit_at-lt b k)
 
-pub is_set-not : (a k : ℕ) → a < 2 ^ 64 → k < 64 → is_set (bit_not w64 a) k ≡ not (is_set a k)
-is_set-not a k fits within = ap (λ x. x == 1) (bit_at_not w64 a k fits within) ∙ flipped (bit_at a k) (bit_at-lt a k)
+pub is_set-and : (a b k : ℕ) → is_set (bit_and a b) k ≡ true → (is_set a k ≡ true) × (is_set b k ≡ true)
+is_set-and a b k t = and_parts (is_set a k) (is_set b k) (sym (is_set-both a b k) ∙ t)
+
+pub is_set-not : (w : Width) (a k : ℕ) → a < 2 ^ bits w → k < bits w → is_set (bit_not w a) k ≡ not (is_set a k)
+is_set-not w a k fits within = ap (λ x. x == 1) (bit_at_not w a k fits within) ∙ flipped (bit_at a k) (bit_at-lt a k)
 
 pub is_set-zero : (k : ℕ) → is_set 0 k ≡ false
 is_set-zero k = ap (λ x. x == 1) (bit_at-zero k)

@@ -11,6 +11,7 @@ pub mod Explored
 pub mod SetListLemmas
 pub mod HeldLemmas
 pub mod ColumnLemmas
+pub mod PlaceLemmas
 pub mod WithLemmas
 pub mod ShortenLemmas
 pub mod ServingLemmas

@@ -1,23 +1,24 @@
 -- An index of conflicts by their groups: how it grows, and that by it the least number that serves is found.
-use Rattle.std.proofs.Common.{◌≡◌, ◌≢◌, ℕ, zero, suc, ◌+◌, ◌<◌, ◌≤◌, Bool, true, false, not, ◌&&◌, ◌||◌, cond, List, [], ◌∷◌, ◌++◌, length, get_or, take, drop, Some, refl, sym, ◌∙◌, ap, ap₂, subst, inl, inr, eqb, arith, append_assoc, append-nil, length-append, add-one, drop-cons}
-use Rattle.std.specs.Prelude.{slice_get, All, Result, Ok, Err, OnOk}
-use Rattle.std.specs.List.{AllByRecursion}
-use Rattle.std.specs.Option.{option_map_or}
-use Rattle.std.proofs.lemmas.Bool.{false≢true, cases_Bool, eqb-true, eq-eqb, false_from_ne_true, or_left, or_right}
-use Rattle.std.proofs.lemmas.List.{take_all, take_more, take-append-drop, get_or_default}
-use Rattle.std.proofs.lemmas.List.Folds.{list_any-append}
+use Rattle.std.proofs.Common.{◌≡◌, ◌≢◌, ℕ, zero, suc, ◌+◌, ◌<◌, ◌≤◌, Bool, true, false, not, ◌&&◌, ◌||◌, cond, List, [], ◌∷◌, ◌++◌, length, get_or, take, drop, Some, None, refl, sym, ◌∙◌, ap, ap₂, subst, inl, inr, eqb, arith, append_assoc, append-nil, add-one, drop-cons}
+use Rattle.std.specs.Prelude.{Result, Ok, Err, OnOk}
+use Rattle.std.specs.List.{AllByRecursion, find, list_all}
+use Rattle.std.specs.Option.{option_map, option_or}
+use Rattle.std.proofs.lemmas.Bool.{false≢true, cases_Bool, eqb-true, eq-eqb, ne_eqb, false_from_ne_true, or_from, or_left, or_right}
+use Rattle.std.proofs.lemmas.List.{take_all, take_more, take-append-drop}
+use Rattle.std.proofs.lemmas.List.Folds.{find-append, list_all-append, list_all_more, list_any-append}
 use Rattle.sat_base.proofs.Members.{all_at, any_from}
 use Rattle.gm_base.specs.Sets.{AscendsAbove, IsGroupSet, IsSubset, has, without, complement}
 use Rattle.gm_base.specs.Problem.{Problem, IsProblem, Sat}
-use Rattle.gm_base.proofs.SetLemmas.{AscendsAbove-at, has-without, has-complement-from, all_groups-has}
+use Rattle.gm_base.proofs.SetLemmas.{AscendsAbove-at, has-head, has-without, has-complement-from, all_groups-has}
 use Rattle.gm_base.proofs.SatLemmas.{Sat-subset}
 use Rattle.gm_base.proofs.EvidenceLemmas.{Sat-from_witness}
 use Rattle.evidence_rec.specs.declared.record.Record.{Record}
 use Rattle.evidence_rec.specs.declared.record.Record.TheVariants.{Conflict, Correction}
 use Rattle.evidence_rec.specs.Records.{set_of, is_inside, IsAccepted, AllAcceptedBehind, AllAccepted, IsRight}
 use Rattle.evidence_rec.specs.Shorten.{least_from, least_serving}
-use Rattle.evidence_rec.specs.Serving.{is_conflict_with, places_from, IsIndexOf, IndexesOneMore, first_serving, ServesByGroup, FindsServing, CanShorten}
+use Rattle.evidence_rec.specs.Serving.{is_conflict_with, places_from, IsIndexOf, IndexesOneMore, is_apart, ServesByGroup, FindsServing, CanShorten}
 use Rattle.evidence_rec.proofs.AcceptedLemmas.{accepted-right}
+use Rattle.evidence_rec.proofs.ApartLemmas.{apart-sym}
 
 -- ---- lists that grow
 
@@ -132,80 +133,141 @@ index-none lists empty g lt = empty g lt
 
 -- ---- what is found
 
--- each place is one of a record
-places-below : (at g : ℕ) (rs : List Record) (i : ℕ) → i < length (places_from at g rs) → get_or (places_from at g rs) i 0 < at + length rs
-places-below at g [] i lt = absurd (omega (arith, lt))
-places-below at g (r ∷ rs) i lt = by (is_conflict_with g r) (places_from (at + 1) g rs) (places-below (at + 1) g rs) i lt
+-- no place before the first record's
+place-before : (at g : ℕ) (rs : List Record) (k : ℕ) → k < at → has (places_from at g rs) k ≡ false
+place-before at g [] k lt = refl
+place-before at g (r ∷ rs) k lt = by (is_conflict_with g r) (places_from (at + 1) g rs) (place-before (at + 1) g rs k (omega arith))
   where
-    by : (b : Bool) (ks : List ℕ) → ((k : ℕ) → k < length ks → get_or ks k 0 < at + 1 + length rs)
-        → (k : ℕ) → k < length (cond b (at ∷ ks) ks) → get_or (cond b (at ∷ ks) ks) k 0 < at + length (r ∷ rs)
-    by true ks rest zero lt = omega arith
-    by true ks rest (suc k) lt = let below = rest k (omega (arith, lt)) in omega (arith, below)
-    by false ks rest k lt = let below = rest k lt in omega (arith, below)
+    by : (b : Bool) (ks : List ℕ) → has ks k ≡ false → has (cond b (at ∷ ks) ks) k ≡ false
+    by true ks none = or_from (eqb at k) (has ks k) (ne_eqb at k (λ same. absurd (omega arith))) none
+    by false ks none = none
 
-pub places-within : (earlier : List Record) (set : List ℕ) (g : ℕ) (lists : List (List ℕ)) (places : List ℕ) → FindsServing earlier set lists → has set g ≡ true
-    → places ≡ get_or lists g [] → All (λ at. at < length earlier) places
-places-within earlier set g lists places finds inside is k d lt =
-    let all : places ≡ places_from 0 g earlier = is ∙ finds.is_index g (finds.within g inside) in
-    let within : k < length (places_from 0 g earlier) = subst (λ ps. k < length ps) all lt in
-    let below : get_or (places_from 0 g earlier) k 0 < 0 + length earlier = places-below 0 g earlier k within in
-    let same : get_or places k d ≡ get_or (places_from 0 g earlier) k 0 = ap (λ ps. get_or ps k d) all ∙ get_or_default (places_from 0 g earlier) k d 0 within in
-    omega (arith, below, same)
+-- the place of a record is listed under the groups of a conflict
+place-listed : (at g : ℕ) (rs : List Record) (i : ℕ) (d : Record) → i < length rs → has (places_from at g rs) (at + i) ≡ is_conflict_with g (get_or rs i d)
+place-listed at g [] i d lt = absurd (omega (arith, lt))
+place-listed at g (r ∷ rs) zero d lt = by (is_conflict_with g r) (places_from (at + 1) g rs) (place-before (at + 1) g rs (at + 0) (omega arith))
+  where
+    by : (b : Bool) (ks : List ℕ) → has ks (at + 0) ≡ false → has (cond b (at ∷ ks) ks) (at + 0) ≡ b
+    by true ks none = or_left (eqb at (at + 0)) (has ks (at + 0)) (eq-eqb at (at + 0) (omega arith))
+    by false ks none = none
+place-listed at g (r ∷ rs) (suc i) d lt =
+    let there : at + 1 + i ≡ at + suc i = omega arith in
+    by (is_conflict_with g r) (places_from (at + 1) g rs)
+    (subst (λ n. has (places_from (at + 1) g rs) n ≡ is_conflict_with g (get_or rs i d)) there (place-listed (at + 1) g rs i d (omega (arith, lt))))
+  where
+    by : (b : Bool) (ks : List ℕ) → has ks (at + suc i) ≡ is_conflict_with g (get_or rs i d)
+        → has (cond b (at ∷ ks) ks) (at + suc i) ≡ is_conflict_with g (get_or rs i d)
+    by true ks rest = ap (λ e. e || has ks (at + suc i)) (ne_eqb at (at + suc i) (λ same. absurd (omega arith))) ∙ rest
+    by false ks rest = rest
+
+all-same : (p q : ℕ → Bool) (xs : List ℕ) → ((x : ℕ) → has xs x ≡ true → p x ≡ q x) → list_all p xs ≡ list_all q xs
+all-same p q [] same = refl
+all-same p q (x ∷ xs) same =
+    ap₂ (λ a b. a && b) (same x (has-head x xs)) (all-same p q xs (λ y on. same y (or_right (eqb x y) (has xs y) on)))
+
+-- so the lists of the correction's groups say of a conflict whether it serves
+apart-there : (lists : List (List ℕ)) (set : List ℕ) (g at : ℕ) (r : Record)
+    → ((h : ℕ) → has set h ≡ true → has (get_or lists h []) at ≡ is_conflict_with h r) → is_conflict_with g r ≡ true
+    → is_apart lists set g at ≡ is_inside set g r
+apart-there lists set g at (Correction groups w rs) listed on = absurd (false≢true on)
+apart-there lists set g at (Conflict groups proof ws) listed on =
+    all-same (λ h. eqb h g || not (has (get_or lists h []) at)) (λ h. not (has (without groups g) h)) set
+    (λ h in_set.
+    ap (λ b. eqb h g || not b) (listed h in_set) ∙ both (eqb h g) (has groups h) ∙ sym (ap not (has-without groups g h)))
+    ∙ apart-sym g set groups
+  where
+    both : (e b : Bool) → (e || not b) ≡ not (not e && b)
+    both true b = refl
+    both false b = refl
 
 -- what serves is a conflict
 conflict-inside : (set : List ℕ) (g : ℕ) (r : Record) → is_inside set g r ≡ true → has (set_of r) g ≡ true → is_conflict_with g r ≡ true
 conflict-inside set g (Conflict groups proof ws) inside on = on
 conflict-inside set g (Correction groups w rs) inside on = absurd (false≢true inside)
 
-middle : (before rs : List Record) (r : Record) → slice_get (before ++ r ∷ rs) (length before) ≡ Some r
-middle [] rs r = refl
-middle (b ∷ bs) rs r = middle bs rs r
-
-least-by_places : (set : List ℕ) (g : ℕ) (before rs : List Record) → ServesByGroup set g rs
-    → least_from (length before + 1) set g rs ≡ first_serving (before ++ rs) set g (places_from (length before) g rs)
-least-by_places set g before [] by_group = refl
-least-by_places set g before (r ∷ rs) by_group =
-    let counts : length (before ++ r ∷ []) ≡ length before + 1 = length-append before (r ∷ []) in
-    let later : least_from (length before + 1 + 1) set g rs ≡ first_serving (before ++ r ∷ rs) set g (places_from (length before + 1) g rs) =
-    ap (λ n. least_from (n + 1) set g rs) (sym counts) ∙ least-by_places set g (before ++ r ∷ []) rs by_group.1
-    ∙ ap₂ (λ (all : List Record) (n : ℕ). first_serving all set g (places_from n g rs)) (append_assoc before (r ∷ []) rs) counts in
+-- the first conflict that passes the test, by its place and by itself
+least-by_places : (test : ℕ → Bool) (set : List ℕ) (g at : ℕ) (rs : List Record) → ServesByGroup set g rs
+    → ((i : ℕ) (d : Record) → i < length rs → is_conflict_with g (get_or rs i d) ≡ true → test (at + i) ≡ is_inside set g (get_or rs i d))
+    → least_from (at + 1) set g rs ≡ option_map (λ k. k + 1) (find test (places_from at g rs))
+least-by_places test set g at [] by_group tells = refl
+least-by_places test set g at (r ∷ rs) by_group tells =
+    let later : least_from (at + 1 + 1) set g rs ≡ option_map (λ k. k + 1) (find test (places_from (at + 1) g rs)) =
+    least-by_places test set g (at + 1) rs by_group.1
+    (λ i d lt on.
+    let there : at + suc i ≡ at + 1 + i = omega arith in
+    subst (λ n. test n ≡ is_inside set g (get_or rs i d)) there (tells (suc i) d (omega (arith, lt)) on)) in
     elim (cases_Bool (is_conflict_with g r)) [ inl on ↦ listed later on | inr off ↦ passed later off ]
   where
-    listed : least_from (length before + 1 + 1) set g rs ≡ first_serving (before ++ r ∷ rs) set g (places_from (length before + 1) g rs)
-        → is_conflict_with g r ≡ true → least_from (length before + 1) set g (r ∷ rs) ≡ first_serving (before ++ r ∷ rs) set g (places_from (length before) g (r ∷ rs))
-    listed later on =
-        ap (λ o. cond (is_inside set g r) (Some (length before + 1)) o) later
-        ∙ sym
-        (ap (λ b. first_serving (before ++ r ∷ rs) set g (cond b (length before ∷ places_from (length before + 1) g rs) (places_from (length before + 1) g rs))) on
-        ∙ ap (λ o. cond (option_map_or (is_inside set g) o false) (Some (length before + 1)) (first_serving (before ++ r ∷ rs) set g (places_from (length before + 1) g rs))) (middle before rs r))
+    step : (b : Bool) (ks : List ℕ) → test at ≡ b → least_from (at + 1 + 1) set g rs ≡ option_map (λ k. k + 1) (find test ks)
+        → cond b (Some (at + 1)) (least_from (at + 1 + 1) set g rs) ≡ option_map (λ k. k + 1) (find test (at ∷ ks))
+    step true ks is later = sym (ap (λ c. option_map (λ k. k + 1) (cond c (Some at) (find test ks))) is)
+    step false ks is later = later ∙ sym (ap (λ c. option_map (λ k. k + 1) (cond c (Some at) (find test ks))) is)
 
-    passed : least_from (length before + 1 + 1) set g rs ≡ first_serving (before ++ r ∷ rs) set g (places_from (length before + 1) g rs)
-        → is_conflict_with g r ≡ false → least_from (length before + 1) set g (r ∷ rs) ≡ first_serving (before ++ r ∷ rs) set g (places_from (length before) g (r ∷ rs))
+    listed : least_from (at + 1 + 1) set g rs ≡ option_map (λ k. k + 1) (find test (places_from (at + 1) g rs)) → is_conflict_with g r ≡ true
+        → least_from (at + 1) set g (r ∷ rs) ≡ option_map (λ k. k + 1) (find test (places_from at g (r ∷ rs)))
+    listed later on =
+        let there : at + 0 ≡ at = omega arith in
+        step (is_inside set g r) (places_from (at + 1) g rs) (subst (λ n. test n ≡ is_inside set g r) there (tells 0 r (omega arith) on)) later
+        ∙ sym (ap (λ c. option_map (λ k. k + 1) (find test (cond c (at ∷ places_from (at + 1) g rs) (places_from (at + 1) g rs)))) on)
+
+    passed : least_from (at + 1 + 1) set g rs ≡ option_map (λ k. k + 1) (find test (places_from (at + 1) g rs)) → is_conflict_with g r ≡ false
+        → least_from (at + 1) set g (r ∷ rs) ≡ option_map (λ k. k + 1) (find test (places_from at g (r ∷ rs)))
     passed later off =
         let outside : is_inside set g r ≡ false =
         false_from_ne_true (is_inside set g r) (λ inside. false≢true (sym off ∙ conflict-inside set g r inside (by_group.0 inside))) in
-        ap (λ b. cond b (Some (length before + 1)) (least_from (length before + 1 + 1) set g rs)) outside ∙ later
-        ∙ sym (ap (λ b. first_serving (before ++ r ∷ rs) set g (cond b (length before ∷ places_from (length before + 1) g rs) (places_from (length before + 1) g rs))) off)
+        ap (λ b. cond b (Some (at + 1)) (least_from (at + 1 + 1) set g rs)) outside ∙ later
+        ∙ sym (ap (λ c. option_map (λ k. k + 1) (find test (cond c (at ∷ places_from (at + 1) g rs) (places_from (at + 1) g rs)))) off)
 
-pub least-found_by : (earlier : List Record) (set : List ℕ) (g : ℕ) (lists : List (List ℕ)) (places : List ℕ) → FindsServing earlier set lists → has set g ≡ true
-    → places ≡ get_or lists g [] → first_serving earlier set g places ≡ least_serving earlier set g
-least-found_by earlier set g lists places finds inside is =
-    ap (first_serving earlier set g) (is ∙ finds.is_index g (finds.within g inside)) ∙ sym (least-by_places set g [] earlier (finds.by_group g inside))
+pub least-found_by : (earlier : List Record) (set : List ℕ) (g : ℕ) (lists : List (List ℕ)) → FindsServing earlier set lists → has set g ≡ true
+    → option_map (λ k. k + 1) (find (is_apart lists set g) (get_or lists g [])) ≡ least_serving earlier set g
+least-found_by earlier set g lists finds on =
+    ap (λ ks. option_map (λ k. k + 1) (find (is_apart lists set g) ks)) (finds.is_index g (finds.within g on))
+    ∙ sym
+    (least-by_places (is_apart lists set g) set g 0 earlier (finds.by_group g on)
+    (λ i d lt conflict.
+    apart-there lists set g (0 + i) (get_or earlier i d)
+    (λ h in_set. ap (λ ks. has ks (0 + i)) (finds.is_index h (finds.within h in_set)) ∙ place-listed 0 h earlier i d lt) conflict))
 
--- the walk over places: the first serves, or those behind it tell
-pub first-here : (records : List Record) (set : List ℕ) (g at : ℕ) (places : List ℕ) (r : Record) → slice_get records at ≡ Some r → is_inside set g r ≡ true
-    → first_serving records set g (at ∷ places) ≡ Some (at + 1)
-first-here records set g at places r is inside =
-    ap (λ b. cond b (Some (at + 1)) (first_serving records set g places)) (ap (λ o. option_map_or (is_inside set g) o false) is ∙ inside)
+-- ---- the walk over blocks
 
-pub first-later : (records : List Record) (set : List ℕ) (g at : ℕ) (places : List ℕ) (r : Record) → slice_get records at ≡ Some r → is_inside set g r ≡ false
-    → first_serving records set g (at ∷ places) ≡ first_serving records set g places
-first-later records set g at places r is outside =
-    ap (λ b. cond b (Some (at + 1)) (first_serving records set g places)) (ap (λ o. option_map_or (is_inside set g) o false) is ∙ outside)
+-- a group more takes its places from what is left
+pub apart-none : (x : Bool) → x ≡ (x && true)
+apart-none true = refl
+apart-none false = refl
 
--- the place that the walk is at, and those behind it
-pub drop-place : (places : List ℕ) (i : ℕ) → i < length places → drop i places ≡ get_or places i 0 ∷ drop (i + 1) places
-drop-place places i lt = rw (add-one, drop-cons places i 0) refl
+pub apart-more : (lists : List (List ℕ)) (set : List ℕ) (g at k : ℕ) (new old x : Bool) → k < length set
+    → new ≡ (old && (eqb (get_or set k 0) g || not (has (get_or lists (get_or set k 0) []) at))) → old ≡ (x && is_apart lists (take k set) g at)
+    → new ≡ (x && is_apart lists (take (k + 1) set) g at)
+apart-more lists set g at k new old x lt is before =
+    let test : ℕ → Bool = λ h. eqb h g || not (has (get_or lists h []) at) in
+    is ∙ ap (λ b. b && test (get_or set k 0)) before ∙ and-and x (list_all test (take k set)) (test (get_or set k 0))
+    ∙ ap (λ b. x && b) (sym (list_all_more test set k 0 lt))
+  where
+    and-and : (a b c : Bool) → ((a && b) && c) ≡ (a && (b && c))
+    and-and true b c = refl
+    and-and false b c = refl
+
+-- where nothing is left, more groups leave nothing
+pub apart-nothing : (lists : List (List ℕ)) (set : List ℕ) (g at k : ℕ) (x : Bool) → false ≡ (x && is_apart lists (take k set) g at)
+    → false ≡ (x && is_apart lists set g at)
+apart-nothing lists set g at k x none =
+    let test : ℕ → Bool = λ h. eqb h g || not (has (get_or lists h []) at) in
+    by x (list_all test (take k set)) (list_all test (drop k set)) none
+    ∙ ap (λ b. x && b) (sym (list_all-append test (take k set) (drop k set)) ∙ ap (list_all test) (take-append-drop k set))
+  where
+    by : (a b c : Bool) → false ≡ (a && b) → false ≡ (a && (b && c))
+    by true true c e = absurd (false≢true e)
+    by true false c e = refl
+    by false b c e = refl
+
+-- a place that is found in the block that the walk is at, or those behind it tell
+pub first-here : (test : ℕ → Bool) (xs ys : List ℕ) (k : ℕ) → find test xs ≡ Some k → find test (xs ++ ys) ≡ Some k
+first-here test xs ys k here = find-append test xs ys ∙ ap (λ o. option_or o (find test ys)) here
+
+pub first-later : (test : ℕ → Bool) (xs ys : List ℕ) → find test xs ≡ None → find test (xs ++ ys) ≡ find test ys
+first-later test xs ys none = find-append test xs ys ∙ ap (λ o. option_or o (find test ys)) none
+
+-- ---- the walk over records
 
 -- the record that the walk is at
 drop-there : (rs : List Record) (i : ℕ) (r : Record) → i < length rs → get_or rs i r ≡ r → drop i rs ≡ r ∷ drop (i + 1) rs

@@ -9,5 +9,6 @@ pub mod Rows
 pub mod Blocks
 pub mod Held
 pub mod Columns
+pub mod Places
 pub mod Shorten
 pub mod Serving

@@ -1,7 +1,6 @@
 -- An index of conflicts by their groups, and when what serves for a group of a correction is found by that group alone.
-use Rattle.std.specs.Prelude.{◌≡◌, ℕ, ◌+◌, ◌<◌, Bool, true, false, List, [], ◌∷◌, ◌++◌, length, Option, Some, None, slice_get, slice_index_or, if◌then◌else◌}
-use Rattle.std.specs.List.{AllByRecursion}
-use Rattle.std.specs.Option.{option_map_or}
+use Rattle.std.specs.Prelude.{◌≡◌, ℕ, ◌+◌, ◌<◌, Bool, true, false, not, ◌==◌, ◌||◌, List, [], ◌∷◌, ◌++◌, length, slice_index_or, if◌then◌else◌}
+use Rattle.std.specs.List.{AllByRecursion, list_all}
 use Rattle.gm_base.specs.Sets.{has}
 use Rattle.evidence_rec.specs.declared.record.Record.{Record}
 use Rattle.evidence_rec.specs.declared.record.Record.TheVariants as record_of
@@ -25,11 +24,9 @@ IsIndexOf records lists = (g : ℕ) → g < length lists → slice_index_or list
 abbrev pub IndexesOneMore : ℕ → Record → List (List ℕ) → List (List ℕ) → Type 0
 IndexesOneMore count r old new = (earlier : List Record) → length earlier ≡ count → IsIndexOf earlier old → IsIndexOf (earlier ++ r ∷ []) new
 
--- of the records at these places, the number of the first that serves for a group of a correction
-abbrev pub first_serving : List Record → List ℕ → ℕ → List ℕ → Option ℕ
-first_serving records set g [] = None
-first_serving records set g (at ∷ places) =
-    if option_map_or (is_inside set g) (slice_get records at) false then Some (at + 1) else first_serving records set g places
+-- of the set's groups none but, maybe, this one has the place in its list
+abbrev pub is_apart : List (List ℕ) → List ℕ → ℕ → ℕ → Bool
+is_apart lists set g at = list_all (λ h. h == g || not (has (slice_index_or lists h []) at)) set
 
 -- a conflict that serves for this group of the correction has it
 abbrev pub ServesByGroup : List ℕ → ℕ → List Record → Type 0

@@ -31,6 +31,7 @@ pub mod laws;
 mod lines;
 mod lists;
 mod oracle;
+mod places;
 mod record;
 mod refutation;
 mod selectors;

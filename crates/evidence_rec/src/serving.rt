@@ -3,25 +3,31 @@
 //! A conflict serves for a group of a correction if it has no group of the correction but, maybe, this one. A conflict that
 //! has none at all of the correction's groups would serve for each of them; but no witness satisfies all groups outside the
 //! correction then. So behind accepted records it suffices to look at the conflicts that have the group, and an index has
-//! them by their groups: each conflict stands in the list of each of its groups, in the order of the records.
-ghost use Rattle.std.specs.Prelude.{◌≡◌, ◌≢◌, ℕ, true, ◌<◌, ◌+◌, ◌++◌, ◌∷◌, [], All, OnOk, IfOk, length, slice_index_or, if◌then◌else◌};
+//! them by their groups: the place of each conflict stands in the list of each of its groups, in the order of the records.
+//! The first place of the group's list that stands in no list of another group of the correction is that of the first
+//! conflict that serves. No record is looked at, and the lists are compared 32 places at a time.
+ghost use Rattle.std.specs.Prelude.{◌≡◌, ◌≢◌, ℕ, true, not, ◌<◌, ◌+◌, ◌*◌, ◌==◌, ◌&&◌, ◌||◌, ◌++◌, ◌∷◌, List, [], All, OnOk, IfOk, length, slice_index_or, if◌then◌else◌};
+ghost use Rattle.std.specs.List.{find};
+ghost use Rattle.std.specs.Option.{option_map};
 ghost use Rattle.gm_base.specs.Sets.{has};
 ghost use Rattle.evidence_rec.specs.Records.{set_of};
+ghost use Rattle.evidence_rec.specs.Columns.{is_set};
+ghost use Rattle.evidence_rec.specs.Places.{places_of};
 ghost use Rattle.evidence_rec.specs.Shorten.{least_serving};
-ghost use Rattle.evidence_rec.specs.Serving.{IsIndexOf, IndexesOneMore, FindsServing, first_serving};
+ghost use Rattle.evidence_rec.specs.Serving.{IsIndexOf, IndexesOneMore, FindsServing, is_apart};
 
+use crate::places::{Block, PlaceList, lowest, without};
 use crate::record::Record;
 use gm_base::GroupSet;
-use sat_base::Row;
 use std::alloc::{AllocError, Global};
 use std::marker::Model;
 
 /// The places of conflicts in a list of records, by their groups.
 ///
-/// For each group of each conflict it takes four bytes, and at most sixteen with the room that lists are ahead by.
+/// For each group of each conflict it takes eight bytes at most, and at most sixteen with the room that lists are ahead by.
 #[derive(Drop)]
 pub struct ConflictIndex {
-    lists: Vec<Row<u32>>,
+    lists: Vec<PlaceList>,
 }
 
 impl Model for ConflictIndex {
@@ -39,14 +45,15 @@ impl ConflictIndex {
         ensures none { IfOk result (IsIndexOf []) }
     {
         let mut lists = Vec::new(alloc);
-        lists.push(Row::new(alloc))?;
+        lists.push(PlaceList::new(alloc))?;
         for _ in 0..groups {
-            lists.push(Row::new(alloc))?;
+            lists.push(PlaceList::new(alloc))?;
         }
         Ok(ConflictIndex { lists })
     }
 
-    /// Adds the record behind those that it has, of which there are so many.
+    /// Adds the record behind those that it has, of which there are so many. Where it has one behind that place, the record
+    /// finds no room.
     pub fn add(&mut self, count: usize, record: &Record) -> Result<(), AllocError>
         requires within { (g : ℕ) → has (set_of «record».now) g ≡ true → g < length self.old }
         ensures groups { OnOk result (length self.new ≡ length self.old) }
@@ -61,19 +68,20 @@ impl ConflictIndex {
         list_under(&mut self.lists, set, place)
     }
 
-    /// The least number of a conflict that serves for a group of a correction, where it has the records before that.
-    pub fn least_serving(&self, earlier: &[Record], set: &GroupSet, group: u32) -> Option<u64>
-        requires finds { FindsServing earlier.now set.now self.now }
+    /// The least number of a conflict that serves for a group of a correction, in the records that it has.
+    pub fn least_serving(&self, set: &GroupSet, group: u32) -> Option<u64>
+        requires within { (g : ℕ) → has set.now g ≡ true → g < length self.now }
         requires of_the_set { has set.now group ≡ true }
-        ensures { result ≡ least_serving earlier.now set.now group }
+        ensures { (earlier : List Record) → FindsServing earlier set.now self.now → result ≡ least_serving earlier set.now group }
     {
-        let places = self.lists[group as usize].as_slice();
-        first_serving(earlier, set, group, places)
+        let lists = self.lists.as_slice();
+        let own = lists[group as usize].blocks();
+        first_apart(lists, set.as_slice(), group, own)
     }
 }
 
 // Lists a place under each group of the set.
-fn list_under(lists: &mut Vec<Row<u32>>, set: &GroupSet, place: u32) -> Result<(), AllocError>
+fn list_under(lists: &mut Vec<PlaceList>, set: &GroupSet, place: u32) -> Result<(), AllocError>
     requires within { (g : ℕ) → has set.now g ≡ true → g < length lists.old.items }
     ensures groups { OnOk result (length lists.new.items ≡ length lists.old.items) }
     ensures lists { OnOk result ((g : ℕ) → slice_index_or lists.new.items g [] ≡ slice_index_or lists.old.items g [] ++ (if has set.now g then place ∷ [] else [])) }
@@ -85,27 +93,62 @@ fn list_under(lists: &mut Vec<Row<u32>>, set: &GroupSet, place: u32) -> Result<(
 }
 
 // Adds a place to the list of one group.
-fn list_at(lists: &mut Vec<Row<u32>>, group: u32, place: u32) -> Result<(), AllocError>
+fn list_at(lists: &mut Vec<PlaceList>, group: u32, place: u32) -> Result<(), AllocError>
     requires { group < length lists.old.items }
     ensures groups { OnOk result (length lists.new.items ≡ length lists.old.items) }
     ensures own { OnOk result (slice_index_or lists.new.items group [] ≡ slice_index_or lists.old.items group [] ++ place ∷ []) }
     ensures others { OnOk result ((g : ℕ) → g ≢ group → slice_index_or lists.new.items g [] ≡ slice_index_or lists.old.items g []) }
 {
-    lists[group as usize].push(place)?;
+    lists[group as usize].add(place)?;
     Ok(())
 }
 
-// Of the records at these places, the number of the first that serves for this group of the correction.
-fn first_serving(records: &[Record], set: &GroupSet, group: u32, places: &[u32]) -> Option<u64>
-    requires { All (λ at. at < length records.now) places.now }
-    ensures { result ≡ first_serving records.now set.now group places.now }
+// Of the places in these blocks, the number of the first that no group of the set has but, maybe, this one.
+fn first_apart(lists: &[PlaceList], set: &[u32], group: u32, blocks: &[Block]) -> Option<u64>
+    requires { All (λ g. g < length lists.now) set.now }
+    ensures { result ≡ option_map (λ at. at + 1) (find (is_apart lists.now set.now group) (places_of blocks.now)) }
 {
-    for at in places {
-        if records[*at as usize].is_inside(set, group) {
-            return Some(u64::from(*at) + 1);
+    for block in blocks {
+        let bits = apart_bits(lists, set, group, *block);
+        if bits > 0 {
+            return Some(number_at(*block, lowest(bits)));
         }
     }
     None
+}
+
+// The number of the record at the place of this bit.
+fn number_at(block: Block, bit: u32) -> u64
+    requires { bit < 32 }
+    ensures { result ≡ 32 * block.at + bit + 1 }
+{
+    32 * u64::from(block.at) + u64::from(bit) + 1
+}
+
+// The bits of a block whose places no group of the set has but, maybe, this one.
+fn apart_bits(lists: &[PlaceList], set: &[u32], group: u32, block: Block) -> u32
+    requires { All (λ g. g < length lists.now) set.now }
+    ensures { (i : ℕ) → i < 32 → is_set result i ≡ (is_set block.bits i && is_apart lists.now set.now group (32 * block.at + i)) }
+{
+    let mut bits = block.bits;
+    for other in set {
+        if bits == 0 {
+            return 0;
+        }
+        bits = bits_without(bits, block.at, lists, *other, group);
+    }
+    bits
+}
+
+// The bits whose places the other group does not have, if it is another one.
+fn bits_without(bits: u32, at: u32, lists: &[PlaceList], other: u32, group: u32) -> u32
+    requires { other < length lists.now }
+    ensures { (i : ℕ) → i < 32 → is_set result i ≡ (is_set bits i && (other == group || not (has (slice_index_or lists.now other []) (32 * at + i)))) }
+{
+    if other == group {
+        return bits;
+    }
+    without(bits, lists[other as usize].bits_at(at))
 }
 
 /// The least number of a conflict among these records that serves for a group of a correction. It looks at each record.

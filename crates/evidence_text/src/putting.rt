@@ -169,7 +169,7 @@ fn least_by(
     ensures { result ≡ least_serving earlier.now set.now group }
 {
     match index {
-        Some(index) => index.least_serving(earlier, set, group),
+        Some(index) => index.least_serving(set, group),
         None => least_serving(earlier, set, group),
     }
 }
