@@ -1,13 +1,11 @@
 -- Clauses found by their ids.
-use Rattle.std.proofs.Common.{◌≡◌, ◌≢◌, ℕ, zero, suc, ◌-◌, ◌<◌, ◌≤◌, eqb, List, [], ◌∷◌, ◌++◌, map, length, get_or, drop, Some, None, Ok, Err, refl, sym, ◌∙◌, ap, ap₂, inl, inr, arith, All, slice_range}
+use Rattle.std.proofs.Common.{◌≡◌, ◌≢◌, ℕ, zero, suc, ◌-◌, ◌<◌, ◌≤◌, eqb, List, [], ◌∷◌, ◌++◌, map, length, get_or, drop, Some, None, Ok, Err, refl, ◌∙◌, ap, ap₂, inl, inr, arith, All, slice_range}
 use Rattle.std.specs.Prelude.{ℤ}
 use Rattle.std.specs.List.{find}
-use Rattle.std.specs.List.Sorted.{IsBinarySearchResult, IsSearchInRange, IsNonDecreasingBy}
+use Rattle.std.specs.List.Sorted.{IsBinarySearchResult, IsSearchInRange}
 use Rattle.std.specs.Option.{option_map}
-use Rattle.std.specs.Ordering.{nat_cmp, ordering_index}
-use Rattle.std.proofs.lemmas.Bool.{cond-true, cond-false, eq-eqb, ne_eqb, cases_lt, cases_eq}
-use Rattle.std.proofs.lemmas.Bool.Decides.{nat_tests}
-use Rattle.std.proofs.lemmas.Cmp.{ranked}
+use Rattle.std.specs.Ordering.{nat_cmp}
+use Rattle.std.proofs.lemmas.Bool.{cond-true, cond-false, eq-eqb, ne_eqb, cases_eq}
 use Rattle.std.proofs.lemmas.List.{map_push, length-map, get_or-map}
 use Rattle.std.proofs.lemmas.List.Elements.{All-drop, All-take}
 use Rattle.std.proofs.lemmas.List.Quantifiers.{all_pairs_push}
@@ -18,6 +16,7 @@ use Rattle.std.proofs.lemmas.List.Elements.{recursion_from_All}
 use Rattle.lrat_check.specs.Refusal.{last_id}
 use Rattle.lrat_check.specs.State.{IdsAscend}
 use Rattle.lrat_check.specs.Ids.{cut_by, IsWithin, Ascend, IsAt, HasNoId}
+use Rattle.lrat_check.proofs.HalvingLemmas.{halved_here, halved_nowhere}
 use Rattle.lrat_check.specs.declared.clauses.ClauseRecord.{ClauseRecord}
 
 known_here : (lits : List ℤ) (r : ClauseRecord) (records : List ClauseRecord) (id : ℕ) → r.id ≡ id
@@ -52,28 +51,14 @@ known_nowhere lits [] id none = refl
 known_nowhere lits (r ∷ records) id none =
     known_later lits r records id (none 0 r (omega arith)) ∙ known_nowhere lits records id (λ i d lt. none (suc i) d (omega arith))
 
--- comparisons with an id rise along the records, as halving asks
-comparisons_rise : (records : List ClauseRecord) (id : ℕ) → Ascend records → IsNonDecreasingBy (λ (r : ClauseRecord). ordering_index (nat_cmp r.id id)) records
-comparisons_rise records id up i j d le within =
-    let ids_rise : (get_or records i d).id ≤ (get_or records j d).id =
-    grind (arith, up i j d, λ (same : i ≡ j). ap (λ (k : ℕ). (get_or records k d).id) same) in
-    grind (arith, nat_tests)
-
--- so halving finds the record with the id, or shows that there is none
+-- halving finds the record with the id, or shows that there is none
 pub halved_ok : (records : List ClauseRecord) (id place : ℕ) → IsSearchInRange (Ok place) (length records) → IsBinarySearchResult (λ (r : ClauseRecord). nat_cmp r.id id) records (Ok place)
     → IsAt records id place
-halved_ok records id place within equal = record { within = within; here = λ d. ranked _ id _ (sym (equal d)) }
+halved_ok records id place within equal = record { within = within; here = halved_here (λ (r : ClauseRecord). r.id) records id place equal }
 
 pub halved_err : (records : List ClauseRecord) (id place : ℕ) → Ascend records → IsBinarySearchResult (λ (r : ClauseRecord). nat_cmp r.id id) records (Err place)
     → HasNoId records id
-halved_err records id place up parted i d lt same = elim (cases_lt i place) [
-  | inl before ↦
-      let less : (get_or records i d).id < id = ranked _ id _ (sym ((parted (comparisons_rise records id up)).0 i d (omega arith) before)) in
-      absurd (omega arith)
-  | inr behind ↦
-      let more : id < (get_or records i d).id = ranked _ id _ (sym ((parted (comparisons_rise records id up)).1 i d behind lt)) in
-      absurd (omega arith)
-]
+halved_err records id place up parted = halved_nowhere (λ (r : ClauseRecord). r.id) records id place up parted
 
 -- what is cut from literals over the variables is over them
 pub over_cut : (vars : ℕ) (lits : List ℤ) (start end : ℕ) → All (IsLiteral vars) lits → AreLiterals vars (slice_range lits start end)

@@ -1,6 +1,7 @@
 pub mod MarkLemmas
 pub mod OpenLemmas
 pub mod RefusalLemmas
+pub mod HalvingLemmas
 pub mod IdLemmas
 pub mod Following
 pub mod ClauseLemmas

@@ -12,6 +12,8 @@
 //! }
 //! ```
 //!
+//! A [`Marks`] is the table in which literals are marked as false, for whoever walks along hints.
+//!
 //! Start reading at `specs/Refusal.antt`, which says what a step is refused for, and at `specs/Rows.antt`, which has a row
 //! for each. That a clause that follows is implied by the clauses is no matter of this crate, nor are deletions and the
 //! negative hints of RAT steps, which it doesn't read.
@@ -24,4 +26,5 @@ mod marks;
 mod why;
 
 pub use checker::{Checked, Checker};
+pub use marks::Marks;
 pub use why::{Counts, Mismatch, Why};

@@ -3,7 +3,7 @@
 //! Each literal has a place in a table, where the round stands in which it was marked last. Those marked are the literals
 //! with the round of now, so the next round begins with none, and nothing is undone. Where the rounds run out, after four
 //! billion of them, the table is wiped once and they begin anew.
-ghost use Rattle.std.specs.Prelude.{◌≡◌, ◌<◌, ◌^◌, [], IfOk, length, true, set, EachIndex, slice_index};
+ghost use Rattle.std.specs.Prelude.{◌≡◌, ◌<◌, [], IfOk, length, true, set, EachIndex, slice_index};
 ghost use Rattle.lrat_check.specs.Marks.{place_of, is_marked, HasPlaces, AreMarked};
 
 use sat_base::Lit;
@@ -18,7 +18,7 @@ pub struct Marks {
 }
 
 impl Model for Marks {
-    ghost use Rattle.std.specs.Prelude.{ℕ, Bool, List, map, ◌==◌, ◌<◌, ◌^◌, ◌≤◌, All};
+    ghost use Rattle.std.specs.Prelude.{ℕ, Bool, List, map, ◌==◌, ◌≤◌, All};
 
     ghost Value = { List Bool };
 
@@ -30,7 +30,6 @@ impl Model for Marks {
 impl Marks {
     /// A table for the literals over the variables 1 to `vars`, with none marked.
     pub fn new(alloc: Global, vars: u32) -> Result<Marks, AllocError>
-        requires { vars < 2 ^ 31 }
         ensures places { IfOk result (HasPlaces vars) }
         ensures clear { IfOk result (λ marks. AreMarked marks []) }
     {

@@ -1,12 +1,10 @@
 -- Entries found by their ids, and what they say of the clauses that stay.
-use Rattle.std.proofs.Common.{◌≡◌, ◌≢◌, ℕ, zero, suc, ◌+◌, ◌-◌, ◌<◌, ◌≤◌, Bool, true, false, ◌&&◌, cond, ltb, List, [], ◌∷◌, ◌++◌, map, length, get_or, Option, Some, None, Ok, Err, refl, sym, ◌∙◌, ap, ap₂, subst, inl, inr, arith, All, length-append}
+use Rattle.std.proofs.Common.{◌≡◌, ◌≢◌, ℕ, zero, suc, ◌+◌, ◌-◌, ◌<◌, ◌≤◌, Bool, true, false, ◌&&◌, cond, ltb, List, [], ◌∷◌, ◌++◌, map, length, get_or, Option, Some, None, Ok, Err, refl, sym, ◌∙◌, ap, ap₂, subst, arith, All, length-append}
 use Rattle.std.specs.Prelude.{ℤ, slice_get}
-use Rattle.std.specs.List.Sorted.{IsBinarySearchResult, IsSearchInRange, IsNonDecreasingBy}
+use Rattle.std.specs.List.Sorted.{IsBinarySearchResult, IsSearchInRange}
 use Rattle.std.specs.Option.{option_map_or}
-use Rattle.std.specs.Ordering.{nat_cmp, ordering_index}
-use Rattle.std.proofs.lemmas.Bool.{eq-eqb, ne_eqb, cases_lt, and_parts, ltb-true}
-use Rattle.std.proofs.lemmas.Bool.Decides.{nat_tests}
-use Rattle.std.proofs.lemmas.Cmp.{ranked}
+use Rattle.std.specs.Ordering.{nat_cmp}
+use Rattle.std.proofs.lemmas.Bool.{eq-eqb, ne_eqb, and_parts, ltb-true}
 use Rattle.std.proofs.lemmas.List.{length-map, get_or-map}
 use Rattle.std.proofs.Math.Seq.{get_or-append_right}
 use Rattle.std.proofs.lemmas.List.Kept.{AllPairs-cons}
@@ -18,33 +16,20 @@ use Rattle.sat_base.specs.Derivation.{Step, Derivation, numbered, all_known, fol
 use Rattle.lrat_export.specs.Export.{Numbered, is_settled, bared, renumbered, stays, known_of}
 use Rattle.lrat_export.specs.Numbers.{entry_of, Ascend, AreNumbers, IsAt, HasNoId}
 use Rattle.lrat_export.specs.declared.numbering.Entry.{Entry}
+use Rattle.lrat_check.proofs.HalvingLemmas.{halved_here, halved_nowhere}
 use Rattle.lrat_export.proofs.NumberLemmas.{stays-here, stays-later}
 use Rattle.lrat_export.proofs.StepLemmas.{clauses_in}
 use Rattle.lrat_export.proofs.CnfLemmas.{length-numbered, clause-bared, plain-bared}
 
 -- ---- entries found by halving
 
--- comparisons with an id rise along the entries, as halving asks
-comparisons_rise : (entries : List Entry) (id : ℕ) → Ascend entries → IsNonDecreasingBy (λ (r : Entry). ordering_index (nat_cmp r.id id)) entries
-comparisons_rise entries id up i j d le within =
-    let ids_rise : (get_or entries i d).id ≤ (get_or entries j d).id =
-    grind (arith, up i j d, λ (same : i ≡ j). ap (λ (k : ℕ). (get_or entries k d).id) same) in
-    grind (arith, nat_tests)
-
 pub halved_ok : (entries : List Entry) (id place : ℕ) → IsSearchInRange (Ok place) (length entries) → IsBinarySearchResult (λ (r : Entry). nat_cmp r.id id) entries (Ok place)
     → IsAt entries id place
-halved_ok entries id place within equal = record { within = within; here = λ d. ranked _ id _ (sym (equal d)) }
+halved_ok entries id place within equal = record { within = within; here = halved_here (λ (r : Entry). r.id) entries id place equal }
 
 pub halved_err : (entries : List Entry) (id place : ℕ) → Ascend entries → IsBinarySearchResult (λ (r : Entry). nat_cmp r.id id) entries (Err place)
     → HasNoId entries id
-halved_err entries id place up parted i d lt same = elim (cases_lt i place) [
-  | inl before ↦
-      let less : (get_or entries i d).id < id = ranked _ id _ (sym ((parted (comparisons_rise entries id up)).0 i d (omega arith) before)) in
-      absurd (omega arith)
-  | inr behind ↦
-      let more : id < (get_or entries i d).id = ranked _ id _ (sym ((parted (comparisons_rise entries id up)).1 i d behind lt)) in
-      absurd (omega arith)
-]
+halved_err entries id place up parted = halved_nowhere (λ (r : Entry). r.id) entries id place up parted
 
 -- ---- the ids of an accepted proof ascend
 

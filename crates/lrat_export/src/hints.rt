@@ -10,9 +10,9 @@ ghost use Rattle.lrat_export.specs.Walk.{IsNext, IsOver, IsWalked, hints_text};
 
 use crate::cnf::push_text;
 use crate::looking::{Opened, look};
-use crate::marks::Marks;
 use crate::numbering::{Entry, find};
 use gm_base::{Derivation, GroupSet, Hints, Lit, Problem};
+use lrat_check::Marks;
 use std::alloc::AllocError;
 use token_text::put_number;
 

@@ -18,7 +18,6 @@ mod hints;
 pub mod laws;
 mod looking;
 mod lrat;
-mod marks;
 mod numbering;
 
 pub use cnf::cnf_of;

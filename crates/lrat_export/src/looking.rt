@@ -5,8 +5,8 @@ ghost use Rattle.lrat_check.specs.Marks.{HasPlaces, AreMarked, is_marked};
 ghost use Rattle.lrat_export.specs.Export.{is_selector, bared};
 ghost use Rattle.lrat_export.specs.Walk.{IsOpened, opened};
 
-use crate::marks::Marks;
 use gm_base::Lit;
+use lrat_check::Marks;
 
 /// The literals of a clause that are neither of a selector nor false.
 #[derive(Clone, Copy)]
