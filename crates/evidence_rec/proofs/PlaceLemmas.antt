@@ -2,11 +2,9 @@
 use Rattle.std.proofs.Common.{◌≡◌, ◌≢◌, ◌⊎◌, ℕ, zero, suc, ◌+◌, ◌-◌, ◌*◌, ◌/◌, ◌%◌, ◌^◌, ◌<◌, ◌≤◌, Bool, true, false, ◌==◌, ◌&&◌, ◌||◌, cond, eqb, List, [], ◌∷◌, ◌++◌, length, get_or, set, Some, None, Ok, Err, refl, sym, ◌∙◌, ap, ap₂, subst, inl, inr, arith, append_assoc, append-nil, w32}
 use Rattle.std.specs.Prelude.{bit_or, Result, OnOk, OnErr}
 use Rattle.std.specs.List.{filter, find, range_with_len}
-use Rattle.std.specs.List.Sorted.{IsBinarySearchResult, IsSearchInRange, IsNonDecreasingBy}
-use Rattle.std.specs.Ordering.{nat_cmp, ordering_index}
+use Rattle.std.specs.List.Sorted.{IsBinarySearchResult, IsSearchInRange}
+use Rattle.std.specs.Ordering.{nat_cmp}
 use Rattle.std.proofs.lemmas.Bool.{cases_eq, cases_lt, eq-eqb, ne_eqb, or_from, or_left}
-use Rattle.std.proofs.lemmas.Bool.Decides.{nat_tests}
-use Rattle.std.proofs.lemmas.Cmp.{ranked}
 use Rattle.std.proofs.lemmas.List.{length-set, get_or-set_same, get_or-set_other, get_or_default, get_or_read, nil_from_length}
 use Rattle.std.proofs.lemmas.List.Concat.{flat_map-append}
 use Rattle.std.proofs.lemmas.List.Folds.{list_any-append}
@@ -18,6 +16,7 @@ use Rattle.evidence_rec.specs.declared.places.Block.{Block}
 use Rattle.evidence_rec.specs.Columns.{is_set}
 use Rattle.evidence_rec.specs.Places.{bit_places, block_places, places_of, Ascend, IsAt, HasNone}
 use Rattle.evidence_rec.proofs.ColumnLemmas.{is_set-or, is_set-zero}
+use Rattle.lrat_check.proofs.HalvingLemmas.{halved_here, halved_nowhere}
 
 -- ---- the numbers of a range that pass a test
 
@@ -311,25 +310,10 @@ last-below blocks count at b counts read below i d ends =
 
 -- ---- halving
 
--- comparisons with a number rise along the blocks, as halving asks
-comparisons_rise : (blocks : List Block) (at : ℕ) → Ascend blocks → IsNonDecreasingBy (λ (b : Block). ordering_index (nat_cmp b.at at)) blocks
-comparisons_rise blocks at up i j d le within =
-    let rise : (get_or blocks i d).at ≤ (get_or blocks j d).at =
-    grind (arith, up i j d, λ (same : i ≡ j). ap (λ (k : ℕ). (get_or blocks k d).at) same) in
-    grind (arith, nat_tests)
-
--- so halving finds the block, or shows that there is none
-pub halved_ok : (blocks : List Block) (at here : ℕ) → IsSearchInRange (Ok here) (length blocks)
-    → IsBinarySearchResult (λ (b : Block). nat_cmp b.at at) blocks (Ok here) → IsAt blocks at here
-halved_ok blocks at here within equal = record { within = within; same = λ d. ranked _ at _ (sym (equal d)) }
+pub halved_ok : (blocks : List Block) (at here : ℕ) → IsSearchInRange (Ok here) (length blocks) → IsBinarySearchResult (λ (b : Block). nat_cmp b.at at) blocks (Ok here)
+    → IsAt blocks at here
+halved_ok blocks at here within equal = record { within = within; same = halved_here (λ (b : Block). b.at) blocks at here equal }
 
 pub halved_err : (blocks : List Block) (at here : ℕ) → Ascend blocks → IsBinarySearchResult (λ (b : Block). nat_cmp b.at at) blocks (Err here)
     → HasNone blocks at
-halved_err blocks at here up parted i d lt same = elim (cases_lt i here) [
-  | inl before ↦
-      let less : (get_or blocks i d).at < at = ranked _ at _ (sym ((parted (comparisons_rise blocks at up)).0 i d (omega arith) before)) in
-      absurd (omega arith)
-  | inr behind ↦
-      let more : at < (get_or blocks i d).at = ranked _ at _ (sym ((parted (comparisons_rise blocks at up)).1 i d behind lt)) in
-      absurd (omega arith)
-]
+halved_err blocks at here up parted = halved_nowhere (λ (b : Block). b.at) blocks at here up parted
