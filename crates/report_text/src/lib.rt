@@ -10,7 +10,7 @@
 //! Lines of one kind stand in lexicographic order of their groups, compared as numbers, so that 9 comes before 10 and a
 //! set before those that it begins. Start reading at `specs/Report.antt`, which defines the text, and at `specs/Reports.antt`,
 //! which says in which order the sets stand in it; `specs/Rows.antt` has worked reports. The sets are lent: only references
-//! are sorted.
+//! are sorted, and [`in_order`] gives those alone.
 //!
 //! Sets that were found twice are written twice, and nothing here says that they are conflicts or corrections.
 #![tactic(auto)]
@@ -18,4 +18,5 @@
 mod order;
 mod text;
 
+pub use order::in_order;
 pub use text::report;
