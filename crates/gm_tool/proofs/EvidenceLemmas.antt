@@ -1,12 +1,11 @@
 -- What is left of an enumeration is valid evidence.
-use Rattle.std.proofs.Common.{◌≡◌, ◌≢◌, true, List, [], ◌∷◌, Option, Some, None, refl, sym, ap, subst}
+use Rattle.std.proofs.Common.{◌≡◌, ◌≢◌, true, List, Option, Some, None, refl, sym, ap, subst}
 use Rattle.std.specs.Prelude.{IfSome, MatchOption, is_some}
-use Rattle.std.specs.List.{AllByRecursion}
 use Rattle.sat_base.specs.Derivation.{Derivation, HasIds}
 use Rattle.gm_base.specs.Problem.{Problem}
 use Rattle.lrat_steps.specs.Log.{LogStep}
 use Rattle.evidence_rec.specs.declared.record.Record.{Record}
-use Rattle.evidence_rec.specs.Records.{founds, AllAccepted}
+use Rattle.evidence_rec.specs.Records.{founds}
 use Rattle.evidence_rec.specs.Seeding.{shows_all_explored}
 use Rattle.evidence_rec.specs.Shorten.{shorten}
 use Rattle.gm_audit.specs.Audits.{AuditYes}

@@ -1,38 +1,38 @@
 -- What is said of the line that standard error gets, said of what else it is told by.
-use Rattle.std.proofs.Common.{◌≡◌, ◌⊎◌, ℕ, List, Option, Some, None, inl, inr, sym, subst}
+use Rattle.std.proofs.Common.{◌≡◌, ℕ, List, Option, Some, None, inl, inr, sym, subst}
 use Rattle.evidence_rec.specs.declared.record.Record.{Record}
 use Rattle.gm_base.specs.Problem.{Problem}
 use Rattle.gm_ports.specs.FilesState.{FilesState}
-use Rattle.gm_words.specs.Reading.{Asked, Listing, Checking, Drilling, listing, checking, drilling}
+use Rattle.gm_words.specs.Reading.{Asked, Listing, listing, checking, drilling, exporting}
 use Rattle.gm_tool.specs.declared.enumeration.Bounds.{Bounds}
 use Rattle.gm_tool.specs.declared.ending.Ending.{Ending}
 use Rattle.gm_tool.specs.declared.ending.Finish.{Finish}
-use Rattle.gm_tool.specs.Checking.{IsChecking, IsChecked}
-use Rattle.gm_tool.specs.Drilling.{IsDrilling, IsDrilled}
-use Rattle.gm_tool.specs.Endings.{finish_of, line_of, error_line, input_fault_line, evidence_fault_line, report_cut_line, evidence_cut_line}
-use Rattle.gm_tool.specs.Judging.{IsJudged, IsRefusal, IsEvidenceRefusal, IsEvidenceUnread}
-use Rattle.gm_tool.specs.Listing.{IsListing, IsListed, IsListedFrom, IsReportCut, IsEvidenceCut, bounds_for}
+use Rattle.gm_tool.specs.Endings.{finish_of, line_of, error_line, input_fault_line, evidence_fault_line, report_cut_line}
+use Rattle.gm_tool.specs.Judging.{IsJudged, IsRefusal}
+use Rattle.gm_tool.specs.Listing.{IsListed, IsListedFrom, bounds_for}
+use Rattle.gm_tool.specs.Lines.{no_conflict_line}
+use Rattle.gm_tool.specs.Outputs.{Outputs, evidence_output, export_outputs}
 use Rattle.gm_tool.specs.Outside.{Outside}
 use Rattle.gm_tool.specs.Refusals.{refusal_line, evidence_line}
-use Rattle.gm_tool.specs.Run.{IsRun, IsReportFault, IsEvidenceFault}
-use Rattle.gm_tool.specs.Words.{EndsAs, IsDone, IsObeyed, bounds_of, evidence_asked}
+use Rattle.gm_tool.specs.Run.{IsRun, IsReportFault, IsOutputFault}
+use Rattle.gm_tool.specs.Words.{EndsAs, IsDone, IsObeyed, bounds_of, outputs_of}
 
 module _ (Gets Has : List ℕ → Type 0) (f : (line : List ℕ) → Gets line → Has line) where
   report-fault : (old new : Outside) → IsReportFault Gets old new → IsReportFault Has old new
   report-fault old new h = record { rose = h.rose; line = f report_cut_line h.line }
 
-  evidence-fault : (evidence : Option (List ℕ)) (old new : Outside) → IsEvidenceFault evidence Gets old new → IsEvidenceFault evidence Has old new
-  evidence-fault evidence old new h = record { wanted = h.wanted; rose = h.rose; line = f evidence_cut_line h.line; silent = h.silent }
+  output-fault : (outputs : Outputs) (old new : Outside) → IsOutputFault outputs Gets old new → IsOutputFault outputs Has old new
+  output-fault outputs old new h = record { wanted = h.wanted; rose = h.rose; line = f outputs.cut_line h.line; silent = h.silent }
 
-  pub run-gets : (b : Bounds) (evidence : Option (List ℕ)) (old new : Outside) (finish : Finish) → IsRun b evidence old new Gets finish → IsRun b evidence old new Has finish
-  run-gets b evidence old new finish h = record {
+  pub run-gets : (b : Bounds) (outputs : Outputs) (old new : Outside) (finish : Finish) → IsRun b outputs old new Gets finish → IsRun b outputs old new Has finish
+  run-gets b outputs old new finish h = record {
     known = h.known;
     learned = h.learned;
     nothing_listed = h.nothing_listed;
     before = h.before;
     silent = h.silent;
     no_fault_dropped = h.no_fault_dropped;
-    write_fault = λ e. elim (h.write_fault e) [ inl report ↦ inl (report-fault old new report) | inr cut ↦ inr (evidence-fault evidence old new cut) ];
+    write_fault = λ e. elim (h.write_fault e) [ inl report ↦ inl (report-fault old new report) | inr cut ↦ inr (output-fault outputs old new cut) ];
     error_line = λ e. f (error_line b finish.status) (h.error_line e);
     unasked = h.unasked;
     names = h.names;
@@ -81,7 +81,7 @@ module _ (Gets Has : List ℕ → Type 0) (f : (line : List ℕ) → Gets line �
         λ e.
         elim (h.cut_off e) [
           | inl report ↦ inl (record { fault = report-fault old new report.fault; front = report.front; evidence = report.evidence })
-          | inr cut ↦ inr (record { fault = evidence-fault evidence old new cut.fault; front = cut.front })
+          | inr cut ↦ inr (record { fault = output-fault (evidence_output evidence) old new cut.fault; front = cut.front })
         ];
     memory = h.memory;
   }
@@ -141,10 +141,48 @@ module _ (Gets Has : List ℕ → Type 0) (f : (line : List ℕ) → Gets line �
     written = h.written;
     untouched = h.untouched;
   }
+  done-gets (Some (exporting x)) old new finish h = record {
+    statuses = h.statuses;
+    nothing_listed = h.nothing_listed;
+    exported =
+        λ e.
+        let k = h.exported e in
+        record {
+          problem = k.problem;
+          reads = k.reads;
+          complete = k.complete;
+          records = k.records;
+          shown = k.shown;
+          found = k.found;
+          numbered = k.numbered;
+          refuted = k.refuted;
+          whole = k.whole;
+          fault = λ seven. output-fault (export_outputs x.cnf x.lrat) old new (k.fault seven);
+          cut_off = k.cut_off;
+        };
+    missing =
+        λ e.
+        let k = h.missing e in
+        record {
+          problem = k.problem;
+          reads = k.reads;
+          complete = k.complete;
+          records = k.records;
+          shown = k.shown;
+          fewer = k.fewer;
+          line = f (no_conflict_line x.number) k.line;
+        };
+    judged = judged-gets x.file (Some x.evidence) old.files new.files finish.status h.judged;
+    unopened = h.unopened;
+    silent = h.silent;
+    untouched = h.untouched;
+    accepted = h.accepted;
+    within = h.within;
+  }
 
   pub obeyed-gets : (asked : Option Asked) (old new : Outside) (finish : Finish) → IsObeyed asked old new Gets finish → IsObeyed asked old new Has finish
   obeyed-gets asked old new finish h = record {
-    every = run-gets (bounds_of asked) (evidence_asked asked) old new finish h.every;
+    every = run-gets (bounds_of asked) (outputs_of asked) old new finish h.every;
     done = done-gets asked old new finish h.done;
   }
 

@@ -3,6 +3,7 @@ pub mod ReportLemmas
 pub mod ClosedLemmas
 pub mod DrillLemmas
 pub mod CheckLemmas
+pub mod NumberedLemmas
 pub mod WritingLemmas
 pub mod EvidenceLemmas
 pub mod MadeLemmas
@@ -10,5 +11,6 @@ pub mod StatusLemmas
 pub mod ReadingLemmas
 pub mod AcceptedLemmas
 pub mod RunLemmas
+pub mod ExportLemmas
 pub mod GetsLemmas
 pub mod JudgedLemmas

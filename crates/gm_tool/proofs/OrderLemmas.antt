@@ -23,6 +23,7 @@ use Rattle.map_core.specs.Core.{is_held}
 use Rattle.map_core.specs.Sound.{AreNew}
 use Rattle.map_core.specs.Closings.{HoldsAll}
 use Rattle.gm_tool.specs.Closed.{conflicts_in, corrections_in, full_report}
+use Rattle.gm_tool.specs.Exporting.{shown_conflicts}
 use Rattle.evidence_rec.proofs.SetListLemmas.{one_if, times, SameSets, same-is, same-refl}
 use Rattle.evidence_rec.proofs.HeldLemmas.{SameSets-held, all_conflicts, all_corrections}
 
@@ -293,3 +294,10 @@ held_report-from p complete records text ok all new report =
 pub full_report-from : (p : Problem) (records : List Record) → HoldsAll p records
     → records_report p true records ≡ full_report p
 full_report-from p records all = ap₂ (report_text p.groups true) (all_conflicts p records all) (all_corrections p records all)
+
+-- the sets of the conflicts of distinct accepted records, sorted, are those that the report has
+pub shown_conflicts-from : (p : Problem) (records : List Record) (us : List (List ℕ)) → IsProblem p → AllAccepted p records → AreNew [] records
+    → IsSortedOf (conflicts_in records) us → us ≡ shown_conflicts p records
+shown_conflicts-from p records us ok all new sorted =
+    sorted_is (conflicts_in records) us (shown_conflicts p records) sorted (Ascends-filter (is_held records Conflict) (conflicts p) (Ascends-conflicts p))
+    (SameSets-held p Conflict records ok all new)

@@ -1,7 +1,6 @@
 -- What a closing says of its records, and of their report.
 use Rattle.std.proofs.Common.{◌≡◌, ℕ, List, [], refl, sym, ◌∙◌, ap, subst}
 use Rattle.std.specs.Prelude.{if◌then◌else◌}
-use Rattle.std.specs.List.{AllByRecursion}
 use Rattle.gm_base.specs.Problem.{Problem, IsProblem}
 use Rattle.lrat_steps.specs.Log.{LogStep}
 use Rattle.report_text.specs.Reports.{IsReportOf}

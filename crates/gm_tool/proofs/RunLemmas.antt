@@ -1,37 +1,35 @@
 -- What the steps of each command promise, said of a whole run.
-use Rattle.std.proofs.Common.{◌≡◌, ◌≢◌, ◌⊎◌, ℕ, Bool, List, [], ◌∷◌, Option, Some, None, inl, inr, ap, sym, subst, refl, ◌∙◌, arith}
+use Rattle.std.proofs.Common.{◌≡◌, ◌≢◌, ◌⊎◌, ℕ, List, [], ◌∷◌, Option, Some, None, inl, inr, ap, sym, subst, refl, ◌∙◌, arith}
 use Rattle.std.specs.Prelude.{IfSome}
 use Rattle.std.proofs.lemmas.Bool.{false≢true}
+use Rattle.sat_base.specs.Members.{In}
 use Rattle.gm_base.specs.Problem.{Problem}
 use Rattle.gm_ports.specs.Faults.{Rose}
 use Rattle.gm_ports.specs.FilesState.{FilesState, ReadingLeaves, WritingLeaves, StaysAsTold}
 use Rattle.gm_ports.specs.Told.{ToldAppends, ToldGrowsWithin}
 use Rattle.gm_ports.proofs.ToldLemmas.{ReadingLeaves-nothing}
 use Rattle.gcnf_text.specs.Chain.{made_case}
-use Rattle.gm_words.specs.Reading.{Asked, Listing, Checking, Drilling, listing, checking, drilling}
-use Rattle.lrat_steps.specs.Log.{LogStep}
-use Rattle.evidence_rec.specs.declared.record.Record.{Record}
-use Rattle.map_core.specs.declared.closing.Closing.{Closing}
+use Rattle.gm_words.specs.Reading.{Asked, Listing, Checking, Drilling, Exporting, listing, checking, drilling, exporting}
 use Rattle.gm_tool.specs.declared.beginning.Beginning.{Beginning}
 use Rattle.gm_tool.specs.declared.enumeration.Bounds.{Bounds}
-use Rattle.gm_tool.specs.declared.enumeration.Enumerated.{Enumerated}
 use Rattle.gm_tool.specs.declared.ending.Ending.{Ending}
 use Rattle.gm_tool.specs.declared.ending.Ending.TheVariants.{BadWords, Checked, CheckCutOff, Memory, Listed, CutOff, EvidenceCutOff, EvidenceMemory}
 use Rattle.gm_tool.specs.declared.ending.Finish.{Finish}
-use Rattle.gm_tool.specs.Checking.{IsChecking, IsChecked, shown_report}
-use Rattle.gm_tool.specs.Closed.{learned_in, report_for}
-use Rattle.gm_tool.specs.Drilling.{IsDrilling, IsDrilled, drill_bounds, held_counts}
-use Rattle.gm_tool.specs.Endings.{bare, after, error_line, finish_of, line_of, status_by}
-use Rattle.gm_tool.specs.Evidence.{IsValid, HasSmallIds}
+use Rattle.gm_tool.specs.Checking.{IsChecking, shown_report}
+use Rattle.gm_tool.specs.Closed.{learned_in}
+use Rattle.gm_tool.specs.Drilling.{IsDrilling, IsDrilled, drill_bounds}
+use Rattle.gm_tool.specs.Endings.{bare, after, error_line, finish_of, line_of, status_by, evidence_cut_line}
+use Rattle.gm_tool.specs.Evidence.{IsValid}
+use Rattle.gm_tool.specs.Exporting.{IsExporting}
 use Rattle.gm_tool.specs.Judging.{IsJudged, AreAccepted}
 use Rattle.gm_tool.specs.Listing.{IsListing, IsListed, IsListedFrom, bounds_for}
+use Rattle.gm_tool.specs.Outputs.{Outputs, evidence_output, export_outputs, no_outputs}
 use Rattle.gm_tool.specs.Outside.{Outside, outside, NoneRose}
-use Rattle.gm_tool.specs.Prepared.{IsOver}
-use Rattle.gm_tool.specs.Run.{IsRun, IsReportFault, IsEvidenceFault}
+use Rattle.gm_tool.specs.Run.{IsRun, IsReportFault, IsOutputFault}
 use Rattle.gm_tool.specs.Statuses.{IsAmong, IsStatus, IsSilent, IsBefore, IsFaultless, IsReported, IsAfterwards, IsToldByStatus}
 use Rattle.gm_tool.specs.Steps.{IsBegun, Stops, Lists, Drills, Reports}
-use Rattle.gm_tool.specs.Taking.{stays-same, stays-then}
-use Rattle.gm_tool.specs.Words.{EndsAs, IsObeyed, bounds_of, evidence_asked}
+use Rattle.gm_tool.specs.Taking.{stays-same}
+use Rattle.gm_tool.specs.Words.{EndsAs, IsObeyed, no_bounds}
 use Rattle.gm_tool.proofs.AcceptedLemmas.{not_refused, not_refused-evidence}
 use Rattle.gm_tool.proofs.ClosedLemmas.{complete_by, enumerated, is_reported, whole-text, partial-text}
 use Rattle.gm_tool.proofs.DrillLemmas.{full_counts-from}
@@ -42,17 +40,17 @@ use Rattle.gm_tool.proofs.StatusLemmas.{among-by}
 -- ---- endings without an enumeration
 
 -- where files were read alone, and the status tells all
-run-bare : (b : Bounds) (evidence : Option (List ℕ)) (old new : FilesState) (got : Option (List ℕ)) (faults : ℕ) (Gets : List ℕ → Type 0) (status : ℕ)
+pub run-bare : (b : Bounds) (outputs : Outputs) (old new : FilesState) (got : Option (List ℕ)) (faults : ℕ) (Gets : List ℕ → Type 0) (status : ℕ)
     → IsSilent status → ReadingLeaves old new → (status ≢ 6 → new.read_faults ≡ old.read_faults) → (IsToldByStatus status → Gets (error_line b status))
-    → IsRun b evidence (outside old got faults) (outside new got faults) Gets (bare status)
-run-bare b evidence old new got faults Gets status silent leaves quiet line = record {
-  known = among-by IsStatus (2 ∷ 5 ∷ 6 ∷ 8 ∷ 9 ∷ []) status silent (refl, (refl, (refl, (refl, (refl, tt)))));
+    → IsRun b outputs (outside old got faults) (outside new got faults) Gets (bare status)
+run-bare b outputs old new got faults Gets status silent leaves quiet line = record {
+  known = among-by IsStatus (2 ∷ 5 ∷ 6 ∷ 8 ∷ 9 ∷ 11 ∷ []) status silent (refl, (refl, (refl, (refl, (refl, (refl, tt))))));
   learned = refl;
   nothing_listed = λ _. refl;
   before = λ _. leaves;
   silent = λ _. refl;
   no_fault_dropped =
-      λ faultless. record { reads = quiet (λ six. false≢true (subst IsFaultless six faultless)); evidence = leaves.write_faults; report = refl };
+      λ faultless. record { reads = quiet (λ six. false≢true (subst IsFaultless six faultless)); writes = leaves.write_faults; report = refl };
   write_fault = λ seven. absurd (false≢true (subst IsSilent seven silent));
   error_line = line;
   unasked = λ _. leaves;
@@ -60,16 +58,16 @@ run-bare b evidence old new got faults Gets status silent leaves quiet line = re
 }
 
 -- what stopped a command where it began
-run-stopped : (b : Bounds) (evidence : Option (List ℕ)) (file : List ℕ) (named : Option (List ℕ)) (old new : FilesState) (got : Option (List ℕ)) (faults : ℕ) (e : Ending)
+pub run-stopped : (b : Bounds) (outputs : Outputs) (file : List ℕ) (named : Option (List ℕ)) (old new : FilesState) (got : Option (List ℕ)) (faults : ℕ) (e : Ending)
     → IsStopped b file named old new e → ReadingLeaves old new
-    → IsRun b evidence (outside old got faults) (outside new got faults) (λ told. line_of e ≡ told) (finish_of e)
-run-stopped b evidence file named old new got faults e h leaves =
-    subst (IsRun b evidence (outside old got faults) (outside new got faults) (λ told. line_of e ≡ told)) (sym h.bare)
-    (run-bare b evidence old new got faults (λ told. line_of e ≡ told) (finish_of e).status
+    → IsRun b outputs (outside old got faults) (outside new got faults) (λ told. line_of e ≡ told) (finish_of e)
+run-stopped b outputs file named old new got faults e h leaves =
+    subst (IsRun b outputs (outside old got faults) (outside new got faults) (λ told. line_of e ≡ told)) (sym h.bare)
+    (run-bare b outputs old new got faults (λ told. line_of e ≡ told) (finish_of e).status
     (among-by IsSilent (5 ∷ 6 ∷ 8 ∷ 9 ∷ []) (finish_of e).status h.statuses (refl, (refl, (refl, (refl, tt))))) leaves h.quiet h.line)
 
 -- of statuses that come where a command begins, an accepted file leaves 8 alone
-left-of : (file : List ℕ) (evidence : Option (List ℕ)) (old new : Outside) (Gets : List ℕ → Type 0) (status : ℕ) → IsAmong (5 ∷ 6 ∷ 8 ∷ 9 ∷ []) status
+pub left-of : (file : List ℕ) (evidence : Option (List ℕ)) (old new : Outside) (Gets : List ℕ → Type 0) (status : ℕ) → IsAmong (5 ∷ 6 ∷ 8 ∷ 9 ∷ []) status
     → IsJudged file evidence old.files new.files Gets status → NoneRose old new → AreAccepted old.files.held file evidence → status ≡ 8
 left-of file evidence old new Gets status among judged none accepted =
     among-by (λ s. s ≢ 5 → s ≢ 6 → s ≢ 9 → s ≡ 8) (5 ∷ 6 ∷ 8 ∷ 9 ∷ []) status among
@@ -83,7 +81,7 @@ listing-stopped l old new got faults e stops leaves =
     let h = stopped (bounds_for l) l.file l.resume old new e stops in
     let status = (finish_of e).status in
     record {
-      every = run-stopped (bounds_for l) l.evidence l.file l.resume old new got faults e h leaves;
+      every = run-stopped (bounds_for l) (evidence_output l.evidence) l.file l.resume old new got faults e h leaves;
       done =
           record {
             statuses = among-by (IsAmong (0 ∷ 3 ∷ 4 ∷ 5 ∷ 6 ∷ 7 ∷ 8 ∷ 9 ∷ [])) (5 ∷ 6 ∷ 8 ∷ 9 ∷ []) status h.statuses (refl, (refl, (refl, (refl, tt))));
@@ -103,10 +101,10 @@ listing-stopped l old new got faults e stops leaves =
 pub checking-stopped : (c : Checking) (old new : FilesState) (got : Option (List ℕ)) (faults : ℕ) (e : Ending) → Stops c.file (Some c.evidence) old new e → ReadingLeaves old new
     → EndsAs (Some (checking c)) (outside old got faults) (outside new got faults) e
 checking-stopped c old new got faults e stops leaves =
-    let h = stopped (bounds_of (Some (checking c))) c.file (Some c.evidence) old new e stops in
+    let h = stopped no_bounds c.file (Some c.evidence) old new e stops in
     let status = (finish_of e).status in
     record {
-      every = run-stopped (bounds_of (Some (checking c))) None c.file (Some c.evidence) old new got faults e h leaves;
+      every = run-stopped no_bounds no_outputs c.file (Some c.evidence) old new got faults e h leaves;
       done =
           record {
             statuses = among-by (IsAmong (0 ∷ 5 ∷ 6 ∷ 7 ∷ 8 ∷ 9 ∷ [])) (5 ∷ 6 ∷ 8 ∷ 9 ∷ []) status h.statuses (refl, (refl, (refl, (refl, tt))));
@@ -152,34 +150,53 @@ drilling-memory d o Gets = record {
   untouched = refl;
 }
 
-every-memory : (b : Bounds) (evidence : Option (List ℕ)) (o : Outside) → IsRun b evidence o o (λ told. line_of Memory ≡ told) (bare 8)
-every-memory b evidence o =
-    run-bare b evidence o.files o.files o.got o.faults (λ told. line_of Memory ≡ told) 8 refl (ReadingLeaves-nothing o.files) (λ _. refl) (λ _. refl)
+pub exporting-memory : (x : Exporting) (old new : FilesState) (got : Option (List ℕ)) (faults : ℕ) (Gets : List ℕ → Type 0) → ReadingLeaves old new
+    → IsExporting x (outside old got faults) (outside new got faults) Gets (bare 8)
+exporting-memory x old new got faults Gets leaves = record {
+  statuses = refl;
+  nothing_listed = refl;
+  exported = λ after. absurd (false≢true after);
+  missing = λ e. absurd (omega arith);
+  judged = unjudged x.file (Some x.evidence) old new Gets 8 (omega arith) (omega arith) (omega arith);
+  unopened = λ _. leaves;
+  silent = refl;
+  untouched = refl;
+  accepted = λ _ _. refl;
+  within = λ _ _ _. refl;
+}
+
+every-memory : (b : Bounds) (outputs : Outputs) (o : Outside) → IsRun b outputs o o (λ told. line_of Memory ≡ told) (bare 8)
+every-memory b outputs o =
+    run-bare b outputs o.files o.files o.got o.faults (λ told. line_of Memory ≡ told) 8 refl (ReadingLeaves-nothing o.files) (λ _. refl) (λ _. refl)
 
 -- before the words are read
 pub memory-at_once : (asked : Option Asked) (o : Outside) → EndsAs asked o o Memory
 memory-at_once None o = record {
-  every = every-memory (bounds_of None) None o;
+  every = every-memory no_bounds no_outputs o;
   done = record { statuses = refl; nothing_listed = refl; untouched = refl };
 }
 memory-at_once (Some (listing l)) o = record {
-  every = every-memory (bounds_for l) l.evidence o;
+  every = every-memory (bounds_for l) (evidence_output l.evidence) o;
   done = listing-memory l o o (λ told. line_of Memory ≡ told) (ReadingLeaves-nothing o.files);
 }
 memory-at_once (Some (checking c)) o = record {
-  every = every-memory (bounds_of (Some (checking c))) None o;
+  every = every-memory no_bounds no_outputs o;
   done = checking-memory c o o (λ told. line_of Memory ≡ told);
 }
 memory-at_once (Some (drilling d)) o = record {
-  every = every-memory (drill_bounds d.jobs) None o;
+  every = every-memory (drill_bounds d.jobs) no_outputs o;
   done = drilling-memory d o (λ told. line_of Memory ≡ told);
+}
+memory-at_once (Some (exporting x)) o = record {
+  every = every-memory no_bounds (export_outputs x.cnf x.lrat) o;
+  done = exporting-memory x o.files o.files o.got o.faults (λ told. line_of Memory ≡ told) (ReadingLeaves-nothing o.files);
 }
 
 -- words without a reading
 untouched-bad_words : (o : Outside) → EndsAs None o o BadWords
 untouched-bad_words o = record {
   every =
-      run-bare (bounds_of None) None o.files o.files o.got o.faults (λ told. line_of BadWords ≡ told) 2 refl (ReadingLeaves-nothing o.files) (λ _. refl) (λ _. refl);
+      run-bare no_bounds no_outputs o.files o.files o.got o.faults (λ told. line_of BadWords ≡ told) 2 refl (ReadingLeaves-nothing o.files) (λ _. refl) (λ _. refl);
   done = record { statuses = refl; nothing_listed = refl; untouched = refl };
 }
 
@@ -193,14 +210,14 @@ writes-nothing : (May : List ℕ → Type 0) (files : FilesState) → WritingLea
 writes-nothing May files = record { names = λ name other. stays-same (files.held name); read_faults = refl }
 
 -- where files were read, and then written perhaps
-run-after : (b : Bounds) (evidence : Option (List ℕ)) (old : FilesState) (mid new : Outside) (Gets : List ℕ → Type 0) (finish : Finish)
+pub run-after : (b : Bounds) (outputs : Outputs) (old : FilesState) (mid new : Outside) (Gets : List ℕ → Type 0) (finish : Finish)
     → ReadingLeaves old mid.files → mid.files.read_faults ≡ old.read_faults → IsAmong (0 ∷ 3 ∷ 4 ∷ 7 ∷ 8 ∷ []) finish.status → finish.spent ≡ learned_in finish.logs
-    → WritingLeaves (λ name. evidence ≡ Some name) mid.files new.files → (evidence ≡ None → new.files ≡ mid.files) → (finish.status ≡ 8 → new.got ≡ mid.got)
+    → WritingLeaves (λ name. In name outputs.names) mid.files new.files → (outputs.names ≡ [] → new.files ≡ mid.files) → (finish.status ≡ 8 → new.got ≡ mid.got)
     → (IsReported finish.status → (new.files.write_faults ≡ mid.files.write_faults) × (new.faults ≡ mid.faults))
-    → (finish.status ≡ 7 → IsReportFault Gets (outside old mid.got mid.faults) new ⊎ IsEvidenceFault evidence Gets (outside old mid.got mid.faults) new)
+    → (finish.status ≡ 7 → IsReportFault Gets (outside old mid.got mid.faults) new ⊎ IsOutputFault outputs Gets (outside old mid.got mid.faults) new)
     → (IsToldByStatus finish.status → Gets (error_line b finish.status))
-    → IsRun b evidence (outside old mid.got mid.faults) new Gets finish
-run-after b evidence old mid new Gets finish reads quiet_reads among learned writes same silent quiet fault line = record {
+    → IsRun b outputs (outside old mid.got mid.faults) new Gets finish
+run-after b outputs old mid new Gets finish reads quiet_reads among learned writes same silent quiet fault line = record {
   known = among-by IsStatus (0 ∷ 3 ∷ 4 ∷ 7 ∷ 8 ∷ []) finish.status among (refl, (refl, (refl, (refl, (refl, tt)))));
   learned = learned;
   nothing_listed = λ early. absurd (late early);
@@ -215,7 +232,7 @@ run-after b evidence old mid new Gets finish reads quiet_reads among learned wri
       let q = quiet
       (among-by (λ n. IsFaultless n → IsReported n) (0 ∷ 3 ∷ 4 ∷ 7 ∷ 8 ∷ []) finish.status among
       ((λ t. refl), ((λ t. refl), ((λ t. refl), ((λ t. absurd (false≢true t)), ((λ t. absurd (false≢true t)), tt))))) faultless) in
-      record { reads = writes.read_faults ∙ quiet_reads; evidence = q.0 ∙ reads.write_faults; report = q.1 };
+      record { reads = writes.read_faults ∙ quiet_reads; writes = q.0 ∙ reads.write_faults; report = q.1 };
   write_fault = fault;
   error_line = line;
   unasked = λ none. subst (ReadingLeaves old) (sym (same none)) reads;
@@ -236,11 +253,34 @@ where-asked : (asked : Option (List ℕ)) (A : Type 0) → (asked ≢ None → A
 where-asked None A f = tt
 where-asked (Some name) A f = f (λ e. let never : Some name ≡ None = e in cc)
 
+-- the output that is asked for is the evidence's, if any
+none-asked : (asked : Option (List ℕ)) → (evidence_output asked).names ≡ [] → asked ≡ None
+none-asked None e = refl
+none-asked (Some name) e = let never : name ∷ [] ≡ [] = e in cc
+
+cut-line : (asked : Option (List ℕ)) → evidence_cut_line ≡ (evidence_output asked).cut_line
+cut-line None = refl
+cut-line (Some name) = refl
+
+leaves-asked : (asked : Option (List ℕ)) (old new : FilesState) → WritingLeaves (λ name. asked ≡ Some name) old new
+    → WritingLeaves (λ name. In name (evidence_output asked).names) old new
+leaves-asked None old new h = record {
+  names = λ name other. h.names name (λ is. let never : None ≡ Some name = is in cc);
+  read_faults = h.read_faults;
+}
+leaves-asked (Some output) old new h = record {
+  names = λ name other. h.names name (λ is. other (inl (same name is)));
+  read_faults = h.read_faults;
+}
+  where
+    same : (name : List ℕ) → Some output ≡ Some name → name ≡ output
+    same name is = cc
+
 module _ (l : Listing) (old : FilesState) (mid new : Outside) (begun : Beginning) (reads : ReadingLeaves old mid.files)
     (is : IsBegun l.file l.resume old mid.files begun) where
   run-listed : (Gets : List ℕ → Type 0) (finish : Finish)
       → IsAmong (0 ∷ 3 ∷ 4 ∷ 7 ∷ 8 ∷ []) finish.status → (l.evidence ≡ None → new.files ≡ mid.files)
-      → IsRun (bounds_for l) l.evidence (outside old mid.got mid.faults) new Gets finish
+      → IsRun (bounds_for l) (evidence_output l.evidence) (outside old mid.got mid.faults) new Gets finish
       → IsListed begun.problem begun.records (bounds_for l) l.evidence (outside old mid.got mid.faults) new Gets finish
       → IsObeyed (Some (listing l)) (outside old mid.got mid.faults) new Gets finish
   run-listed Gets finish among same run h = record {
@@ -285,7 +325,7 @@ module _ (l : Listing) (old : FilesState) (mid new : Outside) (begun : Beginning
       let eight : status ≢ 8 = λ e. false≢true (subst IsReported e reported) in
       let Line : List ℕ → Type 0 = λ told. line.items ≡ told in
       run-listed Line (after status left) among h.2.unasked
-      (run-after (bounds_for l) l.evidence old mid new Line (after status left) reads is.quiet among h.0.left.spent h.2.leaves h.2.unasked (λ e. absurd (eight e))
+      (run-after (bounds_for l) (evidence_output l.evidence) old mid new Line (after status left) reads is.quiet among h.0.left.spent (leaves-asked l.evidence mid.files new.files h.2.leaves) (λ none. h.2.unasked (none-asked l.evidence none)) (λ e. absurd (eight e))
       (λ _. (h.2.quiet, h.4)) (λ e. absurd (seven e)) (λ _. h.1))
       (record {
         closing = c;
@@ -304,7 +344,7 @@ module _ (l : Listing) (old : FilesState) (mid new : Outside) (begun : Beginning
       let Line : List ℕ → Type 0 = λ told. line_of (CutOff left) ≡ told in
       let fault : IsReportFault Line (outside old mid.got mid.faults) new = record { rose = h.3; line = refl } in
       run-listed Line (after 7 left) refl h.1.unasked
-      (run-after (bounds_for l) l.evidence old mid new Line (after 7 left) reads is.quiet refl h.0.left.spent h.1.leaves h.1.unasked (λ e. absurd (omega arith))
+      (run-after (bounds_for l) (evidence_output l.evidence) old mid new Line (after 7 left) reads is.quiet refl h.0.left.spent (leaves-asked l.evidence mid.files new.files h.1.leaves) (λ none. h.1.unasked (none-asked l.evidence none)) (λ e. absurd (omega arith))
       (λ e. absurd (false≢true e)) (λ _. inl fault) (λ e. absurd (false≢true e)))
       (record {
         closing = c;
@@ -321,10 +361,10 @@ module _ (l : Listing) (old : FilesState) (mid new : Outside) (begun : Beginning
   listing-lists (EvidenceCutOff left) h =
       let c = left.closing in
       let Line : List ℕ → Type 0 = λ told. line_of (EvidenceCutOff left) ≡ told in
-      let fault : IsEvidenceFault l.evidence Line (outside old mid.got mid.faults) new =
-      record { wanted = h.1.wanted; rose = subst (λ n. Rose n new.files.write_faults) reads.write_faults h.2; line = refl; silent = h.3 } in
+      let fault : IsOutputFault (evidence_output l.evidence) Line (outside old mid.got mid.faults) new =
+      record { wanted = λ none. h.1.wanted (none-asked l.evidence none); rose = subst (λ n. Rose n new.files.write_faults) reads.write_faults h.2; line = cut-line l.evidence; silent = h.3 } in
       run-listed Line (after 7 left) refl (λ none. absurd (h.1.wanted none))
-      (run-after (bounds_for l) l.evidence old mid new Line (after 7 left) reads is.quiet refl h.0.left.spent h.1.leaves (λ none. absurd (h.1.wanted none))
+      (run-after (bounds_for l) (evidence_output l.evidence) old mid new Line (after 7 left) reads is.quiet refl h.0.left.spent (leaves-asked l.evidence mid.files new.files h.1.leaves) (λ none. absurd (h.1.wanted (none-asked l.evidence none)))
       (λ e. absurd (omega arith)) (λ e. absurd (false≢true e)) (λ _. inr fault) (λ e. absurd (false≢true e)))
       (record {
         closing = c;
@@ -342,7 +382,7 @@ module _ (l : Listing) (old : FilesState) (mid new : Outside) (begun : Beginning
       let c = left.closing in
       let Line : List ℕ → Type 0 = λ told. line_of (EvidenceMemory left) ≡ told in
       run-listed Line (after 8 left) refl (λ none. absurd (h.1.wanted none))
-      (run-after (bounds_for l) l.evidence old mid new Line (after 8 left) reads is.quiet refl h.0.left.spent h.1.leaves (λ none. absurd (h.1.wanted none))
+      (run-after (bounds_for l) (evidence_output l.evidence) old mid new Line (after 8 left) reads is.quiet refl h.0.left.spent (leaves-asked l.evidence mid.files new.files h.1.leaves) (λ none. absurd (h.1.wanted (none-asked l.evidence none)))
       (λ _. h.2) (λ e. absurd (false≢true e)) (λ e. absurd (omega arith)) (λ _. refl))
       (record {
         closing = c;
@@ -360,7 +400,7 @@ module _ (l : Listing) (old : FilesState) (mid new : Outside) (begun : Beginning
       subst (λ o. EndsAs (Some (listing l)) (outside old mid.got mid.faults) o Memory) (sym h)
       (record {
         every =
-            run-bare (bounds_for l) l.evidence old mid.files mid.got mid.faults (λ told. line_of Memory ≡ told) 8 refl reads (λ _. is.quiet) (λ _. refl);
+            run-bare (bounds_for l) (evidence_output l.evidence) old mid.files mid.got mid.faults (λ told. line_of Memory ≡ told) 8 refl reads (λ _. is.quiet) (λ _. refl);
         done = listing-memory l (outside old mid.got mid.faults) mid (λ told. line_of Memory ≡ told) reads;
       })
   listing-lists _ h = absurd h
@@ -378,13 +418,13 @@ module _ (c : Checking) (old : FilesState) (mid new : Outside) (begun : Beginnin
       → IsObeyed (Some (checking c)) (outside old mid.got mid.faults) new Gets (bare status)
   run-checked Gets status among whole cut line = record {
     every =
-        run-after (bounds_of (Some (checking c))) None old mid new Gets (bare status) reads is.quiet
+        run-after no_bounds no_outputs old mid new Gets (bare status) reads is.quiet
         (among-by (IsAmong (0 ∷ 3 ∷ 4 ∷ 7 ∷ 8 ∷ [])) (0 ∷ 7 ∷ []) status among (refl, (refl, tt))) refl
-        (subst (WritingLeaves (λ name. None ≡ Some name) mid.files) (sym untouched) (writes-nothing (λ name. None ≡ Some name) mid.files)) (λ _. untouched)
+        (subst (WritingLeaves (λ name. In name []) mid.files) (sym untouched) (writes-nothing (λ name. In name []) mid.files)) (λ _. untouched)
         (λ eight. absurd (false≢true (subst (IsAmong (0 ∷ 7 ∷ [])) eight among)))
         (λ r. (ap (λ (f : FilesState). f.write_faults) untouched, (whole (zero (λ seven. false≢true (subst IsReported seven r)))).0))
         (λ seven. inl (cut seven).0)
-        (λ t. subst (λ s. Gets (error_line (bounds_of (Some (checking c))) s)) (sym (zero (λ seven. false≢true (subst IsToldByStatus seven t))))
+        (λ t. subst (λ s. Gets (error_line no_bounds s)) (sym (zero (λ seven. false≢true (subst IsToldByStatus seven t))))
         (line (zero (λ seven. false≢true (subst IsToldByStatus seven t)))));
     done =
         record {
@@ -421,7 +461,7 @@ module _ (c : Checking) (old : FilesState) (mid new : Outside) (begun : Beginnin
       subst (λ o. EndsAs (Some (checking c)) (outside old mid.got mid.faults) o Memory) (sym h)
       (record {
         every =
-            run-bare (bounds_of (Some (checking c))) None old mid.files mid.got mid.faults (λ told. line_of Memory ≡ told) 8 refl reads (λ _. is.quiet) (λ _. refl);
+            run-bare no_bounds no_outputs old mid.files mid.got mid.faults (λ told. line_of Memory ≡ told) 8 refl reads (λ _. is.quiet) (λ _. refl);
         done = checking-memory c (outside old mid.got mid.faults) mid (λ told. line_of Memory ≡ told);
       })
   checking-reports _ h = absurd h
@@ -435,8 +475,8 @@ module _ (d : Drilling) (old new : Outside) (untouched : new.files ≡ old.files
       → IsObeyed (Some (drilling d)) old new Gets finish
   run-drilled Gets finish among learned h quiet line = record {
     every =
-        run-after (drill_bounds d.jobs) None old.files old new Gets finish (ReadingLeaves-nothing old.files) refl known learned
-        (subst (WritingLeaves (λ name. None ≡ Some name) old.files) (sym untouched) (writes-nothing (λ name. None ≡ Some name) old.files)) (λ _. untouched)
+        run-after (drill_bounds d.jobs) no_outputs old.files old new Gets finish (ReadingLeaves-nothing old.files) refl known learned
+        (subst (WritingLeaves (λ name. In name []) old.files) (sym untouched) (writes-nothing (λ name. In name []) old.files)) (λ _. untouched)
         (λ eight. absurd (other eight)) (λ r. (ap (λ (f : FilesState). f.write_faults) untouched, quiet r)) (λ seven. inl (h.cut_off seven).0) line;
     done =
         record {
@@ -488,7 +528,7 @@ module _ (d : Drilling) (old new : Outside) (untouched : new.files ≡ old.files
       (λ e. absurd (false≢true e)) (λ e. absurd (false≢true e))
   drilling-drills Memory h =
       subst (λ o. EndsAs (Some (drilling d)) old o Memory) (sym h)
-      (record { every = every-memory (drill_bounds d.jobs) None old; done = drilling-memory d old (λ told. line_of Memory ≡ told) })
+      (record { every = every-memory (drill_bounds d.jobs) no_outputs old; done = drilling-memory d old (λ told. line_of Memory ≡ told) })
   drilling-drills _ h = absurd h
 
 -- a problem that is the case, within bounds that are the greatest

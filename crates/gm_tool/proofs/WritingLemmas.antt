@@ -1,20 +1,20 @@
 -- How the parts of a text that is written compose.
-use Rattle.std.proofs.Common.{◌≡◌, ℕ, List, [], ◌++◌, Option, Some, None, IfSome, refl, sym, ◌∙◌, ap, subst, append_assoc, append-nil}
+use Rattle.std.proofs.Common.{◌≡◌, ◌≢◌, ℕ, List, [], ◌++◌, Option, Some, None, IfSome, refl, sym, ◌∙◌, ap, subst, append_assoc, append-nil}
 use Rattle.gm_ports.specs.Faults.{Rose}
-use Rattle.gm_ports.specs.FilesState.{FilesState, WritingLeaves, HoldsWhatIsWritten, StaysAsTold}
+use Rattle.gm_ports.specs.FilesState.{FilesState, WritingLeaves, HoldsWhatIsWritten, StaysAsTold, TellsNothingNew}
 use Rattle.gm_ports.specs.Told.{ToldAppends, ToldGrowsWithin, IsEmptyWhereTold}
 use Rattle.evidence_text.specs.Putting.{IsCut}
 use Rattle.gm_tool.specs.declared.evidence_file.CutOff.{CutOff}
 use Rattle.gm_tool.specs.declared.evidence_file.CutOff.TheVariants.{Failed}
-use Rattle.gm_tool.specs.Writing.{WritesOn, IsTaken, IsTakenToFault, IsCutOff, IsWritten, IsFront}
+use Rattle.gm_tool.specs.Writing.{WritesOn, IsTaken, IsTakenToFault, IsCutOff, IsWritten, IsFront, StandsWhole, AreWritten}
 use Rattle.gm_tool.specs.Taking.{stays-then, taken-more, taken-last}
 
 -- ---- what was taken
 
 -- one call that writes
-pub writes-call : (old new : FilesState) → WritingLeaves (λ name. old.output ≡ Some (Some name)) old new → StaysAsTold old.output new.output
+pub writes-call : (old new : FilesState) → WritingLeaves (λ name. old.output ≡ Some (Some name)) old new → StaysAsTold old.output new.output → TellsNothingNew old new
     → HoldsWhatIsWritten new → WritesOn old new
-writes-call old new leaves output holds = record { leaves = leaves; output = output; holds = λ before. holds }
+writes-call old new leaves output untold holds = record { leaves = leaves; output = output; holds = λ before. holds; untold = untold }
 
 -- a piece of which a front part was taken
 pub piece-cut : (old new : FilesState) (piece : List ℕ) → ToldGrowsWithin old.written new.written piece → Rose old.write_faults new.write_faults → WritesOn old new
@@ -127,4 +127,35 @@ pub leaves-finished : (old last new : FilesState) (name : List ℕ) → WritingL
 leaves-finished old last new name before ends = record {
   names = λ n other. stays-then (old.held n) (last.held n) (new.held n) (before.names n other) (ends.names n (λ never. never));
   read_faults = ends.read_faults ∙ before.read_faults;
+}
+
+-- ---- two texts, each to an output of its own
+
+-- a name that holds its text goes on holding it, where another one is written
+stands-still : (mid new : FilesState) (first text second : List ℕ) → first ≢ second → IsWritten first text mid → WritingLeaves (λ n. n ≡ second) mid new
+    → TellsNothingNew mid new → StandsWhole first text new
+stands-still mid new first text second apart whole leaves untold = by new.written mid.written refl refl
+  where
+    -- what the name holds now is what it held, where both are told
+    holds : (now before : Option (Option (List ℕ))) (bytes : List ℕ) → StaysAsTold before now → bytes ≡ text → IfSome before (λ file. file ≡ Some bytes)
+        → IfSome now (λ file. file ≡ Some text)
+    holds None before bytes stays is held = tt
+    holds (Some file) None bytes stays is held = cc
+    holds (Some file) (Some was) bytes stays is held = let same : was ≡ file = cc in sym same ∙ held ∙ ap Some is
+
+    by : (now before : Option (List ℕ)) → new.written ≡ now → mid.written ≡ before → StandsWhole first text new
+    by None before e b = subst (λ told. IfSome told (λ _. IfSome (new.held first) (λ file. file ≡ Some text))) (sym e) tt
+    by (Some bytes) None e b = let never : Some bytes ≡ None = sym e ∙ untold.written b in cc
+    by (Some bytes) (Some was) e b =
+        subst (λ told. IfSome told (λ _. IfSome (new.held first) (λ file. file ≡ Some text))) (sym e)
+        (holds (new.held first) (mid.held first) was (leaves.names first apart)
+        (subst (λ told. IfSome told (λ x. x ≡ text)) b whole.written)
+        (subst (λ told. IfSome told (λ x. IfSome (mid.held first) (λ file. file ≡ Some x))) b whole.held))
+
+-- so both stand when both were written
+pub both-written : (mid new : FilesState) (first first_text second second_text : List ℕ) → first ≢ second → IsWritten first first_text mid
+    → WritingLeaves (λ n. n ≡ second) mid new → TellsNothingNew mid new → IsWritten second second_text new → AreWritten first first_text second second_text new
+both-written mid new first first_text second second_text apart whole leaves untold last = record {
+  stands = stands-still mid new first first_text second apart whole leaves untold;
+  last = last;
 }

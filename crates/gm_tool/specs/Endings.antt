@@ -9,7 +9,7 @@ use Rattle.map_core.specs.declared.closing.Verdict.TheVariants as verdict
 use Rattle.gm_tool.specs.declared.enumeration.Bounds.{Bounds}
 use Rattle.gm_tool.specs.declared.enumeration.Enumerated.{Enumerated}
 use Rattle.gm_tool.specs.declared.ending.Ending.{Ending}
-use Rattle.gm_tool.specs.declared.ending.Ending.TheVariants.{BadWords, Refused, ReadFault, EvidenceFault, EvidenceRefused, Checked, CheckCutOff, Memory, Listed, CutOff, EvidenceCutOff, EvidenceMemory}
+use Rattle.gm_tool.specs.declared.ending.Ending.TheVariants.{BadWords, Refused, ReadFault, EvidenceFault, EvidenceRefused, Checked, CheckCutOff, Memory, Listed, CutOff, EvidenceCutOff, EvidenceMemory, Exported, ExportCutOff, NoConflict}
 use Rattle.gm_tool.specs.declared.ending.Finish.{Finish}
 use Rattle.gm_tool.specs.Lines.{budget_line, limit_line}
 
@@ -42,6 +42,9 @@ finish_of (Listed line left) = after (status_by left.closing.verdict) left
 finish_of (CutOff left) = after 7 left
 finish_of (EvidenceCutOff left) = after 7 left
 finish_of (EvidenceMemory left) = after 8 left
+finish_of Exported = bare 0
+finish_of ExportCutOff = bare 7
+finish_of (NoConflict line) = bare 11
 
 -- the texts that tell which file could not be read
 abbrev pub input_fault_line : List ℕ
@@ -57,6 +60,9 @@ report_cut_line = codes "gmus: write fault on report\n"
 abbrev pub evidence_cut_line : List ℕ
 evidence_cut_line = codes "gmus: write fault on evidence\n"
 
+abbrev pub export_cut_line : List ℕ
+export_cut_line = codes "gmus: write fault on export\n"
+
 -- the text that comes with a status, where it has no number in it; no bytes where none comes
 abbrev pub plain_line : ℕ → List ℕ
 plain_line status =
@@ -64,7 +70,7 @@ plain_line status =
     else (if status == 6 then input_fault_line
     else (if status == 7 then report_cut_line else (if status == 8 then codes "gmus: out of memory\n" else [])))
 
--- the line on standard error that comes with a status other than 5, 6, 7 and 9, if any
+-- the line on standard error that comes with a status other than 5, 6, 7, 9 and 11, if any
 abbrev pub error_line : Bounds → ℕ → List ℕ
 error_line b status = if status == 3 then budget_line b.conflicts else (if status == 4 then limit_line b.limit else plain_line status)
 
@@ -75,4 +81,6 @@ line_of (EvidenceRefused line) = line.items
 line_of EvidenceFault = evidence_fault_line
 line_of (Listed line left) = line.items
 line_of (EvidenceCutOff left) = evidence_cut_line
+line_of ExportCutOff = export_cut_line
+line_of (NoConflict line) = line.items
 line_of ending = plain_line (finish_of ending).status

@@ -6,6 +6,7 @@ pub mod Statuses
 pub mod Outside
 pub mod Closed
 pub mod Endings
+pub mod Outputs
 pub mod Run
 pub mod Input
 pub mod Judging
@@ -15,5 +16,6 @@ pub mod Prepared
 pub mod Listing
 pub mod Drilling
 pub mod Checking
+pub mod Exporting
 pub mod Words
 pub mod Steps

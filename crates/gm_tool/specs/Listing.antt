@@ -15,7 +15,8 @@ use Rattle.gm_tool.specs.Input.{OfFile, IsReadFor}
 use Rattle.gm_tool.specs.Judging.{IsJudged, AreAccepted}
 use Rattle.gm_tool.specs.Outside.{Outside, NoneRose}
 use Rattle.gm_tool.specs.Resuming.{GoesOnFrom}
-use Rattle.gm_tool.specs.Run.{IsReportFault, IsEvidenceFault}
+use Rattle.gm_tool.specs.Outputs.{evidence_output}
+use Rattle.gm_tool.specs.Run.{IsReportFault, IsOutputFault}
 use Rattle.gm_tool.specs.Statuses.{IsAmong, IsAfterwards, IsReported, IsPartial}
 use Rattle.gm_tool.specs.Writing.{IsWritten, IsFront}
 
@@ -31,7 +32,7 @@ pub record IsReportCut (p : Problem) (asked : Option (List ℕ)) (closing : Clos
 
 -- the evidence was cut off, and the report got nothing
 pub record IsEvidenceCut (p : Problem) (asked : Option (List ℕ)) (closing : Closing) (old new : Outside) (Gets : List ℕ → Type 0) : Type 0 where
-  pub fault : IsEvidenceFault asked Gets old new
+  pub fault : IsOutputFault (evidence_output asked) Gets old new
   pub front : IsFront (evidence_of p closing) new.files
 
 -- the enumeration of a problem is over, which began with these records and was asked for evidence under this name, if any

@@ -1,11 +1,17 @@
 -- What each step of a command promises, by the ending that it comes to; and what it hands to the next.
-use Rattle.std.specs.Prelude.{◌≡◌, ◌≢◌, ℕ, Bool, List, [], Option, Some, None, IfSome}
+use Rattle.std.specs.Prelude.{◌≡◌, ◌≢◌, ◌<◌, ℕ, Bool, true, false, List, [], ◌∷◌, length, Option, Some, None, IfSome}
+use Rattle.std.specs.Borrow.{Bor}
+use Rattle.sat_base.specs.Members.{In}
 use Rattle.gm_base.specs.Problem.{Problem}
+use Rattle.gm_base.specs.declared.kind.Kind.{Kind}
+use Rattle.gm_base.specs.declared.kind.Kind.TheVariants.{Conflict}
 use Rattle.gm_ports.specs.Faults.{Rose}
 use Rattle.gm_ports.specs.FilesState.{FilesState, WritingLeaves}
 use Rattle.gm_ports.specs.Told.{ToldAppends, ToldGrowsWithin}
 use Rattle.gcnf_text.specs.declared.offence.Offence.{Offence}
 use Rattle.evidence_rec.specs.declared.record.Record.{Record}
+use Rattle.evidence_rec.specs.Held.{is_held, same_kind, same_set, and_also}
+use Rattle.evidence_rec.specs.Records.{kind_of, set_of}
 use Rattle.evidence_text.specs.declared.offence.Offence.{Offence as Refusal}
 use Rattle.map_core.specs.declared.closing.Closing.{Closing}
 use Rattle.gm_audit.specs.Refusals.{first_refusal}
@@ -13,20 +19,23 @@ use Rattle.gm_audit.specs.declared.answer.Audited.TheVariants as audited
 use Rattle.gm_tool.specs.declared.beginning.Beginning.{Beginning}
 use Rattle.gm_tool.specs.declared.enumeration.Bounds.{Bounds}
 use Rattle.gm_tool.specs.declared.ending.Ending.{Ending}
-use Rattle.gm_tool.specs.declared.ending.Ending.TheVariants.{BadWords, Refused, ReadFault, EvidenceFault, EvidenceRefused, Checked, CheckCutOff, Memory, Listed, CutOff, EvidenceCutOff, EvidenceMemory}
+use Rattle.gm_tool.specs.declared.ending.Ending.TheVariants.{Refused, ReadFault, EvidenceFault, EvidenceRefused, Checked, CheckCutOff, Memory, Listed, CutOff, EvidenceCutOff, EvidenceMemory, Exported, ExportCutOff, NoConflict}
+use Rattle.gm_tool.specs.declared.export.Texts.{Texts}
 use Rattle.gm_tool.specs.declared.judging.Judged.{Judged}
 use Rattle.gm_tool.specs.declared.judging.Judged.TheVariants as judged
 use Rattle.gm_tool.specs.Closed.{report_for}
 use Rattle.gm_tool.specs.Drilling.{held_counts}
 use Rattle.gm_tool.specs.Endings.{error_line, evidence_fault_line, status_by}
 use Rattle.gm_tool.specs.Evidence.{evidence_of, HasSmallIds}
+use Rattle.gm_tool.specs.Exporting.{IsNumberedRecord, IsRefuted, clauses_text, refutation_text, shown_conflicts}
 use Rattle.gm_tool.specs.Input.{OfFile, IsReadFor}
 use Rattle.gm_tool.specs.Judging.{IsRefusal, IsEvidenceRefusal, IsEvidenceUnread}
+use Rattle.gm_tool.specs.Lines.{no_conflict_line}
 use Rattle.gm_tool.specs.Outside.{Outside}
 use Rattle.gm_tool.specs.Prepared.{IsOver}
 use Rattle.gm_tool.specs.Refusals.{refusal_line, evidence_line}
 use Rattle.gm_tool.specs.Resuming.{AreShown, GoesOnFrom}
-use Rattle.gm_tool.specs.Writing.{IsWritten, IsFront}
+use Rattle.gm_tool.specs.Writing.{IsWritten, IsFront, AreWritten, AreCutOff}
 
 -- ---- what is read
 
@@ -65,6 +74,22 @@ Stops file evidence old new (EvidenceRefused line) =
     (new.read_faults ≡ old.read_faults) × IsEvidenceRefusal old.held file evidence (λ told. line.items ≡ told)
 Stops file evidence old new Memory = new.read_faults ≡ old.read_faults
 Stops file evidence old new _ = ⊥
+
+-- ---- what is found
+
+-- a record of this kind and this set
+abbrev pub is_of : Kind → List ℕ → Record → Bool
+is_of kind set r = and_also (same_kind (kind_of r) kind) (same_set (set_of r) set)
+
+-- a record of a conflict with this set is found among them, or there is none
+abbrev pub IsConflictOf : List Record → List ℕ → Option (Bor Record) → Type 0
+IsConflictOf records set None = is_held records Conflict set ≡ false
+IsConflictOf records set (Some found) = In found.now records × (is_of Conflict set found.now ≡ true)
+
+-- the record of the conflict with this number is found, or there are fewer
+abbrev pub IsNumberedIn : Problem → List Record → ℕ → Option (Bor Record) → Type 0
+IsNumberedIn p records number None = length (shown_conflicts p records) < number
+IsNumberedIn p records number (Some found) = IsNumberedRecord p records number found.now
 
 -- ---- what is written
 
@@ -114,3 +139,37 @@ Reports text old new Checked = ToldAppends old.got new.got text × (new.faults �
 Reports text old new CheckCutOff = ToldGrowsWithin old.got new.got text × Rose old.faults new.faults
 Reports text old new Memory = new ≡ old
 Reports text old new _ = ⊥
+
+-- the texts of a conflict that evidence shows, and of its refutation
+pub record AreTexts (p : Problem) (records : List Record) (number : ℕ) (texts : Texts) : Type 0 where
+  pub found : Record
+  pub numbered : IsNumberedRecord p records number found
+  pub refuted : IsRefuted p found
+  pub cnf : texts.cnf.items ≡ clauses_text p found
+  pub lrat : texts.lrat.items ≡ refutation_text p found
+
+-- they are made, or there are fewer conflicts
+abbrev pub AreTextsOf : Problem → List Record → ℕ → Option Texts → Type 0
+AreTextsOf p records number None = length (shown_conflicts p records) < number
+AreTextsOf p records number (Some texts) = AreTexts p records number texts
+
+-- the ending tells that there are fewer conflicts, or memory was wanting for its line
+abbrev pub Misses : ℕ → Ending → Type 0
+Misses number (NoConflict line) = line.items ≡ no_conflict_line number
+Misses number Memory = Unit {0}
+Misses number _ = ⊥
+
+-- the conflict with this number is exported, or there are fewer
+abbrev pub Exports : Problem → List Record → ℕ → List ℕ → List ℕ → FilesState → FilesState → Ending → Type 0
+Exports p records number cnf lrat old new Exported =
+    (found : Record) × IsNumberedRecord p records number found × IsRefuted p found
+    × AreWritten cnf (clauses_text p found) lrat (refutation_text p found) new
+    × WritingLeaves (λ name. In name (cnf ∷ lrat ∷ [])) old new × (new.write_faults ≡ old.write_faults)
+Exports p records number cnf lrat old new ExportCutOff =
+    (found : Record) × IsNumberedRecord p records number found × IsRefuted p found
+    × AreCutOff cnf (clauses_text p found) (refutation_text p found) old new
+    × WritingLeaves (λ name. In name (cnf ∷ lrat ∷ [])) old new × Rose old.write_faults new.write_faults
+Exports p records number cnf lrat old new (NoConflict line) =
+    (length (shown_conflicts p records) < number) × (line.items ≡ no_conflict_line number) × (new ≡ old)
+Exports p records number cnf lrat old new Memory = new ≡ old
+Exports p records number cnf lrat old new _ = ⊥

@@ -1,7 +1,7 @@
 -- What the opened output takes adds up: laws of the sink that writes to it.
 use Rattle.std.proofs.Common.{ℕ, List, [], ◌++◌, Option, Some, None, refl, ◌∙◌, subst}
 use Rattle.gm_ports.specs.Faults.{Rose}
-use Rattle.gm_ports.specs.FilesState.{FilesState, StaysAsTold}
+use Rattle.gm_ports.specs.FilesState.{FilesState, StaysAsTold, TellsNothingNew}
 use Rattle.gm_ports.proofs.ToldLemmas.{ToldAppends-append, ToldAppends-nothing}
 use Rattle.gm_tool.specs.Writing.{WritesOn, IsTaken, IsTakenToFault}
 
@@ -16,11 +16,23 @@ stays-then old mid None p q = tt
 stays-then old None (Some x) p q = cc
 stays-then old (Some y) (Some x) p q = p ∙ q
 
+pub untold-same : (files : FilesState) → TellsNothingNew files files
+untold-same files = record { names = λ name none. none; unread = λ none. none; output = λ none. none; written = λ none. none }
+
+pub untold-then : (old mid new : FilesState) → TellsNothingNew old mid → TellsNothingNew mid new → TellsNothingNew old new
+untold-then old mid new p q = record {
+  names = λ name none. q.names name (p.names name none);
+  unread = λ none. q.unread (p.unread none);
+  output = λ none. q.output (p.output none);
+  written = λ none. q.written (p.written none);
+}
+
 pub writes-nothing : (files : FilesState) → WritesOn files files
 writes-nothing files = record {
   leaves = record { names = λ name other. stays-same (files.held name); read_faults = refl };
   output = stays-same files.output;
   holds = λ h. h;
+  untold = untold-same files;
 }
 
 pub writes-then : (old mid new : FilesState) → WritesOn old mid → WritesOn mid new → WritesOn old new
@@ -33,6 +45,7 @@ writes-then old mid new p q = record {
   };
   output = stays-then old.output mid.output new.output p.output q.output;
   holds = λ h. q.holds (p.holds h);
+  untold = untold-then old mid new p.untold q.untold;
 }
 
 -- ---- what was taken, one part behind another

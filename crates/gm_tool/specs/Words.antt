@@ -1,14 +1,16 @@
 -- What the words of a run ask for, and what is then true.
 use Rattle.std.specs.Prelude.{◌≡◌, ℕ, List, [], ◌∷◌, map, Option, Some, None, String}
 use Rattle.std.specs.String.{string_bytes}
-use Rattle.gm_words.specs.Reading.{Asked, words_read, listing, checking, drilling}
+use Rattle.gm_words.specs.Reading.{Asked, words_read, listing, checking, drilling, exporting}
 use Rattle.gm_tool.specs.declared.enumeration.Bounds.{Bounds}
 use Rattle.gm_tool.specs.declared.ending.Ending.{Ending}
 use Rattle.gm_tool.specs.declared.ending.Finish.{Finish}
 use Rattle.gm_tool.specs.Checking.{IsChecking}
 use Rattle.gm_tool.specs.Drilling.{IsDrilling, drill_bounds}
 use Rattle.gm_tool.specs.Endings.{bare, finish_of, line_of}
+use Rattle.gm_tool.specs.Exporting.{IsExporting}
 use Rattle.gm_tool.specs.Listing.{IsListing, bounds_for}
+use Rattle.gm_tool.specs.Outputs.{Outputs, evidence_output, export_outputs, no_outputs}
 use Rattle.gm_tool.specs.Outside.{Outside}
 use Rattle.gm_tool.specs.Run.{IsRun}
 use Rattle.gm_tool.specs.Statuses.{IsAmong}
@@ -17,19 +19,25 @@ use Rattle.gm_tool.specs.Statuses.{IsAmong}
 abbrev pub asked_in : {Z : Type 0} → List (String Z) → Option Asked
 asked_in words = words_read (map string_bytes words)
 
+-- no bounds
+abbrev pub no_bounds : Bounds
+no_bounds = record { jobs = 0; conflicts = 0; limit = 0 }
+
 -- the bounds that they ask for; no bound is named where they ask for no enumeration, and a drilling has the greatest
 abbrev pub bounds_of : Option Asked → Bounds
-bounds_of None = record { jobs = 0; conflicts = 0; limit = 0 }
+bounds_of None = no_bounds
 bounds_of (Some (listing l)) = bounds_for l
-bounds_of (Some (checking c)) = record { jobs = 0; conflicts = 0; limit = 0 }
+bounds_of (Some (checking c)) = no_bounds
 bounds_of (Some (drilling d)) = drill_bounds d.jobs
+bounds_of (Some (exporting x)) = no_bounds
 
--- the name under which they ask for evidence
-abbrev pub evidence_asked : Option Asked → Option (List ℕ)
-evidence_asked None = None
-evidence_asked (Some (listing l)) = l.evidence
-evidence_asked (Some (checking c)) = None
-evidence_asked (Some (drilling d)) = None
+-- the files that they ask to be written
+abbrev pub outputs_of : Option Asked → Outputs
+outputs_of None = no_outputs
+outputs_of (Some (listing l)) = evidence_output l.evidence
+outputs_of (Some (checking c)) = no_outputs
+outputs_of (Some (drilling d)) = no_outputs
+outputs_of (Some (exporting x)) = export_outputs x.cnf x.lrat
 
 -- words without a reading touch nothing
 pub record IsUnread (old new : Outside) (finish : Finish) : Type 0 where
@@ -43,10 +51,11 @@ IsDone None old new Gets finish = IsUnread old new finish
 IsDone (Some (listing l)) old new Gets finish = IsListing l old new Gets finish
 IsDone (Some (checking c)) old new Gets finish = IsChecking c old new Gets finish
 IsDone (Some (drilling d)) old new Gets finish = IsDrilling d old new Gets finish
+IsDone (Some (exporting x)) old new Gets finish = IsExporting x old new Gets finish
 
 -- that, and what holds of every run
 pub record IsObeyed (asked : Option Asked) (old new : Outside) (Gets : List ℕ → Type 0) (finish : Finish) : Type 0 where
-  pub every : IsRun (bounds_of asked) (evidence_asked asked) old new Gets finish
+  pub every : IsRun (bounds_of asked) (outputs_of asked) old new Gets finish
   pub done : IsDone asked old new Gets finish
 
 -- the same of a run before its line is written

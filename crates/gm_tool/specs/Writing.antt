@@ -1,17 +1,18 @@
 -- What it is to write a text to the opened output: what was taken of it, and what a cut leaves.
-use Rattle.std.specs.Prelude.{◌≡◌, ℕ, List, ◌++◌, Some, None, IfSome}
+use Rattle.std.specs.Prelude.{◌≡◌, ◌⊎◌, ℕ, List, ◌++◌, Some, None, IfSome}
 use Rattle.gm_ports.specs.Faults.{Rose}
-use Rattle.gm_ports.specs.FilesState.{FilesState, WritingLeaves, HoldsWhatIsWritten, StaysAsTold}
+use Rattle.gm_ports.specs.FilesState.{FilesState, WritingLeaves, HoldsWhatIsWritten, StaysAsTold, TellsNothingNew}
 use Rattle.gm_ports.specs.Told.{ToldAppends, ToldGrowsWithin}
 use Rattle.gm_tool.specs.declared.evidence_file.CutOff.{CutOff}
 use Rattle.gm_tool.specs.declared.evidence_file.CutOff.TheVariants.{Failed, Memory}
 
--- writes to the opened output leave each other name, the count of read faults, and which output it is; and they go on holding
--- what is written
+-- writes to the opened output leave each other name, the count of read faults, and which output it is; they tell nothing new,
+-- and go on holding what is written
 pub record WritesOn (old new : FilesState) : Type 0 where
   pub leaves : WritingLeaves (λ name. old.output ≡ Some (Some name)) old new
   pub output : StaysAsTold old.output new.output
   pub holds : HoldsWhatIsWritten old → HoldsWhatIsWritten new
+  pub untold : TellsNothingNew old new
 
 -- the opened output took this text
 pub record IsTaken (old new : FilesState) (text : List ℕ) : Type 0 where
@@ -46,3 +47,28 @@ pub record IsWritten (name text : List ℕ) (files : FilesState) : Type 0 where
 -- what was written to the output that was opened last is a front part of this text
 abbrev pub IsFront : List ℕ → FilesState → Type 0
 IsFront text files = IfSome files.written (λ bytes. (rest : List ℕ) × (text ≡ bytes ++ rest))
+
+-- ---- two texts, each to an output of its own
+
+-- the name holds this text, as far as that is told beside what was written last
+abbrev pub StandsWhole : List ℕ → List ℕ → FilesState → Type 0
+StandsWhole name text files = IfSome files.written (λ _. IfSome (files.held name) (λ file. file ≡ Some text))
+
+-- the first stands whole under its name, and the second was written to the output that was opened last
+pub record AreWritten (first first_text second second_text : List ℕ) (files : FilesState) : Type 0 where
+  pub stands : StandsWhole first first_text files
+  pub last : IsWritten second second_text files
+
+-- a front part of the first was written, and no other name is changed
+pub record IsFirstCutOff (first first_text : List ℕ) (old new : FilesState) : Type 0 where
+  pub front : IsFront first_text new
+  pub leaves : WritingLeaves (λ name. name ≡ first) old new
+
+-- the first stands whole, and a front part of the second was written
+pub record IsSecondCutOff (first first_text second_text : List ℕ) (files : FilesState) : Type 0 where
+  pub stands : StandsWhole first first_text files
+  pub front : IsFront second_text files
+
+-- one of the two was cut off
+abbrev pub AreCutOff : List ℕ → List ℕ → List ℕ → FilesState → FilesState → Type 0
+AreCutOff first first_text second_text old new = IsFirstCutOff first first_text old new ⊎ IsSecondCutOff first first_text second_text new

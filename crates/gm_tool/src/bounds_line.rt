@@ -1,6 +1,6 @@
-//! The lines that tell which bound was reached.
+//! The lines that tell which bound was reached, and which conflict there isn't.
 ghost use Rattle.std.specs.Prelude.{◌≡◌, IfOk};
-ghost use Rattle.gm_tool.specs.Lines.{budget_line, limit_line};
+ghost use Rattle.gm_tool.specs.Lines.{budget_line, limit_line, no_conflict_line};
 
 use crate::line_parts::put_counted;
 use std::alloc::{AllocError, Global};
@@ -22,5 +22,15 @@ pub fn line_of_limit(alloc: Global, limit: u64) -> Result<Vec<u8>, AllocError>
     let mut line = Vec::new(alloc);
     put_counted(&mut line, b"gmus: limit of ", limit)?;
     line.extend_from_slice(b" records reached\n")?;
+    Ok(line)
+}
+
+/// That there are fewer conflicts.
+pub fn line_of_no_conflict(alloc: Global, number: u64) -> Result<Vec<u8>, AllocError>
+    ensures { IfOk result (λ line. line.items ≡ no_conflict_line number) }
+{
+    let mut line = Vec::new(alloc);
+    put_counted(&mut line, b"gmus: no conflict ", number)?;
+    line.extend_from_slice(b"\n")?;
     Ok(line)
 }

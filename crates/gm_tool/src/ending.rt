@@ -32,10 +32,16 @@ pub enum Ending {
     EvidenceCutOff(Enumerated),
     /// Memory was wanting while the evidence was written, and no report is written.
     EvidenceMemory(Enumerated),
+    /// A conflict is exported.
+    Exported,
+    /// It could not be written to its end.
+    ExportCutOff,
+    /// There are fewer conflicts than the number that was asked for. With the line that tells it.
+    NoConflict(Vec<u8>),
 }
 
-/// How a run ended: 0 complete or accepted, 2 bad command line, 3 budget spent, 4 limit reached, 5 input refused, 6 read
-/// fault, 7 write fault, 8 want of memory, 9 evidence refused.
+/// How a run ended: 0 complete, accepted or exported, 2 bad command line, 3 budget spent, 4 limit reached, 5 input refused, 6 read
+/// fault, 7 write fault, 8 want of memory, 9 evidence refused, 11 no such conflict.
 ///
 /// After an enumeration, `closing` is what is left of it, `logs` are the steps of each worker's solver, in the order of the
 /// workers, and last those of the map's, and `spent` is how many clauses were learnt in them.
@@ -97,5 +103,8 @@ pub fn finish_of(alloc: Global, ending: Ending) -> Finish
         Ending::Listed(_, left) => after(status_by(left.closing.verdict), left),
         Ending::CutOff(left) | Ending::EvidenceCutOff(left) => after(7, left),
         Ending::EvidenceMemory(left) => after(8, left),
+        Ending::Exported => bare(alloc, 0),
+        Ending::ExportCutOff => bare(alloc, 7),
+        Ending::NoConflict(_) => bare(alloc, 11),
     }
 }

@@ -12,15 +12,17 @@ fn text_of(ending: &Ending) -> &[u8]
 {
     match ending {
         Ending::BadWords => b"gmus: bad command line\n",
-        Ending::Refused(line) | Ending::EvidenceRefused(line) | Ending::Listed(line, _) => {
-            line.as_slice()
-        }
+        Ending::Refused(line)
+        | Ending::EvidenceRefused(line)
+        | Ending::Listed(line, _)
+        | Ending::NoConflict(line) => line.as_slice(),
         Ending::ReadFault => b"gmus: read fault on input\n",
         Ending::EvidenceFault => b"gmus: read fault on evidence\n",
-        Ending::Checked => b"",
+        Ending::Checked | Ending::Exported => b"",
         Ending::Memory | Ending::EvidenceMemory(_) => b"gmus: out of memory\n",
         Ending::CutOff(_) | Ending::CheckCutOff => b"gmus: write fault on report\n",
         Ending::EvidenceCutOff(_) => b"gmus: write fault on evidence\n",
+        Ending::ExportCutOff => b"gmus: write fault on export\n",
     }
 }
 

@@ -142,7 +142,7 @@ impl<'a, F: Files> LineSink for Outlet<'a, F> {
 }
 
 /// Hands the piece to the opened output, and after each write what is left of it, until nothing is left.
-fn write_piece<F: Files>(files: &mut F, piece: &[u8]) -> Result<(), Failed>
+pub fn write_piece<F: Files>(files: &mut F, piece: &[u8]) -> Result<(), Failed>
     ensures whole { OnOk result (ToldAppends (F.state files.old).written (F.state files.new).written piece.now) }
     ensures failed { OnErr result (ToldGrowsWithin (F.state files.old).written (F.state files.new).written piece.now) }
     ensures cause { OnErr result (Rose (F.state files.old).write_faults (F.state files.new).write_faults) }

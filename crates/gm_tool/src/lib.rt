@@ -7,11 +7,12 @@
 //! let finish = run(&rt, alloc, &words, &mut files, &mut out, &mut err, &gate);
 //! ```
 //!
-//! Or it checks evidence about the file, or makes a case from two numbers and counts its minimal sets.
+//! Or it checks evidence about the file, or exports a conflict that it shows, or makes a case from two numbers and counts its
+//! minimal sets.
 //!
 //! Start reading at `run` in `program`, at `specs/Run.antt`, which says what holds of every run, and at `specs/Listing.antt`,
 //! which says what each status of `list` tells of the file, the problem, the evidence and the report; `specs/Endings.antt`
-//! says how another command joins. Then `list`, `check` and `drill`, a file a command, and
+//! says how another command joins. Then `list`, `check`, `drill` and `export`, a file a command, and
 //! `enumeration`: an oracle over the learning solver for each worker, a map, and what the workers of `worker_pool` leave of
 //! them, when no set of groups is left, the budget is spent or as many sets are recorded as were wanted.
 //!
@@ -27,6 +28,8 @@ mod ending;
 mod enumeration;
 mod error_line;
 mod evidence_file;
+mod export;
+mod export_files;
 mod input;
 mod judging;
 mod line_parts;

@@ -1,18 +1,20 @@
 //! The whole program, as one call.
 ghost use Rattle.std.specs.Prelude.{◌≡◌, Some, None};
-ghost use Rattle.gm_words.specs.Reading.{Listing as Listed, Checking as Checked, Drilling as Drilled, listing, checking, drilling};
+ghost use Rattle.gm_words.specs.Reading.{Listing as Listed, Checking as Checked, Drilling as Drilled, Exporting as Exported, listing, checking, drilling, exporting};
 ghost use Rattle.gm_tool.specs.Checking.{IsChecking};
 ghost use Rattle.gm_tool.specs.Drilling.{IsDrilling};
 ghost use Rattle.gm_tool.specs.Endings.{finish_of};
+ghost use Rattle.gm_tool.specs.Exporting.{IsExporting};
 ghost use Rattle.gm_tool.specs.Listing.{IsListing};
 ghost use Rattle.gm_tool.specs.Outside.{GetsLine, outside};
 ghost use Rattle.gm_tool.specs.Run.{IsRun};
-ghost use Rattle.gm_tool.specs.Words.{EndsAs, IsUnread, asked_in, bounds_of, evidence_asked};
+ghost use Rattle.gm_tool.specs.Words.{EndsAs, IsUnread, asked_in, bounds_of, outputs_of};
 
 use crate::check::check_file;
 use crate::drill::drill_case;
 use crate::ending::{Ending, Finish, finish_of};
 use crate::error_line::write_error_line;
+use crate::export::export_conflict;
 use crate::list::list_file;
 use gm_ports::{Files, Gate, Sink};
 use gm_words::{Request, read_words};
@@ -20,8 +22,8 @@ use std::alloc::{AllocError, Global};
 use std::sync::Wait;
 use std::thread::Threads;
 
-/// Lists all minimal conflicts and corrections of the file that the words name, or checks evidence about it, or counts those
-/// of a case that is made from two numbers.
+/// Lists all minimal conflicts and corrections of the file that the words name, or checks evidence about it, or exports one
+/// conflict that it shows, or counts those of a case that is made from two numbers.
 ///
 /// `words` are those behind the program's name. Status 0 of `list` says that the file is accepted and was read to its end,
 /// and that `out` got exactly the report of all its minimal conflicts and all its minimal corrections, each once, in
@@ -31,7 +33,8 @@ use std::thread::Threads;
 /// evidence are accepted, and that `out` got the report of the sets that the evidence shows to be minimal, of all where it
 /// is complete. A listing may go on from such evidence: then its sets come first, `--limit` counts them, and the report with
 /// status 0 is the same. Status 0 of `drill` says that `out` got one line, with the numbers of groups, of all minimal conflicts and of
-/// all minimal corrections of the case.
+/// all minimal corrections of the case. Status 0 of `export` says that file and evidence are accepted, and that two files got
+/// the clauses of the conflict with the number in the report's order, and a refutation of them.
 pub fn run<R: Threads + Wait + Sync, F: Files, O: Sink, E: Sink, G: Gate>(
     rt: &R,
     alloc: Global,
@@ -42,7 +45,7 @@ pub fn run<R: Threads + Wait + Sync, F: Files, O: Sink, E: Sink, G: Gate>(
     gate: &G,
 ) -> Finish
     // What holds of every command.
-    ensures every { IsRun (bounds_of (asked_in words.now)) (evidence_asked (asked_in words.now))
+    ensures every { IsRun (bounds_of (asked_in words.now)) (outputs_of (asked_in words.now))
         (outside (F.state files.old) (O.got out.old) (O.faults out.old)) (outside (F.state files.new) (O.got out.new) (O.faults out.new))
         (GetsLine (E.got err.old) (E.got err.new) (E.faults err.old) (E.faults err.new)) result }
 
@@ -54,6 +57,9 @@ pub fn run<R: Threads + Wait + Sync, F: Files, O: Sink, E: Sink, G: Gate>(
         (outside (F.state files.old) (O.got out.old) (O.faults out.old)) (outside (F.state files.new) (O.got out.new) (O.faults out.new))
         (GetsLine (E.got err.old) (E.got err.new) (E.faults err.old) (E.faults err.new)) result }
     ensures drilling { (d : Drilled) → asked_in words.now ≡ Some (drilling d) → IsDrilling d
+        (outside (F.state files.old) (O.got out.old) (O.faults out.old)) (outside (F.state files.new) (O.got out.new) (O.faults out.new))
+        (GetsLine (E.got err.old) (E.got err.new) (E.faults err.old) (E.faults err.new)) result }
+    ensures exporting { (x : Exported) → asked_in words.now ≡ Some (exporting x) → IsExporting x
         (outside (F.state files.old) (O.got out.old) (O.faults out.old)) (outside (F.state files.new) (O.got out.new) (O.faults out.new))
         (GetsLine (E.got err.old) (E.got err.new) (E.faults err.old) (E.faults err.new)) result }
     ensures without_reading { asked_in words.now ≡ None → IsUnread
@@ -80,6 +86,7 @@ fn obey<R: Threads + Wait + Sync, F: Files, O: Sink, G: Gate>(
         Ok(Some(Request::List(listing))) => list_file(rt, alloc, listing, files, out, gate),
         Ok(Some(Request::Check(checking))) => check_file(alloc, checking, files, out),
         Ok(Some(Request::Drill(drilling))) => drill_case(rt, alloc, drilling, out, gate),
+        Ok(Some(Request::Export(exporting))) => export_conflict(alloc, exporting, files),
         Ok(None) => obey_none(files, out),
         Err(AllocError) => Ending::Memory,
     }

@@ -1,13 +1,17 @@
-//! The report of the sets that records are about, and how many they are.
+//! The report of the sets that records are about, how many they are, and the record of a conflict by its number there.
 ghost use Rattle.std.specs.Prelude.{◌≡◌, ◌<◌, ◌≤◌, IfOk, length};
+ghost use Rattle.gm_base.specs.Problem.{IsProblem, Problem};
+ghost use Rattle.gm_base.specs.declared.kind.Kind.TheVariants.{Conflict};
 ghost use Rattle.report_text.specs.Reports.{IsReportOf};
 ghost use Rattle.gm_tool.specs.Closed.{conflicts_in, corrections_in};
 ghost use Rattle.gm_tool.specs.Drilling.{drill_line};
+ghost use Rattle.gm_tool.specs.Resuming.{AreGoodFirst};
+ghost use Rattle.gm_tool.specs.Steps.{IsConflictOf, IsNumberedIn, is_of};
 
 use crate::drill_line::line_of_counts;
 use evidence_rec::Record;
-use gm_base::{Kind, Sets};
-use report_text::report;
+use gm_base::{GroupSet, Kind, Sets};
+use report_text::{in_order, report};
 use std::alloc::{AllocError, Global};
 
 /// The sets of records, by kind. They are lent by the records.
@@ -66,4 +70,39 @@ fn sets_of<'a>(alloc: Global, records: &'a [Record]) -> Result<Found<'a>, AllocE
         conflicts,
         corrections,
     })
+}
+
+/// The record of the conflict with this number in the report, from 1; none where there are fewer.
+pub fn conflict_numbered<'a>(
+    alloc: Global,
+    records: &'a [Record],
+    number: u64,
+) -> Result<Option<&'a Record>, AllocError>
+    requires { 0 < number }
+    ensures { (p : Problem) → IsProblem p → AreGoodFirst p records.now → IfOk result (IsNumberedIn p records.now number) }
+{
+    let found = sets_of(alloc, records)?;
+    let order = in_order(alloc, &found.conflicts)?;
+    match order.as_slice().get((number - 1) as usize) {
+        Some(set) => Ok(conflict_of(records, set)),
+        None => Ok(None),
+    }
+}
+
+// The first record of a conflict with this set.
+fn conflict_of<'a>(records: &'a [Record], set: &GroupSet) -> Option<&'a Record>
+    ensures { IsConflictOf records.now set.now result }
+{
+    for made in records {
+        if is_conflict_of(made, set) {
+            return Some(made);
+        }
+    }
+    None
+}
+
+fn is_conflict_of(made: &Record, set: &GroupSet) -> bool
+    ensures { result ≡ is_of Conflict set.now made.now }
+{
+    made.kind() == Kind::Conflict && made.set() == set
 }

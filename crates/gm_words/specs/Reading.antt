@@ -47,6 +47,10 @@ greatest_seed = 2 ^ 64 - 1
 abbrev pub greatest_size : ℕ
 greatest_size = 1000
 
+-- the greatest number of a conflict that is exported
+abbrev pub greatest_number : ℕ
+greatest_number = 1000000000
+
 -- `--jobs J`
 abbrev pub jobs_rule : Rule
 jobs_rule = number_rule (codes "jobs") 1 greatest_jobs
@@ -75,6 +79,10 @@ seed_rule = placed_rule (codes "seed") 0 greatest_seed
 abbrev pub size_rule : Rule
 size_rule = placed_rule (codes "size") 1 greatest_size
 
+-- `NUMBER`
+abbrev pub conflict_number_rule : Rule
+conflict_number_rule = placed_rule (codes "number") 1 greatest_number
+
 -- `list FILE [--jobs J] [--conflicts B] [--limit L]`
 abbrev pub numbered_list_app : App
 numbered_list_app = with_rule (with_rule (with_rule (with_rule (new_app (codes "list"))
@@ -93,6 +101,12 @@ check_app = with_rule (with_rule (new_app (codes "check"))
 abbrev pub drill_app : App
 drill_app = with_rule (with_rule (with_rule (new_app (codes "drill")) seed_rule) size_rule) jobs_rule
 
+-- `export FILE EVIDENCE NUMBER CNF LRAT`
+abbrev pub export_app : App
+export_app = with_rule (with_rule (with_rule (with_rule (with_rule (new_app (codes "export"))
+    (place_rule (codes "file"))) (place_rule (codes "evidence"))) conflict_number_rule)
+    (place_rule (codes "cnf"))) (place_rule (codes "lrat"))
+
 -- the command without its subcommands: the program's name is not among the words, and a subcommand is due
 abbrev pub gmus_top : App
 gmus_top = record (new_app (codes "gmus")) {
@@ -101,7 +115,8 @@ gmus_top = record (new_app (codes "gmus")) {
 
 -- the command
 abbrev pub gmus_app : App
-gmus_app = with_subcommand (with_subcommand (with_subcommand gmus_top list_app.top) check_app.top) drill_app.top
+gmus_app = with_subcommand (with_subcommand (with_subcommand (with_subcommand gmus_top
+    list_app.top) check_app.top) drill_app.top) export_app.top
 
 -- ---- what the words ask for
 
@@ -125,10 +140,19 @@ pub record Drilling : Type 0 where
   pub size : ℕ
   pub jobs : ℕ
 
+-- what `export` is asked for
+pub record Exporting : Type 0 where
+  pub file : Text
+  pub evidence : Text
+  pub number : ℕ
+  pub cnf : Text
+  pub lrat : Text
+
 pub data Asked : Type 0 where
   listing : Listing → Asked
   checking : Checking → Asked
   drilling : Drilling → Asked
+  exporting : Exporting → Asked
 
 -- the number that a text says, where the option takes the text
 abbrev pub number_by : Rule → Text → Option ℕ
@@ -173,11 +197,23 @@ drilling_with _ _ _ = None
 abbrev pub drilling_of : List Row → Option Asked
 drilling_of rows = drilling_with (number_at seed_rule rows) (number_at size_rule rows) (number_or 1 jobs_rule rows)
 
+-- an export, where its names and its number can be had; the two files that are written have different names
+abbrev pub exporting_with : Option Text → Option Text → Option ℕ → Option Text → Option Text → Option Asked
+exporting_with (Some file) (Some evidence) (Some number) (Some cnf) (Some lrat) = if bytes_eq cnf lrat then None
+    else Some (exporting (record { file = file; evidence = evidence; number = number; cnf = cnf; lrat = lrat }))
+exporting_with _ _ _ _ _ = None
+
+-- what the values of `export` ask for
+abbrev pub exporting_of : List Row → Option Asked
+exporting_of rows = exporting_with (first_of (codes "file") rows) (first_of (codes "evidence") rows)
+    (number_at conflict_number_rule rows) (first_of (codes "cnf") rows) (first_of (codes "lrat") rows)
+
 -- what a subcommand's values ask for
 abbrev pub asked_of : Text → List Row → Option Asked
 asked_of name rows = if bytes_eq name (codes "list") then listing_of rows
     else (if bytes_eq name (codes "check") then checking_of rows
-    else (if bytes_eq name (codes "drill") then drilling_of rows else None))
+    else (if bytes_eq name (codes "drill") then drilling_of rows
+    else (if bytes_eq name (codes "export") then exporting_of rows else None)))
 
 -- the subcommand and its values, by clap's reading; none where that refuses the words
 abbrev pub words_read : List Text → Option Asked

@@ -1,8 +1,8 @@
 -- What a request of the program asks for.
-use Rattle.std.specs.Prelude.{ℕ, ◌<◌, ◌≤◌, Option, option_map}
+use Rattle.std.specs.Prelude.{◌≢◌, ℕ, ◌<◌, ◌≤◌, Option, option_map}
 use Rattle.std.specs.Borrow.{Bor}
 use Rattle.clap.specs.Walk.{Text}
-use Rattle.gm_words.specs.Reading.{Asked, greatest_jobs, greatest_limit, greatest_size, listing, checking, drilling}
+use Rattle.gm_words.specs.Reading.{Asked, greatest_jobs, greatest_limit, greatest_number, greatest_size, listing, checking, drilling, exporting}
 use Rattle.gm_words.specs.declared.request.Request.{Request}
 use Rattle.gm_words.specs.declared.request.Request.TheVariants as request
 
@@ -16,13 +16,17 @@ asked_by (request.List l) =
     listing (record { file = l.file.now; jobs = l.jobs; conflicts = l.conflicts; limit = l.limit; evidence = text_of l.evidence; resume = text_of l.resume })
 asked_by (request.Check c) = checking (record { file = c.file.now; evidence = c.evidence.now })
 asked_by (request.Drill d) = drilling (record { seed = d.seed; size = d.size; jobs = d.jobs })
+asked_by (request.Export x) =
+    exporting (record { file = x.file.now; evidence = x.evidence.now; number = x.number; cnf = x.cnf.now; lrat = x.lrat.now })
 
 -- the number of workers is not 0, and at most the greatest that is taken
 abbrev pub AreGoodJobs : ℕ → Type 0
 AreGoodJobs jobs = (0 < jobs) × (jobs ≤ greatest_jobs)
 
--- so are the workers of a listing and its limit, and the workers of a drilling and its size
-abbrev pub HasGoodNumbers : Request → Type 0
-HasGoodNumbers (request.List l) = AreGoodJobs l.jobs × (0 < l.limit) × (l.limit ≤ greatest_limit)
-HasGoodNumbers (request.Check c) = Unit {0}
-HasGoodNumbers (request.Drill d) = AreGoodJobs d.jobs × (0 < d.size) × (d.size ≤ greatest_size)
+-- so are the workers of a listing and its limit, the workers of a drilling and its size, and the number of an export, which
+-- writes to two names
+abbrev pub HasGoodValues : Request → Type 0
+HasGoodValues (request.List l) = AreGoodJobs l.jobs × (0 < l.limit) × (l.limit ≤ greatest_limit)
+HasGoodValues (request.Check c) = Unit {0}
+HasGoodValues (request.Drill d) = AreGoodJobs d.jobs × (0 < d.size) × (d.size ≤ greatest_size)
+HasGoodValues (request.Export x) = (0 < x.number) × (x.number ≤ greatest_number) × (x.cnf.now ≢ x.lrat.now)

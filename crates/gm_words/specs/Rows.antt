@@ -3,7 +3,7 @@ use Rattle.std.specs.Prelude.{◌≡◌, ℕ, [], ◌∷◌, Option, Some, None,
 use Rattle.std.proofs.Common.{refl}
 use Rattle.clap.proofs.OnLiterals.{clap_on_literals}
 use Rattle.clap.specs.Walk.{Text}
-use Rattle.gm_words.specs.Reading.{Asked, Listing, greatest_conflicts, greatest_limit, greatest_seed, listing, checking, drilling, words_read}
+use Rattle.gm_words.specs.Reading.{Asked, Listing, greatest_conflicts, greatest_limit, greatest_number, greatest_seed, listing, checking, drilling, exporting, words_read}
 
 -- `list` of a file, with no option
 abbrev pub plain_listing : Text → Listing
@@ -197,3 +197,31 @@ pub refused_drill :
     × (words_read (codes "drill" ∷ codes "7" ∷ codes "12" ∷ codes "--limit" ∷ codes "5" ∷ []) ≡ None)
 unfolding clap_on_literals
 refused_drill = (refl, refl, refl, refl, refl, refl, refl, refl, refl)
+
+-- `export` of the conflict with this number
+abbrev pub export_of : Text → Text → ℕ → Text → Text → Option Asked
+export_of file evidence number cnf lrat =
+    Some (exporting (record { file = file; evidence = evidence; number = number; cnf = cnf; lrat = lrat }))
+
+pub read_export :
+    (words_read (codes "export" ∷ codes "f" ∷ codes "e" ∷ codes "1" ∷ codes "a" ∷ codes "b" ∷ [])
+    ≡ export_of (codes "f") (codes "e") 1 (codes "a") (codes "b"))
+    × (words_read (codes "export" ∷ codes "f" ∷ codes "f" ∷ codes "+1000000000" ∷ codes "f" ∷ codes "e" ∷ [])
+    ≡ export_of (codes "f") (codes "f") greatest_number (codes "f") (codes "e"))
+    × (words_read (codes "export" ∷ codes "--" ∷ codes "f" ∷ codes "e" ∷ codes "02" ∷ [] ∷ codes "-b" ∷ [])
+    ≡ export_of (codes "f") (codes "e") 2 [] (codes "-b"))
+unfolding clap_on_literals
+read_export = (refl, refl, refl)
+
+-- one name for both outputs, whatever it is; a name too few or too many, numbers out of range, none, and options
+pub refused_export :
+    (words_read (codes "export" ∷ codes "f" ∷ codes "e" ∷ codes "1" ∷ codes "a" ∷ codes "a" ∷ []) ≡ None)
+    × (words_read (codes "export" ∷ codes "f" ∷ codes "e" ∷ codes "1" ∷ [] ∷ [] ∷ []) ≡ None)
+    × (words_read (codes "export" ∷ codes "f" ∷ codes "e" ∷ codes "1" ∷ codes "a" ∷ []) ≡ None)
+    × (words_read (codes "export" ∷ codes "f" ∷ codes "e" ∷ codes "1" ∷ codes "a" ∷ codes "b" ∷ codes "c" ∷ []) ≡ None)
+    × (words_read (codes "export" ∷ codes "f" ∷ codes "e" ∷ codes "0" ∷ codes "a" ∷ codes "b" ∷ []) ≡ None)
+    × (words_read (codes "export" ∷ codes "f" ∷ codes "e" ∷ codes "1000000001" ∷ codes "a" ∷ codes "b" ∷ []) ≡ None)
+    × (words_read (codes "export" ∷ codes "f" ∷ codes "e" ∷ codes "x" ∷ codes "a" ∷ codes "b" ∷ []) ≡ None)
+    × (words_read (codes "export" ∷ codes "f" ∷ codes "e" ∷ codes "1" ∷ codes "a" ∷ codes "b" ∷ codes "--jobs" ∷ codes "2" ∷ []) ≡ None)
+unfolding clap_on_literals
+refused_export = (refl, refl, refl, refl, refl, refl, refl, refl)

@@ -1,6 +1,7 @@
 -- Wrong lines: clap itself finds a fault in each of them, computed from its specification.
 --
--- The reading of the words is none also where clap finds no fault and yet a part of the request can't be had. None is known.
+-- The reading of the words is none also where clap finds no fault and yet a part of the request can't be had. Known are those of
+-- an export alone whose two outputs have one name.
 -- What these lines and others are read as is tried by the script `words` of text_trials, which has the same lines.
 use Rattle.std.specs.Prelude.{◌≡◌, ◌++◌, ◌==◌, ℕ, List, [], ◌∷◌, codes, filter, if◌then◌else◌}
 use Rattle.std.proofs.Common.{refl}
@@ -66,6 +67,12 @@ pub no_request :
     codes "drill|7|12|1|" ∷
     codes "drill|--|7|12|--jobs|2|" ∷
     codes "dril|7|12|" ∷
+    codes "export|" ∷
+    codes "export|f|e|1|a|" ∷
+    codes "export|f|e|1|a|b|c|" ∷
+    codes "export|f|e|1|-a|b|" ∷
+    codes "export|--help|" ∷
+    codes "expor|f|e|1|a|b|" ∷
     codes "drill|--help|" ∷
     codes "--jobs|2|list|f|" ∷
     codes "f|list|" ∷
@@ -100,6 +107,8 @@ pub unknown_options :
     codes "drill|7|12|--resume|a|" ∷
     codes "check|f|e|--resume|a|" ∷
     codes "drill|7|12|--seed|7|" ∷
+    codes "export|f|e|1|a|b|--jobs|2|" ∷
+    codes "export|f|e|1|a|b|--number|1|" ∷
     []) ≡ []
 unfolding clap_on_literals
 unknown_options = refl
@@ -145,6 +154,12 @@ pub wrong_values :
     codes "drill|7|-12|" ∷
     codes "drill|7|12|--jobs|0|" ∷
     codes "drill|7|12|--jobs|65|" ∷
+    codes "export|f|e|0|a|b|" ∷
+    codes "export|f|e|1000000001|a|b|" ∷
+    codes "export|f|e|18446744073709551617|a|b|" ∷
+    codes "export|f|e||a|b|" ∷
+    codes "export|f|e|x|a|b|" ∷
+    codes "export|f|e|--|-1|a|b|" ∷
     []) ≡ []
 unfolding clap_on_literals
 wrong_values = refl

@@ -2,9 +2,9 @@
 ghost use Rattle.std.specs.Prelude.{◌≡◌, IfOk};
 ghost use Rattle.clap.specs.Words.{App, app_of, with_rule, with_subcommand};
 ghost use Rattle.gm_words.specs.Options.{IsLocal, option_rule, word_rule};
-ghost use Rattle.gm_words.specs.Reading.{check_app, drill_app, gmus_app, gmus_top, list_app, numbered_list_app, place_rule, text_rule};
+ghost use Rattle.gm_words.specs.Reading.{check_app, drill_app, export_app, gmus_app, gmus_top, list_app, numbered_list_app, place_rule, text_rule};
 
-use crate::options::{CONFLICTS, JOBS, LIMIT, NumberOption, SEED, SIZE};
+use crate::options::{CONFLICTS, JOBS, LIMIT, NUMBER, NumberOption, SEED, SIZE};
 use clap::{Arg, Command};
 use std::alloc::{AllocError, Global};
 
@@ -14,7 +14,8 @@ pub(crate) fn gmus_command<'a>(alloc: Global) -> Result<Command<'a>, AllocError>
 {
     let command = with_subcommand(gmus_top_command(alloc), list_command(alloc))?;
     let command = with_subcommand(command, check_command(alloc))?;
-    with_subcommand(command, drill_command(alloc))
+    let command = with_subcommand(command, drill_command(alloc))?;
+    with_subcommand(command, export_command(alloc))
 }
 
 /// The command without its subcommands. The words do not begin with the program's name.
@@ -59,6 +60,17 @@ fn drill_command<'a>(alloc: Global) -> Result<Command<'a>, AllocError>
     let command = with_word(Ok(Command::new(alloc, "drill")), alloc, SEED);
     let command = with_word(command, alloc, SIZE);
     with_number(command, alloc, JOBS)
+}
+
+/// `export FILE EVIDENCE NUMBER CNF LRAT`
+fn export_command<'a>(alloc: Global) -> Result<Command<'a>, AllocError>
+    ensures { IfOk result (IsLocal export_app) }
+{
+    let command = with_place(Ok(Command::new(alloc, "export")), alloc, "file");
+    let command = with_place(command, alloc, "evidence");
+    let command = with_word(command, alloc, NUMBER);
+    let command = with_place(command, alloc, "cnf");
+    with_place(command, alloc, "lrat")
 }
 
 /// With a subcommand, if there is one.

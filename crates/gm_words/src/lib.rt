@@ -7,6 +7,7 @@
 //!     Some(Request::List(listing)) => list(listing.file, listing.jobs, listing.conflicts, listing.limit, ..),
 //!     Some(Request::Check(checking)) => check(checking.file, checking.evidence),
 //!     Some(Request::Drill(drilling)) => drill(drilling.seed, drilling.size, drilling.jobs),
+//!     Some(Request::Export(exporting)) => export(exporting.file, exporting.evidence, exporting.number, ..),
 //!     None => usage(),
 //! }
 //! ```
@@ -23,4 +24,4 @@ mod read;
 mod request;
 
 pub use read::read_words;
-pub use request::{Checking, Drilling, Listing, Request};
+pub use request::{Checking, Drilling, Exporting, Listing, Request};

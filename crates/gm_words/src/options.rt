@@ -55,6 +55,13 @@ pub(crate) const SIZE: NumberOption = NumberOption {
     high: 1_000,
 };
 
+/// `NUMBER`
+pub(crate) const NUMBER: NumberOption = NumberOption {
+    name: "number",
+    low: 1,
+    high: 1_000_000_000,
+};
+
 impl NumberOption {
     /// The option as clap is told of it.
     pub(crate) fn arg<'a>(self, alloc: Global) -> Arg<'a>

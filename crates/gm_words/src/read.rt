@@ -1,15 +1,15 @@
 //! Reads the words of a command line.
-ghost use Rattle.std.specs.Prelude.{◌≡◌, ◌≤◌, IfOk, IfSome, None, Some, codes, map, option_and_then, option_map, string_bytes};
+ghost use Rattle.std.specs.Prelude.{◌≡◌, ◌≤◌, ◌<◌, IfOk, IfSome, None, Some, codes, map, option_and_then, option_map, string_bytes};
 ghost use Rattle.clap.specs.Walk.{first_of, rows_of};
 ghost use Rattle.clap.specs.Words.{found_of, kind_of, subcommand_rows_of};
 ghost use Rattle.clap.specs.declared.error.ErrorKind.TheVariants.{OutOfMemory};
 ghost use Rattle.gm_words.specs.Options.{option_rule, word_rule};
-ghost use Rattle.gm_words.specs.Reading.{asked_of, checking_of, conflicts_rule, drilling_of, greatest_conflicts, greatest_limit, limit_rule, listing_of, listing_with, number_at, number_or, words_read};
-ghost use Rattle.gm_words.specs.Requests.{AreGoodJobs, HasGoodNumbers, asked_by, text_of};
+ghost use Rattle.gm_words.specs.Reading.{asked_of, checking_of, conflicts_rule, drilling_of, exporting_of, exporting_with, greatest_conflicts, greatest_limit, greatest_number, limit_rule, listing_of, listing_with, number_at, number_or, words_read};
+ghost use Rattle.gm_words.specs.Requests.{AreGoodJobs, HasGoodValues, asked_by, text_of};
 
 use crate::command::gmus_command;
-use crate::options::{CONFLICTS, JOBS, LIMIT, NumberOption, SEED, SIZE};
-use crate::request::{Checking, Drilling, Listing, Request};
+use crate::options::{CONFLICTS, JOBS, LIMIT, NUMBER, NumberOption, SEED, SIZE};
+use crate::request::{Checking, Drilling, Exporting, Listing, Request};
 use clap::error::ErrorKind;
 use clap::{ArgMatches, Error};
 use std::alloc::{AllocError, Global};
@@ -17,7 +17,7 @@ use std::alloc::{AllocError, Global};
 /// Reads the words after the program's name. `None` is a wrong command line.
 pub fn read_words<'a>(alloc: Global, words: &'a [String]) -> Result<Option<Request<'a>>, AllocError>
     ensures asked { IfOk result (λ r. option_map asked_by r ≡ words_read (map string_bytes words.entry.now)) }
-    ensures numbers { IfOk result (λ r. IfSome r HasGoodNumbers) }
+    ensures values { IfOk result (λ r. IfSome r HasGoodValues) }
 {
     match gmus_command(alloc)?.try_get_matches_from(words) {
         Ok(matches) => Ok(request_of(&matches)),
@@ -41,7 +41,7 @@ fn refused<'a>(error: Error) -> Result<Option<Request<'a>>, AllocError>
 fn request_of<'a>(matches: &ArgMatches<'a>) -> Option<Request<'a>>
     ensures asked { option_map asked_by result
         ≡ option_and_then (λ p. asked_of p.0 p.1) (subcommand_rows_of matches.now) }
-    ensures numbers { IfSome result HasGoodNumbers }
+    ensures values { IfSome result HasGoodValues }
 {
     let (name, inner) = matches.subcommand()?;
     request_by(name, inner)
@@ -50,7 +50,7 @@ fn request_of<'a>(matches: &ArgMatches<'a>) -> Option<Request<'a>>
 /// What the matches of the subcommand with this name ask for.
 fn request_by<'a>(name: &str, matches: &ArgMatches<'a>) -> Option<Request<'a>>
     ensures asked { option_map asked_by result ≡ asked_of name.now (rows_of (found_of matches.now)) }
-    ensures numbers { IfSome result HasGoodNumbers }
+    ensures values { IfSome result HasGoodValues }
 {
     if name == "list" {
         listing(matches)
@@ -58,6 +58,8 @@ fn request_by<'a>(name: &str, matches: &ArgMatches<'a>) -> Option<Request<'a>>
         checking(matches)
     } else if name == "drill" {
         drilling(matches)
+    } else if name == "export" {
+        exporting(matches)
     } else {
         None
     }
@@ -66,7 +68,7 @@ fn request_by<'a>(name: &str, matches: &ArgMatches<'a>) -> Option<Request<'a>>
 /// What the matches of `list` ask for.
 fn listing<'a>(matches: &ArgMatches<'a>) -> Option<Request<'a>>
     ensures asked { option_map asked_by result ≡ listing_of (rows_of (found_of matches.now)) }
-    ensures numbers { IfSome result HasGoodNumbers }
+    ensures values { IfSome result HasGoodValues }
 {
     let file = text_given(matches, "file")?;
     let jobs = number_or(matches, JOBS, JOBS.low)?;
@@ -79,7 +81,7 @@ fn listing_by<'a>(matches: &ArgMatches<'a>, file: &'a str, jobs: u32) -> Option<
     ensures asked { let rows = rows_of (found_of matches.now) in option_map asked_by result
         ≡ listing_with (Some file.now) (Some jobs) (number_or greatest_conflicts conflicts_rule rows)
         (number_or greatest_limit limit_rule rows) (first_of (codes "evidence") rows) (first_of (codes "resume") rows) }
-    ensures numbers { IfSome result HasGoodNumbers }
+    ensures values { IfSome result HasGoodValues }
 {
     let conflicts = number_or(matches, CONFLICTS, CONFLICTS.high)?;
     let limit = number_or(matches, LIMIT, LIMIT.high)?;
@@ -98,7 +100,7 @@ fn listing_by<'a>(matches: &ArgMatches<'a>, file: &'a str, jobs: u32) -> Option<
 /// What the matches of `check` ask for.
 fn checking<'a>(matches: &ArgMatches<'a>) -> Option<Request<'a>>
     ensures asked { option_map asked_by result ≡ checking_of (rows_of (found_of matches.now)) }
-    ensures numbers { IfSome result HasGoodNumbers }
+    ensures values { IfSome result HasGoodValues }
 {
     let file = text_given(matches, "file")?;
     let evidence = text_given(matches, "evidence")?;
@@ -108,7 +110,7 @@ fn checking<'a>(matches: &ArgMatches<'a>) -> Option<Request<'a>>
 /// What the matches of `drill` ask for.
 fn drilling<'a>(matches: &ArgMatches<'a>) -> Option<Request<'a>>
     ensures asked { option_map asked_by result ≡ drilling_of (rows_of (found_of matches.now)) }
-    ensures numbers { IfSome result HasGoodNumbers }
+    ensures values { IfSome result HasGoodValues }
 {
     let seed = number_at(matches, SEED)?;
     let size = number_at(matches, SIZE)?;
@@ -117,6 +119,43 @@ fn drilling<'a>(matches: &ArgMatches<'a>) -> Option<Request<'a>>
         seed,
         size: size as u32,
         jobs: jobs as u32,
+    }))
+}
+
+/// What the matches of `export` ask for.
+fn exporting<'a>(matches: &ArgMatches<'a>) -> Option<Request<'a>>
+    ensures asked { option_map asked_by result ≡ exporting_of (rows_of (found_of matches.now)) }
+    ensures values { IfSome result HasGoodValues }
+{
+    let file = text_given(matches, "file")?;
+    let evidence = text_given(matches, "evidence")?;
+    let number = number_at(matches, NUMBER)?;
+    exporting_to(matches, file, evidence, number)
+}
+
+/// What the matches of `export` ask for, with what is exported, that is among them. One name can't be that of both outputs.
+fn exporting_to<'a>(
+    matches: &ArgMatches<'a>,
+    file: &'a str,
+    evidence: &'a str,
+    number: u64,
+) -> Option<Request<'a>>
+    requires { (0 < number) × (number ≤ greatest_number) }
+    ensures asked { let rows = rows_of (found_of matches.now) in option_map asked_by result
+        ≡ exporting_with (Some file.now) (Some evidence.now) (Some number) (first_of (codes "cnf") rows) (first_of (codes "lrat") rows) }
+    ensures values { IfSome result HasGoodValues }
+{
+    let cnf = text_given(matches, "cnf")?;
+    let lrat = text_given(matches, "lrat")?;
+    if cnf == lrat {
+        return None;
+    }
+    Some(Request::Export(Exporting {
+        file,
+        evidence,
+        number,
+        cnf,
+        lrat,
     }))
 }
 

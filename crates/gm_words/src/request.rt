@@ -37,6 +37,21 @@ pub struct Drilling {
     pub jobs: u32,
 }
 
+/// What `export` is asked for.
+#[derive(Clone, Copy)]
+pub struct Exporting<'a> {
+    /// The name of the input file.
+    pub file: &'a str,
+    /// The name of the file with the evidence.
+    pub evidence: &'a str,
+    /// The number of the conflict in the report, from 1.
+    pub number: u64,
+    /// The name of the file that gets the conflict's clauses.
+    pub cnf: &'a str,
+    /// The name of the file that gets the refutation of them, which is another one.
+    pub lrat: &'a str,
+}
+
 /// What the words ask for.
 #[derive(Clone, Copy)]
 pub enum Request<'a> {
@@ -46,4 +61,6 @@ pub enum Request<'a> {
     Check(Checking<'a>),
     /// `drill SEED SIZE [--jobs J]`
     Drill(Drilling),
+    /// `export FILE EVIDENCE NUMBER CNF LRAT`
+    Export(Exporting<'a>),
 }

@@ -5,15 +5,17 @@
 //! error got. What speaks of no bytes stays, in the same records: which causes counts of faults and the words tell; of a
 //! listing, with 0, 3, 4 and 7, and with 8 where memory was wanting for the evidence, what is left of its enumeration of some
 //! problem, that an audit says yes to its evidence, where that was asked for, and that a listing which goes on from evidence
-//! begins with the records of some text of which nothing is refused.
+//! begins with the records of some text of which nothing is refused; of an export, with 0 and 7, that what was made is a
+//! refutation of the clauses of some conflict that such a text shows.
 ghost use Rattle.std.specs.Prelude.{◌≡◌, Some, None, ⊤};
-ghost use Rattle.gm_words.specs.Reading.{Listing as Listed, Checking as Checked, Drilling as Drilled, listing, checking, drilling};
+ghost use Rattle.gm_words.specs.Reading.{Listing as Listed, Checking as Checked, Drilling as Drilled, Exporting as Exported, listing, checking, drilling, exporting};
 ghost use Rattle.gm_tool.specs.Checking.{IsChecking};
 ghost use Rattle.gm_tool.specs.Drilling.{IsDrilling};
+ghost use Rattle.gm_tool.specs.Exporting.{IsExporting};
 ghost use Rattle.gm_tool.specs.Listing.{IsListing};
 ghost use Rattle.gm_tool.specs.Outside.{untold};
 ghost use Rattle.gm_tool.specs.Run.{IsRun};
-ghost use Rattle.gm_tool.specs.Words.{IsUnread, asked_in, bounds_of, evidence_asked};
+ghost use Rattle.gm_tool.specs.Words.{IsUnread, asked_in, bounds_of, outputs_of};
 
 use crate::files::RealFiles;
 use crate::sinks::StreamSink;
@@ -35,7 +37,7 @@ pub fn run_on_system<R: rt::Files + Threads + Wait + Sync, O: Print, E: Print>(
     err: &mut StreamSink<E>,
 ) -> Finish
     // What holds of every command.
-    ensures every { IsRun (bounds_of (asked_in words.now)) (evidence_asked (asked_in words.now))
+    ensures every { IsRun (bounds_of (asked_in words.now)) (outputs_of (asked_in words.now))
         (untold files.old.read_faults files.old.write_faults out.old.faults)
         (untold files.new.read_faults files.new.write_faults out.new.faults) (λ _. ⊤) result }
 
@@ -47,6 +49,9 @@ pub fn run_on_system<R: rt::Files + Threads + Wait + Sync, O: Print, E: Print>(
         (untold files.old.read_faults files.old.write_faults out.old.faults)
         (untold files.new.read_faults files.new.write_faults out.new.faults) (λ _. ⊤) result }
     ensures drilling { (d : Drilled) → asked_in words.now ≡ Some (drilling d) → IsDrilling d
+        (untold files.old.read_faults files.old.write_faults out.old.faults)
+        (untold files.new.read_faults files.new.write_faults out.new.faults) (λ _. ⊤) result }
+    ensures exporting { (x : Exported) → asked_in words.now ≡ Some (exporting x) → IsExporting x
         (untold files.old.read_faults files.old.write_faults out.old.faults)
         (untold files.new.read_faults files.new.write_faults out.new.faults) (λ _. ⊤) result }
     ensures without_reading { asked_in words.now ≡ None → IsUnread

@@ -6,8 +6,9 @@
 //! ```
 //!
 //! A listing is told with each of its numbers, and with `evidence` and `resume` where it has them, a checking as
-//! `check "f" "e"`, and a drilling as `drill 7 12 jobs 1`. A wrong command line is told as `wrong`.
-use gm_words::{Listing, Request, read_words};
+//! `check "f" "e"`, a drilling as `drill 7 12 jobs 1`, and an export as `export "f" "e" 1 "a" "b"`. A wrong command line is
+//! told as `wrong`.
+use gm_words::{Exporting, Listing, Request, read_words};
 use std::alloc::{AllocError, Global};
 use trial_script::{Player, Step};
 
@@ -51,6 +52,7 @@ fn show_request(alloc: Global, words: &[String], out: &mut String) -> Result<(),
             let (seed, size, jobs) = (drilling.seed, drilling.size, drilling.jobs);
             writeln!(out, "drill {seed} {size} jobs {jobs}")
         }
+        Some(Request::Export(exporting)) => show_exporting(&exporting, out),
         None => out.push_str("wrong\n"),
     }
 }
@@ -62,6 +64,15 @@ fn split(alloc: Global, line: &str) -> Result<Vec<String>, AllocError> {
         words.push(String::from_str(alloc, word)?)?;
     }
     Ok(words)
+}
+
+fn show_exporting(exporting: &Exporting<'_>, out: &mut String) -> Result<(), AllocError> {
+    let (file, evidence, number) = (exporting.file, exporting.evidence, exporting.number);
+    let (cnf, lrat) = (exporting.cnf, exporting.lrat);
+    writeln!(
+        out,
+        "export \"{file}\" \"{evidence}\" {number} \"{cnf}\" \"{lrat}\""
+    )
 }
 
 fn show_listing(listing: &Listing<'_>, out: &mut String) -> Result<(), AllocError> {

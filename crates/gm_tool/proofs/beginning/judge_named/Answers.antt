@@ -1,6 +1,6 @@
 use Rattle.std.proofs.Common.{ap, refl, subst}
 use Rattle.gm_words.specs.Requests.{text_of}
-use Rattle.gm_tool.specs.declared.judging.Judged.TheVariants.{Audited, Failed}
+use Rattle.gm_tool.specs.declared.judging.Judged.TheVariants.{Audited}
 use Rattle.gm_tool.specs.Steps.{Judges}
 use Rattle.gm_tool.proofs.ReadingLemmas.{stops-refused, stops-unread}
 use Rattle.gm_tool.proofs.beginning.judge_named.Goals as goal

@@ -38,7 +38,7 @@ loop-at-preserved g c =
       quiet = c.in-Ok.ensures.cause.quiet some ∙ c.loop-at.invariant.quiet;
       writes =
           writes-then (g.F.Files.state c.args.files.now) (g.F.Files.state c.loop-at.files) (g.F.Files.state c.write.new.self) c.loop-at.invariant.writes
-          (writes-call (g.F.Files.state c.loop-at.files) (g.F.Files.state c.write.new.self) c.in-Ok.ensures.leaves c.in-Ok.ensures.output c.in-Ok.ensures.holds);
+          (writes-call (g.F.Files.state c.loop-at.files) (g.F.Files.state c.write.new.self) c.in-Ok.ensures.leaves c.in-Ok.ensures.output c.in-Ok.ensures.untold c.in-Ok.ensures.holds);
     }
 
 -- a write that failed left what was written before

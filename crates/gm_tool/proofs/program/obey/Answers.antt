@@ -28,6 +28,15 @@ returns-in-Ok-Some-Drill g c =
     subst (λ asked. EndsAs asked old new c.drill_case.result) (sym (ap (option_map asked_by) (w.field-0-is ∙ ap Some w.field-0-0-is)) ∙ w.ensures.asked)
     (c.drill_case.ensures (g.F.Files.state c.args.files.now))
 
+-- an export leaves the report's sink alone
+pub returns-in-Ok-Some-Export : goal.returns-in-Ok-Some-Export
+returns-in-Ok-Some-Export g c =
+    let w = c.in-Ok-Some-Export in
+    let old = outside (g.F.Files.state c.args.files.now) (g.O.Sink.got c.args.out.now) (g.O.Sink.faults c.args.out.now) in
+    let new = outside (g.F.Files.state c.export_conflict.new.files) (g.O.Sink.got c.args.out.now) (g.O.Sink.faults c.args.out.now) in
+    subst (λ asked. EndsAs asked old new c.export_conflict.result) (sym (ap (option_map asked_by) (w.field-0-is ∙ ap Some w.field-0-0-is)) ∙ w.ensures.asked)
+    (c.export_conflict.ensures (g.O.Sink.got c.args.out.now) (g.O.Sink.faults c.args.out.now))
+
 -- words without a reading touch nothing
 pub returns-in-Ok-None : goal.returns-in-Ok-None
 returns-in-Ok-None g c =

@@ -1,5 +1,4 @@
-use Rattle.std.proofs.Common.{Some, None, subst}
-use Rattle.gm_words.specs.Reading.{listing, checking, drilling}
+use Rattle.std.proofs.Common.{subst}
 use Rattle.gm_tool.specs.Outside.{GetsLine, outside}
 use Rattle.gm_tool.specs.Words.{IsDone, asked_in}
 use Rattle.gm_tool.proofs.GetsLemmas.{answered}
@@ -32,6 +31,14 @@ returns-clause-checking g c = λ k is.
 
 pub returns-clause-drilling : goal.returns-clause-drilling
 returns-clause-drilling g c = λ d is.
+    let old = (outside (g.F.Files.state c.args.files.now) (g.O.Sink.got c.args.out.now) (g.O.Sink.faults c.args.out.now)) in
+    let new = (outside (g.F.Files.state c.obey-ending.new.files) (g.O.Sink.got c.obey-ending.new.out) (g.O.Sink.faults c.obey-ending.new.out)) in
+    let h = answered (asked_in c.args.words.now) old new (GetsLine (g.E.Sink.got c.args.err.now) (g.E.Sink.got c.write_error_line.new.err) (g.E.Sink.faults c.args.err.now) (g.E.Sink.faults c.write_error_line.new.err))
+    c.obey-ending.result c.finish_of.result c.obey-ending.ensures c.write_error_line.ensures c.finish_of.ensures in
+    subst (λ asked. IsDone asked old new (GetsLine (g.E.Sink.got c.args.err.now) (g.E.Sink.got c.write_error_line.new.err) (g.E.Sink.faults c.args.err.now) (g.E.Sink.faults c.write_error_line.new.err)) c.finish_of.result) is h.done
+
+pub returns-clause-exporting : goal.returns-clause-exporting
+returns-clause-exporting g c = λ x is.
     let old = (outside (g.F.Files.state c.args.files.now) (g.O.Sink.got c.args.out.now) (g.O.Sink.faults c.args.out.now)) in
     let new = (outside (g.F.Files.state c.obey-ending.new.files) (g.O.Sink.got c.obey-ending.new.out) (g.O.Sink.faults c.obey-ending.new.out)) in
     let h = answered (asked_in c.args.words.now) old new (GetsLine (g.E.Sink.got c.args.err.now) (g.E.Sink.got c.write_error_line.new.err) (g.E.Sink.faults c.args.err.now) (g.E.Sink.faults c.write_error_line.new.err))

@@ -6,5 +6,5 @@ pub returns-clause-asked : goal.returns-clause-asked
 returns-clause-asked c = search rules
 
 -- each number is between the bounds of its option
-pub returns-clause-numbers : goal.returns-clause-numbers
-returns-clause-numbers c = search rules
+pub returns-clause-values : goal.returns-clause-values
+returns-clause-values c = search rules

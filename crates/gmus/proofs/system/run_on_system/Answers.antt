@@ -1,15 +1,15 @@
 use Rattle.std.proofs.Common.{Some, None}
 use Rattle.std.specs.Prelude.{⊤}
-use Rattle.gm_words.specs.Reading.{listing, checking, drilling}
+use Rattle.gm_words.specs.Reading.{listing, checking, drilling, exporting}
 use Rattle.gm_tool.specs.Outside.{GetsLine, untold}
-use Rattle.gm_tool.specs.Words.{asked_in, bounds_of, evidence_asked}
+use Rattle.gm_tool.specs.Words.{asked_in, bounds_of, outputs_of}
 use Rattle.gm_tool.proofs.GetsLemmas.{run-gets, done-gets}
 use Rattle.gmus.proofs.system.run_on_system.Goals as goal
 
 -- the same, of files and streams that tell no bytes
 pub returns-clause-every : goal.returns-clause-every
 returns-clause-every g c =
-    run-gets (GetsLine None None c.args.err.now.faults c.run.new.err.faults) (λ _. ⊤) (λ line told. tt) (bounds_of (asked_in c.args.words.now)) (evidence_asked (asked_in c.args.words.now))
+    run-gets (GetsLine None None c.args.err.now.faults c.run.new.err.faults) (λ _. ⊤) (λ line told. tt) (bounds_of (asked_in c.args.words.now)) (outputs_of (asked_in c.args.words.now))
     (untold c.args.files.now.read_faults c.args.files.now.write_faults c.args.out.now.faults)
     (untold c.run.new.files.read_faults c.run.new.files.write_faults c.run.new.out.faults) c.run.result c.run.ensures.every
 
@@ -30,3 +30,9 @@ returns-clause-drilling g c = λ d is.
     done-gets (GetsLine None None c.args.err.now.faults c.run.new.err.faults) (λ _. ⊤) (λ line told. tt) (Some (drilling d))
     (untold c.args.files.now.read_faults c.args.files.now.write_faults c.args.out.now.faults)
     (untold c.run.new.files.read_faults c.run.new.files.write_faults c.run.new.out.faults) c.run.result (c.run.ensures.drilling d is)
+
+pub returns-clause-exporting : goal.returns-clause-exporting
+returns-clause-exporting g c = λ x is.
+    done-gets (GetsLine None None c.args.err.now.faults c.run.new.err.faults) (λ _. ⊤) (λ line told. tt) (Some (exporting x))
+    (untold c.args.files.now.read_faults c.args.files.now.write_faults c.args.out.now.faults)
+    (untold c.run.new.files.read_faults c.run.new.files.write_faults c.run.new.out.faults) c.run.result (c.run.ensures.exporting x is)
