@@ -118,7 +118,7 @@ def try_file(chance, gmus, folder):
 def try_evidence(chance, gmus, folder):
     text = mutate_evidence.random_problem(chance)
     problem = check_evidence.Problem(text)
-    whole = mutate_evidence.evidence(problem)
+    whole = mutate_evidence.evidence(problem, chance, chance.choice([1, 2]))
     evidence = whole if chance.random() < 0.1 else mutate_evidence.changed(chance, whole)
     file, name = os.path.join(folder, "file"), os.path.join(folder, "evidence")
     write(file, text.encode())
