@@ -1,4 +1,4 @@
-"""Tests of check_lrat.py. What is wanted was worked out by hand."""
+"""Tests of check_lrat.py, and of what examples/exports.py says of an exported conflict. What is wanted was worked out by hand."""
 import os
 import subprocess
 import sys
@@ -6,8 +6,11 @@ import tempfile
 import unittest
 
 TOOLS = os.path.dirname(os.path.abspath(__file__))
-sys.path.insert(0, TOOLS)
+EXAMPLES = os.path.join(os.path.dirname(TOOLS), "examples")
+sys.path[:0] = [TOOLS, EXAMPLES]
+import check_evidence  # noqa: E402
 import check_lrat  # noqa: E402
+import exports  # noqa: E402
 
 # x, not x or y, and not y.
 THREE = "p cnf 2 3\n1 0\n-1 2 0\n-2 0\n"
@@ -70,6 +73,36 @@ class Proofs(unittest.TestCase):
         ]:
             with self.subTest(cnf=cnf):
                 self.assertEqual(told(cnf, ""), wanted)
+
+
+class Exports(unittest.TestCase):
+    def told(self, groups, cnf, lrat):
+        return exports.fault_of(check_evidence.problem_of(os.path.join(EXAMPLES, "first.gcnf")), groups, cnf, lrat)
+
+    def test_the_stored_one_and_another_with_a_step_more(self):
+        stored = [exports.text_of(os.path.join(EXAMPLES, "first_2." + name)) for name in ("cnf", "lrat")]
+        self.assertEqual(stored, [THREE, "4 0 1 2 3 0\n"])
+        self.assertIsNone(self.told([1, 3, 4], *stored))
+        self.assertIsNone(self.told([1, 3, 4], THREE, "4 2 0 1 2 0\n5 0 4 3 0\n"))
+
+    def test_clauses_that_are_not_those_of_the_conflict(self):
+        for cnf in ("p cnf 2 3\n1 0\n-2 0\n-1 2 0\n", "p cnf 2 4\n1 0\n-1 0\n-1 2 0\n-2 0\n", "p cnf 3 3\n1 0\n-1 2 0\n-2 0\n",
+                    "p cnf 2 3\n1 0\n2 -1 0\n-2 0\n", "p cnf 2 2\n1 0\n-1 0\n"):
+            self.assertEqual(self.told([1, 3, 4], cnf, "4 0 1 2 3 0\n"), "the CNF is not that of the conflict's clauses")
+
+    def test_refutations_of_another_form(self):
+        for lrat, wanted in [
+            ("4 0 1 2 0\n", "the refutation: line 1: the hints lead to no clause that is false"),
+            ("5 0 1 2 3 0\n", "no step has the id 4 and the form of one: 5 0 1 2 3 0"),
+            ("4 2 0 1 2 0\n4 d 2 0\n5 0 4 3 0\n", "no step has the id 5 and the form of one: 4 d 2 0"),
+            ("4  0 1 2 3 0\n", "no step has the id 4 and the form of one: 4  0 1 2 3 0"),
+            ("4 0 1 1 2 3 0\n", "4 0 1 1 2 3 0: the hint 1 makes nothing true"),
+            ("4 0 1 2 3 0\n5 2 0 1 2 0\n", "the last step is not the empty clause"),
+            ("4 0 1 2 3 0", "the last step is not the empty clause"),
+            ("", "the last step is not the empty clause"),
+        ]:
+            with self.subTest(lrat=lrat):
+                self.assertEqual(self.told([1, 3, 4], THREE, lrat), wanted)
 
 
 class Program(unittest.TestCase):
