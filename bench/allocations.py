@@ -3,10 +3,12 @@
 
     bench/allocations.py [--gmus PROGRAM] [--dense 1000] [--step 100] [--try NUMBERS]
 
-The commands are a listing by one worker, one by two workers with evidence, a checking, and a made case where the program
-has that command. Of each, every allocation up to --dense is refused, and then each --step-th to the last one. A run has to
-end with 8 and its line and no report, or with 0 and the full output, or with 6 or 7 and their line where a call of the real
-files or streams found no memory. Where evidence was asked for, what stands under its name with 0 is accepted evidence.
+The commands are a listing by one worker, one by two workers with evidence, a checking, and an export and a made case where
+the program has these commands. Of each, every allocation up to --dense is refused, and then each --step-th to the last one.
+A run has to end with 8 and its line and no report, or with 0 and the full output, or with 6 or 7 and their line where a call
+of the real files or streams found no memory. Where evidence was asked for, what stands under its name with 0 is accepted
+evidence. Of an export both files are full with 0, and not there with 6; else each is a front of the full one, and there is
+no refutation but behind a full CNF.
 
 The allocations are refused by a small library (allocations/refuse.c) that is loaded before PROGRAM. It has to be the proved
 one: one that `rt try` builds has an allocator of its own. With --try N,M,.. those of the first command are refused by the
@@ -25,18 +27,46 @@ TOP = os.path.dirname(HERE)
 
 FIRST = os.path.join(TOP, "examples", "first.gcnf")
 LINES = {8: "gmus: out of memory\n", 6: ("gmus: read fault on input\n", "gmus: read fault on evidence\n"),
-         7: ("gmus: write fault on report\n", "gmus: write fault on evidence\n")}
+         7: ("gmus: write fault on report\n", "gmus: write fault on evidence\n", "gmus: write fault on export\n")}
+COMMANDS = ["list f --jobs 1", "list f --jobs 2 --evidence b", "check f a", "export f a 2 c l", "drill 900 1"]
+NEW = ["export", "drill"]   # older programs do not have them
+EXPORTED = ["c", "l"]       # the names of an export, the CNF's first
 
 
 def run(gmus, words, folder, library, at):
-    """Status, output, error, and how many allocations there were."""
+    """Status, output, error, and how many allocations there were. The names of an export are free before."""
     counted = os.path.join(folder, "count")
     with open(counted, "wb") as count:
         count.write(bytes(8))
+    for name in EXPORTED:
+        if os.path.exists(os.path.join(folder, name)):
+            os.remove(os.path.join(folder, name))
     done = subprocess.run([gmus, *words], cwd=folder, stdout=subprocess.PIPE, stderr=subprocess.PIPE, timeout=120,
                           env={**os.environ, "LD_PRELOAD": library, "REFUSE_AT": str(at), "REFUSE_COUNT": counted})
     with open(counted, "rb") as count:
         return done.returncode, done.stdout.decode(), done.stderr.decode(), int.from_bytes(count.read(), sys.byteorder)
+
+
+def exported(folder):
+    """What stands under the names of an export: None where there is no file."""
+    texts = []
+    for name in EXPORTED:
+        texts.append(None)
+        if os.path.exists(os.path.join(folder, name)):
+            with open(os.path.join(folder, name), "rb") as file:
+                texts[-1] = file.read()
+    return texts
+
+
+def fault_of_export(status, texts, full):
+    """What is wrong with what an export left, if anything is."""
+    if status == 0:
+        return None if texts == full else "files that are not the full ones"
+    if status == 6:
+        return None if texts == [None, None] else "a file that was opened"
+    if any(text is not None and not whole.startswith(text) for text, whole in zip(texts, full)):
+        return "a file that is no front of the full one"
+    return "a refutation behind no full CNF" if texts[1] is not None and texts[0] != full[0] else None
 
 
 def fault(words, found, full, folder, gmus):
@@ -62,15 +92,20 @@ def numbers(last, dense, step):
 
 def try_command(gmus, words, folder, library, given):
     status, full, err, last = run(gmus, words, folder, library, 0)
+    if (status, err) == (2, "gmus: bad command line\n") and words[0] in NEW:
+        print(f"{' '.join(words)}: skipped: this program has no such command", flush=True)
+        return 0
     if (status, err) != (0, ""):
         sys.exit(f"{' '.join(words)}: status {status} with no allocation refused: {err}")
     if not last:
         sys.exit(f"{gmus}: none of its allocations is seen: it is not a proved program")
-    counts, wrong = collections.Counter(), 0
+    counts, wrong, files = collections.Counter(), 0, exported(folder)
     for at in numbers(last, given.dense, given.step):
         found = run(gmus, words, folder, library, at)
         counts[found[0]] += 1
         what = fault(words, found, full, folder, gmus)
+        if not what and words[0] == "export":
+            what = fault_of_export(found[0], exported(folder), files)
         if what:
             wrong += 1
             print(f"{' '.join(words)}: allocation {at} refused: {what}: {found[:3]}")
@@ -103,11 +138,7 @@ def try_library(gmus, given):
         with open(FIRST, "rb") as first, open(os.path.join(folder, "f"), "wb") as out:
             out.write(first.read())
         subprocess.run([gmus, "list", "f", "--evidence", "a"], cwd=folder, stdout=subprocess.DEVNULL, check=True)
-        commands = ["list f --jobs 1", "list f --jobs 2 --evidence b", "check f a", "drill 900 1"]
-        if subprocess.run([gmus, "drill", "900", "1"], stdout=subprocess.DEVNULL, stderr=subprocess.DEVNULL).returncode == 2:
-            print("drill 900 1: this program has no such command")
-            commands.pop()
-        for line in commands:
+        for line in COMMANDS:
             wrong += try_command(gmus, line.split(), folder, library, given)
     return wrong
 

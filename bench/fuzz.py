@@ -4,10 +4,11 @@
     bench/fuzz.py --gmus PROGRAM [--cases 20000] [--seed 1] [--only NUMBER]
 
 Of four cases two are files, one is evidence and one is a line of words. A file is told by the table of plain_reader.py, and
-an accepted one is listed by brute_force.py. Evidence is checked by tools/check_evidence.py. Of words, plain_reader.py says
-what they ask for, about small files whose reports are known. Status, standard output, standard error and what stands under
-the evidence's name have to be those. A case is made from the seed and its number alone, so --only makes one again. Ends
-with 1 where there is a difference, and says how to make it again. Needs Python 3.9.
+an accepted one is listed by brute_force.py. Evidence is checked by tools/check_evidence.py, and a conflict of it is exported,
+which examples/exports.py judges. Of words, plain_reader.py says what they ask for, about small files whose reports are known.
+Status, standard output, standard error and what stands under the names of outputs have to be those. A case is made from the
+seed and its number alone, so --only makes one again. Commands that PROGRAM does not have are left out. Ends with 1 where
+there is a difference, and says how to make it again. Needs Python 3.9.
 """
 import argparse
 import collections
@@ -19,13 +20,18 @@ import sys
 import tempfile
 
 HERE = os.path.dirname(os.path.abspath(__file__))
-sys.path[:0] = [HERE, os.path.join(os.path.dirname(HERE), "tools")]
+TOP = os.path.dirname(HERE)
+sys.path[:0] = [HERE, os.path.join(TOP, "examples"), os.path.join(TOP, "tools")]
 
 import brute_force  # noqa: E402
 import check_evidence  # noqa: E402
+import exports  # noqa: E402
 import make_case  # noqa: E402
 import mutate_evidence  # noqa: E402
 import plain_reader  # noqa: E402
+
+
+NO_SUCH = exports.NO_SUCH   # the status of an export of a conflict that is none
 
 
 class Difference(Exception):
@@ -115,18 +121,41 @@ def try_file(chance, gmus, folder):
 
 # ---- evidence
 
-def try_evidence(chance, gmus, folder):
+def try_evidence(chance, gmus, folder, commands):
     text = mutate_evidence.random_problem(chance)
     problem = check_evidence.Problem(text)
     whole = mutate_evidence.evidence(problem, chance, chance.choice([1, 2]))
-    evidence = whole if chance.random() < 0.1 else mutate_evidence.changed(chance, whole)
+    if chance.random() < 0.5:
+        whole = mutate_evidence.padded(chance, problem, whole)
+    evidence = whole if chance.random() < 0.2 else mutate_evidence.changed(chance, whole)
     file, name = os.path.join(folder, "file"), os.path.join(folder, "evidence")
     write(file, text.encode())
     write(name, evidence)
     kind, told = mutate_evidence.plain(problem, evidence)
     wanted = (0, told, "") if kind == "yes" else (9, b"", f"gmus: evidence refused: {told.decode()}\n")
     compare(wanted, run(gmus, ["check", file, name]), repr((text, evidence)))
+    if "export" in commands:
+        try_export(chance, gmus, folder, problem, wanted, repr((text, evidence)))
     return f"evidence, status {wanted[0]}" + (" " + told.decode().split(": ")[1] if kind == "no" else "")
+
+
+def try_export(chance, gmus, folder, problem, checked, what):
+    """Exports a conflict of evidence, or one that it doesn't have, where `check` answers this."""
+    conflicts = exports.conflicts_of(checked[1].decode())
+    number = chance.randint(1, max(1, len(conflicts)) + (chance.random() < 0.2))
+    wanted = checked[0], "", checked[2]
+    if not checked[0] and number > len(conflicts):
+        wanted = told_of_none(number)
+    found, texts = exports.export(gmus, os.path.join(folder, "file"), os.path.join(folder, "evidence"), number, folder)
+    compare(wanted, found, f"{what} {number}")
+    if wanted[0]:
+        compare([None, None], texts, f"{what} {number}")
+    else:
+        compare(None, exports.fault_of(problem, conflicts[number - 1], *texts), f"{what} {number} {texts}")
+
+
+def told_of_none(number):
+    return NO_SUCH, "", f"gmus: no conflict {number}\n"
 
 
 # ---- words
@@ -139,6 +168,10 @@ TEXTS = {"f": ONE, "-": ONE, "-x": ONE, "--limit": ONE, "help": ONE, "list": ONE
 FILES = ["f", "f", "f", "f", "-", "-x", "--limit", "help", "list", "=", "g", "bad", "missing", ""]
 EVIDENCE = ["e", "e", "half", "wrong", "f", "missing", "", "-"]
 OUTPUTS = ["out", "out", "-", "f", "", "no/out", "-o", "--jobs"]
+EXPORTS = ["out", "cnf", "lrat", "cnf", "lrat", "./out", "-", "f", "e", "", "no/out", "-o"]
+EXPORTED = {"cnf": b"p cnf 0 1\n0\n", "lrat": b"2 0 1 0\n"}  # the one conflict of ONE
+LOST = ["", "no/out"]                                        # names that can't be written
+MADE = ["out", "cnf", "lrat", "-o", "--jobs"]                # names that are free before
 NUMBERS = ["0", "1", "2", "3", "5", "64", "65", "+2", "007", "-1", "", "x", "1x", " 1", "1000000000", "1000000001", "18446744073709551615",
            "18446744073709551616", "+", "\u0661"]
 OTHERS = ["--", "-", "-h", "--help", "--version", "help", "-j", "--job", "--jobs", "--limit=2", "frob", "", "list", "f", "--=1"]
@@ -152,12 +185,20 @@ def option(chance, name):
     return [f"--{name}={value}"] if chance.random() < 0.5 else [f"--{name}", value]
 
 
+def places_of(chance, command):
+    """Words for the places of a command."""
+    if command == "drill":
+        return [chance.choice(NUMBERS[:6] + NUMBERS), chance.choice(["1", "2", "3", "0", "x", "+2", "1001"])]
+    words = [chance.choice(FILES)] + ([chance.choice(EVIDENCE)] if command != "list" else [])
+    if command == "export":
+        number = "1" if chance.random() < 0.7 else chance.choice(NUMBERS)
+        words += [number, chance.choice(EXPORTS), chance.choice(EXPORTS)]
+    return words
+
+
 def draw_words(chance, commands):
     command = chance.choice(sorted(commands))
-    if command == "drill":
-        words = [chance.choice(NUMBERS[:6] + NUMBERS), chance.choice(["1", "2", "3", "0", "x", "+2", "1001"])]
-    else:
-        words = [chance.choice(FILES)] + ([chance.choice(EVIDENCE)] if command == "check" else [])
+    words = places_of(chance, command)
     for name in commands[command]:
         if chance.random() < 0.4:
             parts = option(chance, name)
@@ -167,6 +208,8 @@ def draw_words(chance, commands):
     if chance.random() < 0.3:
         at = chance.randrange(len(words) + 1)
         words[at:at + chance.choice([0, 0, 1])] = [chance.choice(OTHERS)]
+    if chance.random() < 0.05:
+        del words[chance.randrange(len(words))]
     return words
 
 
@@ -227,6 +270,24 @@ def wanted_of_check(given):
     return [(0, told, "")] if kind == "yes" else [(9, b"", f"gmus: evidence refused: {told.decode()}\n")]
 
 
+def wanted_of_export(given):
+    checked, = wanted_of_check(given)
+    if checked[0]:
+        return [checked]
+    conflicts = exports.conflicts_of(checked[1].decode())
+    if given["number"] > len(conflicts):
+        return [(NO_SUCH, b"", told_of_none(given["number"])[2])]
+    if given["cnf"] in LOST or given["lrat"] in LOST:
+        return [(7, b"", "gmus: write fault on export\n")]
+    return [(0, b"", "")]
+
+
+def written_of_export(given, status):
+    """What an export that ends so leaves under its names, of which the CNF's is written first."""
+    names = {0: ["cnf", "lrat"], 7: [] if given["cnf"] in LOST else ["cnf"]}.get(status, [])
+    return {os.path.normpath(given[name]): EXPORTED[name] for name in names}
+
+
 def wanted_of_drill(given):
     links = make_case.widths(given["seed"], given["size"])
     wide = links.count(2)
@@ -239,7 +300,7 @@ def try_words(chance, gmus, folder, commands):
     here = os.getcwd()
     for name, text in TEXTS.items():
         write(os.path.join(folder, name), text)
-    for name in ("out", "-o", "--jobs"):
+    for name in MADE:
         if os.path.exists(os.path.join(folder, name)):
             os.remove(os.path.join(folder, name))
     os.chdir(folder)
@@ -256,27 +317,37 @@ def wanted_of(asked):
     if asked is None:
         return [(2, b"", "gmus: bad command line\n")]
     command, given = asked
-    return {"list": wanted_of_list, "check": wanted_of_check, "drill": wanted_of_drill}[command](given)
+    return {"list": wanted_of_list, "check": wanted_of_check, "export": wanted_of_export, "drill": wanted_of_drill}[command](given)
 
 
 def compare_names(asked, found, words):
-    """No name changes but the one that the evidence was asked under, and that holds evidence of the report."""
-    output = asked[1].get("evidence") if asked and asked[0] == "list" else None
-    for name, text in TEXTS.items():
-        if name != output:
-            with open(name, "rb") as held:
-                compare(text, held.read(), f"{words} {name}")
-    if output is not None and found[0] in (0, 4):
-        with open(output, "rb") as held:
-            problem = check_evidence.Problem(TEXTS[asked[1]["file"]].decode())
-            compare(("yes", found[1]), mutate_evidence.plain(problem, held.read()), f"{words}")
-    elif output not in TEXTS and output:
-        compare(False, os.path.exists(output), f"{words}")
+    """No name changes but those that were asked to be written: an export's hold its two texts, that of evidence holds evidence
+    of the report."""
+    command, given = asked or (None, {})
+    wanted = dict(TEXTS)
+    if command == "export":
+        wanted.update(written_of_export(given, found[0]))
+    if command == "list" and "evidence" in given and found[0] in (0, 4):
+        problem, output = check_evidence.Problem(TEXTS[given["file"]].decode()), given["evidence"]
+        wanted[output] = held_in(output)
+        compare(("yes", found[1]), mutate_evidence.plain(problem, wanted[output]), f"{words}")
+    for name in [*TEXTS, *MADE]:
+        compare(wanted.get(name), held_in(name), f"{words} {name}")
+
+
+def held_in(name):
+    """What stands under a name; None where there is no file."""
+    if not os.path.exists(name):
+        return None
+    with open(name, "rb") as held:
+        return held.read()
 
 
 def commands_of(gmus, folder):
     """The commands that this program has, each with its options."""
     commands = {"list": ["jobs", "conflicts", "limit", "evidence"], "check": []}
+    if run(gmus, ["export", os.path.join(folder, "none"), "e", "1", "cnf", "lrat"])[0] == 6:
+        commands["export"] = []
     if run(gmus, ["drill", "0", "1"])[0] == 0:
         commands["drill"] = ["jobs"]
     write(os.path.join(folder, "f"), ONE)
@@ -292,7 +363,7 @@ def try_case(number, seed, gmus, folder, commands):
     kind = number % 4
     if kind == 3:
         return try_words(chance, gmus, folder, commands)
-    return (try_evidence if kind == 2 else try_file)(chance, gmus, folder)
+    return try_evidence(chance, gmus, folder, commands) if kind == 2 else try_file(chance, gmus, folder)
 
 
 def main():

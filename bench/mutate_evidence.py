@@ -127,6 +127,71 @@ def evidence(problem, chance, version):
     return "\n".join(lines + closing.lines + [numbers("x", goal), "e complete", ""]).encode()
 
 
+class Padding:
+    """Puts steps that nothing needs into the refutation of a conflict, other clauses in the place of hints, and hints that make
+    nothing true. What is made is accepted like what was there."""
+
+    def __init__(self, chance, problem):
+        self.chance, self.greatest = chance, problem.vars + problem.groups
+        self.given, self.clauses = len(problem.clauses), dict(enumerate(problem.selector_form(), 1))
+
+    def spread(self, number):
+        """The id of a step, with room for two before it and one behind it."""
+        return number + 3 * max(0, number - self.given)
+
+    def line(self, number, lits, hints):
+        self.clauses[number] = lits
+        return [numbers("d", number, *lits, 0, *hints, 0)]
+
+    def needless(self, number):
+        """A step by a walk along clauses in any order, where most literals of a clause and a few more are false; or none."""
+        lits = [lit for lit in self.chance.choice(list(self.clauses.values())) if self.chance.random() < 0.9]
+        lits += [self.chance.choice([-1, 1]) * self.chance.randint(1, self.greatest) for _ in range(self.chance.randint(0, 2))]
+        falses, hints = set(lits), []
+        while len(hints) < 8 and not any(-lit in lits for lit in lits):
+            left = {at: set(clause) - falses for at, clause in self.clauses.items()}
+            near = [at for at in left if len(left[at]) < 2]
+            if not near:
+                return []
+            hints.append(self.chance.choice(near))
+            if not left[hints[-1]]:
+                return self.line(number, lits, hints)
+            falses.add(-left[hints[-1]].pop())
+        return []
+
+    def step(self, number, lits, hints):
+        number = self.spread(number)
+        before = self.needless(number - 2) + self.needless(number - 1)
+        hints = [self.chance.choice([other for other in self.clauses if set(self.clauses[other]) == set(self.clauses[hint])])
+                 for hint in map(self.spread, hints)]
+        if len(hints) > 1 and self.chance.random() < 0.5:
+            hints.insert(self.chance.randrange(1, len(hints)), hints[0])
+        return before + self.line(number, lits, hints)
+
+    def goal(self, number):
+        behind = self.needless(self.spread(number) + 1) if number > self.given else []
+        return behind + [numbers("r", 0, self.spread(number))]
+
+
+def padded(chance, problem, text):
+    """The same evidence with longer refutations of conflicts."""
+    lines, padding = [], None
+    for line in text.decode().split("\n"):
+        word, *rest = line.split(" ")
+        if word == "u":
+            padding = Padding(chance, problem)
+        if not padding or word not in ("d", "r"):
+            lines.append(line)
+        elif word == "d":
+            number, *words = map(int, rest)
+            end = words.index(0)
+            lines += padding.step(number, words[:end], words[end + 1:-1])
+        else:
+            lines += padding.goal(int(rest[1]))
+            padding = None
+    return "\n".join(lines).encode()
+
+
 def random_problem(chance):
     """A GCNF file of a few groups over a few variables."""
     variables, groups = chance.randint(1, 4), chance.randint(1, 5)

@@ -139,6 +139,7 @@ GREATEST = 2 ** 64 - 1
 COMMANDS = {
     "list": (["file"], {"jobs": (1, 64), "conflicts": (0, GREATEST), "limit": (1, 1000000000), "evidence": None, "resume": None}),
     "check": (["file", "evidence"], {}),
+    "export": (["file", "evidence", ("number", (1, 1000000000)), "cnf", "lrat"], {}),
     "drill": ([("seed", (0, GREATEST)), ("size", (1, 1000))], {"jobs": (1, 64)}),
 }
 
@@ -184,4 +185,5 @@ def words_read(words, commands):
         given[name] = value_of(text, numbers)
         if given[name] is None:
             return None
-    return command, given
+    # an export has two outputs
+    return None if command == "export" and given["cnf"] == given["lrat"] else (command, given)
