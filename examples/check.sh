@@ -189,6 +189,59 @@ try 'evidence of a refused file' 5 'gmus: input refused: 5 GroupTooBig at line 2
 [ -e none ] && differs 'evidence of a refused file' 'it was opened'
 [ ! -c /dev/full ] || try 'evidence on a full device' 7 "$evidence_fault" nothing list "$here/first.gcnf" --evidence /dev/full
 
+# An export is two files, with nothing on standard output: the clauses of a conflict, and their refutation.
+try_export() { # what to try, the file, its evidence, the conflict's number, the wanted CNF, and the wanted refutation
+    rm -f cnf lrat
+    try "$1" 0 '' nothing export "$2" "$3" "$4" cnf lrat
+    cmp -s cnf "$5" || differs "$1" 'the CNF is another one'
+    cmp -s lrat "$6" || differs "$1" 'the refutation is another one'
+}
+printf 'p cnf 2 2\n1 0\n-1 0\n' >first_1.cnf
+echo '3 0 1 2 0' >first_1.lrat
+try_export 'an export' "$here/first.gcnf" "$evidence" 1 first_1.cnf first_1.lrat
+for file in first.gcnf free_layout.gcnf one_line.gcnf; do
+    try_export "an export of $file" "$here/$file" "$here/first_short.evidence" 2 "$here/first_2.cnf" "$here/first_2.lrat"
+done
+printf 'p gcnf 0 1 1\n{1} 0\n' >empty.gcnf
+printf 'p gmev 1 0 1 1\nu 1 0\nr 0 1\nw 1 0\ne partial\n' >empty.evidence
+printf 'p cnf 0 1\n0\n' >empty.cnf
+echo '2 0 1 0' >empty.lrat
+try_export 'an export of an empty clause' empty.gcnf empty.evidence 1 empty.cnf empty.lrat
+rm -f cnf lrat
+try 'no such conflict' 11 'gmus: no conflict 3' nothing export "$here/first.gcnf" "$evidence" 3 cnf lrat
+try 'the greatest number of a conflict' 11 'gmus: no conflict 1000000000' nothing export "$here/first.gcnf" "$evidence" 1000000000 cnf lrat
+for number in 0 -1 1000000001 one ''; do
+    try "no number of a conflict, '$number'" 2 "$bad" nothing export "$here/first.gcnf" "$evidence" "$number" cnf lrat
+done
+try 'an export to one name' 2 "$bad" nothing export "$here/first.gcnf" "$evidence" 1 cnf cnf
+try 'an export without a refutation' 2 "$bad" nothing export "$here/first.gcnf" "$evidence" 1 cnf
+try 'an export of a refused file' 5 'gmus: input refused: 5 GroupTooBig at line 2 byte 2' nothing export refused "$evidence" 3 cnf lrat
+try 'an export by bad evidence' 9 'gmus: evidence refused: line 8: 12 NotFalse' nothing export "$here/first.gcnf" bad_evidence 3 cnf lrat
+try 'an export of no file' 6 'gmus: read fault on input' nothing export lost "$evidence" 1 cnf lrat
+try 'an export by no evidence' 6 'gmus: read fault on evidence' nothing export "$here/first.gcnf" lost 1 cnf lrat
+export_fault='gmus: write fault on export'
+try 'a CNF into a folder' 7 "$export_fault" nothing export "$here/first.gcnf" "$evidence" 1 . lrat
+[ ! -c /dev/full ] || try 'a CNF on a full device' 7 "$export_fault" nothing export "$here/first.gcnf" "$evidence" 1 /dev/full lrat
+[ ! -e cnf ] && [ ! -e lrat ] || differs 'an export that fails' 'an output was opened'
+try 'a refutation into a folder' 7 "$export_fault" nothing export "$here/first.gcnf" "$evidence" 1 cnf .
+cmp -s cnf first_1.cnf || differs 'a refutation into a folder' 'the CNF is another one'
+[ ! -c /dev/full ] || try 'a refutation on a full device' 7 "$export_fault" nothing export "$here/first.gcnf" "$evidence" 1 cnf /dev/full
+
+# Each conflict of each example is exported, and what was written is compared and checked by programs that share nothing with it.
+if command -v python3 >/dev/null; then
+    python3 "$here/../tools/check_lrat.py" "$here/first_2.cnf" "$here/first_2.lrat" >out 2>err
+    status=$?
+    echo 's VERIFIED' >verified
+    judge 'the stored export, by check_lrat.py' 0 '' verified
+    if python3 "$here/exports.py" "$program" "$here"/*.gcnf "$here"/*.cnf pairs.gcnf >out 2>err; then
+        echo "ok      exports of each conflict: $(cat out)"
+    else
+        differs 'exports of each conflict' "$(cat out err)"
+    fi
+else
+    echo 'skipped the exports of each conflict: no python3'
+fi
+
 fault='gmus: write fault on report'
 if [ -c /dev/full ]; then
     "$program" list "$here/first.gcnf" >/dev/full 2>err </dev/null

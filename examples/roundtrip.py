@@ -1,12 +1,13 @@
 #!/usr/bin/env python3
 """Lists small random problems with evidence, whole and partly, by one worker and by more, and has the program check what
-it wrote.
+it wrote and export its conflicts.
 
     examples/roundtrip.py PROGRAM [COUNT]
 
 Each of COUNT problems (200) is listed whole, up to a limit of records, and within a budget of conflicts. The report of
-`check` has to be that of `list`, byte for byte, and each whole report that of one worker. Prints how many listings ended
-with each status; ends with 1 where two reports differ, or where one kind of listing did not come at all.
+`check` has to be that of `list`, byte for byte, and each whole report that of one worker. Each conflict of a whole list is
+exported, as exports.py does it. Prints how many listings ended with each status; ends with 1 where two reports differ, an
+export is another one, or one kind of listing did not come at all.
 """
 import collections
 import os
@@ -14,6 +15,8 @@ import random
 import subprocess
 import sys
 import tempfile
+
+import exports
 
 SEED = 20261127
 JOBS = 2, 3, 7, 64
@@ -56,6 +59,10 @@ def main():
                 statuses[status] += 1
                 if status not in (0, 3, 4) or checked != (0, report) or (status == 0 and (status, report) != whole):
                     print(f"differs problem {number} {' '.join(options)}: list ends with {status}, check with {checked[0]}")
+                    failed = True
+                what = None if options else exports.first_fault(program, file, evidence, report.decode(), folder)
+                if what:
+                    print(f"differs problem {number}: export: {what}")
                     failed = True
     print(", ".join(f"{statuses[status]} with status {status}" for status in sorted(statuses)))
     return 1 if failed or any(status not in statuses for status in (0, 3, 4)) else 0
