@@ -12,6 +12,7 @@ pub mod SetListLemmas
 pub mod HeldLemmas
 pub mod ColumnLemmas
 pub mod PlaceLemmas
+pub mod NumberedLemmas
 pub mod WithLemmas
 pub mod ShortenLemmas
 pub mod ServingLemmas

@@ -10,5 +10,6 @@ pub mod Blocks
 pub mod Held
 pub mod Columns
 pub mod Places
+pub mod Numbered
 pub mod Shorten
 pub mod Serving

@@ -66,6 +66,7 @@ impl PlaceList {
     /// Adds a place at the end. One that is not above all others finds no room.
     pub fn add(&mut self, place: u32) -> Result<(), AllocError>
         ensures ok { OnOk result (self.new ≡ self.old ++ place ∷ []) }
+        ensures err { OnErr result (self.new ≡ self.old) }
     {
         add_bit(&mut self.blocks, place / WIDTH, place % WIDTH)
     }
@@ -77,6 +78,7 @@ fn add_bit(blocks: &mut Vec<Block>, at: u32, bit: u32) -> Result<(), AllocError>
     requires bit { bit < 32 }
     ensures ascend { Ascend blocks.new.items }
     ensures added { OnOk result (places_of blocks.new.items ≡ places_of blocks.old.items ++ (32 * at + bit) ∷ []) }
+    ensures err { OnErr result (places_of blocks.new.items ≡ places_of blocks.old.items) }
 {
     let count = blocks.len();
     if count == 0 || blocks[count - 1].at < at {

@@ -6,13 +6,14 @@
 //! them by their groups: the place of each conflict stands in the list of each of its groups, in the order of the records.
 //! The first place of the group's list that stands in no list of another group of the correction is that of the first
 //! conflict that serves. No record is looked at, and the lists are compared 32 places at a time.
-ghost use Rattle.std.specs.Prelude.{◌≡◌, ◌≢◌, ℕ, true, not, ◌<◌, ◌+◌, ◌*◌, ◌==◌, ◌&&◌, ◌||◌, ◌++◌, ◌∷◌, List, [], All, OnOk, IfOk, length, slice_index_or, if◌then◌else◌};
+ghost use Rattle.std.specs.Prelude.{◌≡◌, ◌≢◌, ℕ, true, not, ◌<◌, ◌+◌, ◌*◌, ◌==◌, ◌&&◌, ◌||◌, ◌++◌, ◌∷◌, List, [], All, OnOk, OnErr, IfOk, length, slice_index_or, if◌then◌else◌};
 ghost use Rattle.std.specs.List.{find};
 ghost use Rattle.std.specs.Option.{option_map};
 ghost use Rattle.gm_base.specs.Sets.{has};
 ghost use Rattle.evidence_rec.specs.Records.{set_of};
 ghost use Rattle.evidence_rec.specs.Columns.{is_set};
 ghost use Rattle.evidence_rec.specs.Places.{places_of};
+ghost use Rattle.evidence_rec.specs.Numbered.{Rise, AreBelow};
 ghost use Rattle.evidence_rec.specs.Shorten.{least_serving};
 ghost use Rattle.evidence_rec.specs.Serving.{IsIndexOf, IndexesOneMore, FindsServing, is_apart};
 
@@ -24,18 +25,23 @@ use std::marker::Model;
 
 /// The places of conflicts in a list of records, by their groups.
 ///
-/// For each group of each conflict it takes eight bytes at most, and at most sixteen with the room that lists are ahead by.
+/// For each group of each conflict it takes eight bytes at most, and at most sixteen with the room that lists are ahead by;
+/// and the table of the places likewise four and eight for each conflict.
 #[derive(Drop)]
 pub struct ConflictIndex {
+    places: Vec<u32>,
     lists: Vec<PlaceList>,
 }
 
 impl Model for ConflictIndex {
     ghost use Rattle.std.specs.Prelude.{List, ℕ};
+    ghost use Rattle.evidence_rec.specs.Numbered.{placed, IsNumbered};
 
     ghost Value = { List (List ℕ) };
 
-    ghost view = { λ index. index.lists.items };
+    ghost view = { λ index. placed index.places.items index.lists.items };
+
+    ghost invariant = { λ index. IsNumbered index.places.items index.lists.items };
 }
 
 impl ConflictIndex {
@@ -49,7 +55,10 @@ impl ConflictIndex {
         for _ in 0..groups {
             lists.push(PlaceList::new(alloc))?;
         }
-        Ok(ConflictIndex { lists })
+        Ok(ConflictIndex {
+            places: Vec::new(alloc),
+            lists,
+        })
     }
 
     /// Adds the record behind those that it has, of which there are so many. Where it has one behind that place, the record
@@ -65,7 +74,11 @@ impl ConflictIndex {
         let Ok(place) = u32::try_from(count) else {
             return Err(AllocError);
         };
-        list_under(&mut self.lists, set, place)
+        let Ok(number) = u32::try_from(self.places.len()) else {
+            return Err(AllocError);
+        };
+        push_above(&mut self.places, place)?;
+        list_under(&mut self.lists, set, number)
     }
 
     /// The least number of a conflict that serves for a group of a correction, in the records that it has.
@@ -76,37 +89,55 @@ impl ConflictIndex {
     {
         let lists = self.lists.as_slice();
         let own = lists[group as usize].blocks();
-        first_apart(lists, set.as_slice(), group, own)
+        let number = first_apart(lists, set.as_slice(), group, own)?;
+        Some(u64::from(self.places[number]) + 1)
     }
 }
 
-// Lists a place under each group of the set.
-fn list_under(lists: &mut Vec<PlaceList>, set: &GroupSet, place: u32) -> Result<(), AllocError>
+// Adds a place that is above all others.
+fn push_above(places: &mut Vec<u32>, place: u32) -> Result<(), AllocError>
+    requires { Rise places.old.items }
+    ensures rise { Rise places.new.items }
+    ensures ok { OnOk result (places.new.items ≡ places.old.items ++ place ∷ []) }
+    ensures err { OnErr result (places.new.items ≡ places.old.items) }
+{
+    let count = places.len();
+    if count > 0 && places[count - 1] >= place {
+        return Err(AllocError);
+    }
+    places.push(place)?;
+    Ok(())
+}
+
+// Lists a number under each group of the set.
+fn list_under(lists: &mut Vec<PlaceList>, set: &GroupSet, number: u32) -> Result<(), AllocError>
     requires within { (g : ℕ) → has set.now g ≡ true → g < length lists.old.items }
     ensures groups { OnOk result (length lists.new.items ≡ length lists.old.items) }
-    ensures lists { OnOk result ((g : ℕ) → slice_index_or lists.new.items g [] ≡ slice_index_or lists.old.items g [] ++ (if has set.now g then place ∷ [] else [])) }
+    ensures lists { OnOk result ((g : ℕ) → slice_index_or lists.new.items g [] ≡ slice_index_or lists.old.items g [] ++ (if has set.now g then number ∷ [] else [])) }
+    ensures below { (bound : ℕ) → number < bound → AreBelow bound lists.old.items → AreBelow bound lists.new.items }
 {
     for group in set.as_slice() {
-        list_at(lists, *group, place)?;
+        list_at(lists, *group, number)?;
     }
     Ok(())
 }
 
-// Adds a place to the list of one group.
-fn list_at(lists: &mut Vec<PlaceList>, group: u32, place: u32) -> Result<(), AllocError>
+// Adds a number to the list of one group.
+fn list_at(lists: &mut Vec<PlaceList>, group: u32, number: u32) -> Result<(), AllocError>
     requires { group < length lists.old.items }
     ensures groups { OnOk result (length lists.new.items ≡ length lists.old.items) }
-    ensures own { OnOk result (slice_index_or lists.new.items group [] ≡ slice_index_or lists.old.items group [] ++ place ∷ []) }
+    ensures own { OnOk result (slice_index_or lists.new.items group [] ≡ slice_index_or lists.old.items group [] ++ number ∷ []) }
     ensures others { OnOk result ((g : ℕ) → g ≢ group → slice_index_or lists.new.items g [] ≡ slice_index_or lists.old.items g []) }
+    ensures below { (bound : ℕ) → number < bound → AreBelow bound lists.old.items → AreBelow bound lists.new.items }
 {
-    lists[group as usize].add(place)?;
+    lists[group as usize].add(number)?;
     Ok(())
 }
 
-// Of the places in these blocks, the number of the first that no group of the set has but, maybe, this one.
-fn first_apart(lists: &[PlaceList], set: &[u32], group: u32, blocks: &[Block]) -> Option<u64>
+// The first of the numbers in these blocks that no group of the set has but, maybe, this one.
+fn first_apart(lists: &[PlaceList], set: &[u32], group: u32, blocks: &[Block]) -> Option<usize>
     requires { All (λ g. g < length lists.now) set.now }
-    ensures { result ≡ option_map (λ at. at + 1) (find (is_apart lists.now set.now group) (places_of blocks.now)) }
+    ensures { result ≡ find (is_apart lists.now set.now group) (places_of blocks.now) }
 {
     for block in blocks {
         let bits = apart_bits(lists, set, group, *block);
@@ -117,12 +148,12 @@ fn first_apart(lists: &[PlaceList], set: &[u32], group: u32, blocks: &[Block]) -
     None
 }
 
-// The number of the record at the place of this bit.
-fn number_at(block: Block, bit: u32) -> u64
+// The number of this bit.
+fn number_at(block: Block, bit: u32) -> usize
     requires { bit < 32 }
-    ensures { result ≡ 32 * block.at + bit + 1 }
+    ensures { result ≡ 32 * block.at + bit }
 {
-    32 * u64::from(block.at) + u64::from(bit) + 1
+    32 * block.at as usize + bit as usize
 }
 
 // The bits of a block whose places no group of the set has but, maybe, this one.

@@ -18,10 +18,9 @@ returns-then-bits-gt0 c =
     let b : Block = get_or blocks i (record { at = 0; bits = 0 }) in
     ap Some c.number_at.ensures
     ∙ sym
-    (ap (option_map (λ at. at + 1))
     (c.loop-block.invariant ∙ at_drop_more (λ (bs : List Block). find test (places_of bs)) blocks i (record { at = 0; bits = 0 }) c.loop-block-test.true
     ∙ first-here test (block_places b) (places_of (drop (i + 1) blocks)) (32 * b.at + c.lowest.result)
-    (block-first b test c.apart_bits-bits.result c.lowest.result c.apart_bits-bits.ensures c.lowest.ensures.within c.lowest.ensures.set c.lowest.ensures.below)))
+    (block-first b test c.apart_bits-bits.result c.lowest.result c.apart_bits-bits.ensures c.lowest.ensures.within c.lowest.ensures.set c.lowest.ensures.below))
 
 -- no place of the block passes
 pub loop-block-preserved : goal.loop-block-preserved
