@@ -83,7 +83,8 @@ pub fn conflict_numbered<'a>(
 {
     let found = sets_of(alloc, records)?;
     let order = in_order(alloc, &found.conflicts)?;
-    match order.as_slice().get((number - 1) as usize) {
+    let sets = order.as_slice();
+    match sets.get((number - 1) as usize) {
         Some(set) => Ok(conflict_of(records, set)),
         None => Ok(None),
     }
