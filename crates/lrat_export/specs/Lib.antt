@@ -5,3 +5,4 @@ pub mod Rows
 pub mod Numbers
 pub mod Walk
 pub mod Conflict
+pub mod Table

@@ -5,12 +5,24 @@ ghost use Rattle.std.specs.Fmt.{decimal, signed_decimal};
 ghost use Rattle.gm_base.specs.Problem.{is_present};
 ghost use Rattle.lrat_export.specs.Cnf.{cnf_text, lits_text, line_of, lines_of};
 
+use crate::table::GroupTable;
 use gm_base::{Clause, GroupSet, Lit, Problem};
 use std::alloc::{AllocError, Global};
 use token_text::put_number;
 
 /// The clauses of the background and of the groups of the set in DIMACS, in the problem's order.
 pub fn cnf_of(alloc: Global, problem: &Problem, set: &GroupSet) -> Result<Vec<u8>, AllocError>
+    ensures { IfOk result (λ text. text.items ≡ cnf_text problem.now set.now) }
+{
+    let table = GroupTable::new(alloc, set, problem.groups())?;
+    cnf_by_table(alloc, problem, &table)
+}
+
+fn cnf_by_table(
+    alloc: Global,
+    problem: &Problem,
+    set: &GroupTable<'_>,
+) -> Result<Vec<u8>, AllocError>
     ensures { IfOk result (λ text. text.items ≡ cnf_text problem.now set.now) }
 {
     let mut out = Vec::new(alloc);
@@ -20,7 +32,7 @@ pub fn cnf_of(alloc: Global, problem: &Problem, set: &GroupSet) -> Result<Vec<u8
 }
 
 /// How many clauses are of the background or of a group of the set.
-pub fn count_present(problem: &Problem, set: &GroupSet) -> usize
+pub fn count_present(problem: &Problem, set: &GroupTable<'_>) -> usize
     ensures { result ≡ length (filter (is_present set.now) problem.now.clauses) }
 {
     let mut count = 0;
@@ -32,7 +44,7 @@ pub fn count_present(problem: &Problem, set: &GroupSet) -> usize
     count
 }
 
-pub fn is_present(clause: &Clause, set: &GroupSet) -> bool
+pub fn is_present(clause: &Clause, set: &GroupTable<'_>) -> bool
     ensures { result ≡ is_present set.now clause.now }
 {
     clause.group == 0 || set.contains(clause.group)
@@ -55,7 +67,11 @@ fn push_header(out: &mut Vec<u8>, vars: u32, clauses: usize) -> Result<(), Alloc
 }
 
 /// The clauses that are of the background or of a group of the set, each on a line.
-fn push_present(out: &mut Vec<u8>, problem: &Problem, set: &GroupSet) -> Result<(), AllocError>
+fn push_present(
+    out: &mut Vec<u8>,
+    problem: &Problem,
+    set: &GroupTable<'_>,
+) -> Result<(), AllocError>
     ensures { OnOk result (out.new.items ≡ out.old.items ++ lines_of set.now problem.now.clauses) }
 {
     for at in 0..problem.len() {
@@ -64,7 +80,11 @@ fn push_present(out: &mut Vec<u8>, problem: &Problem, set: &GroupSet) -> Result<
     Ok(())
 }
 
-fn push_if_present(out: &mut Vec<u8>, clause: &Clause, set: &GroupSet) -> Result<(), AllocError>
+fn push_if_present(
+    out: &mut Vec<u8>,
+    clause: &Clause,
+    set: &GroupTable<'_>,
+) -> Result<(), AllocError>
     ensures { OnOk result (out.new.items ≡ out.old.items ++ line_of set.now clause.now) }
 {
     if !is_present(clause, set) {

@@ -11,7 +11,8 @@ ghost use Rattle.lrat_export.specs.Walk.{IsNext, IsOver, IsWalked, hints_text};
 use crate::cnf::push_text;
 use crate::looking::{Opened, look};
 use crate::numbering::{Entry, find};
-use gm_base::{Derivation, GroupSet, Hints, Lit, Problem};
+use crate::table::GroupTable;
+use gm_base::{Derivation, Hints, Lit, Problem};
 use lrat_check::Marks;
 use std::alloc::AllocError;
 use token_text::put_number;
@@ -20,7 +21,7 @@ use token_text::put_number;
 #[derive(Clone, Copy)]
 pub struct Source<'a> {
     pub problem: &'a Problem,
-    pub set: &'a GroupSet,
+    pub set: &'a GroupTable<'a>,
     pub proof: &'a Derivation,
     pub entries: &'a [Entry],
 }

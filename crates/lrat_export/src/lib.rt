@@ -19,6 +19,7 @@ pub mod laws;
 mod looking;
 mod lrat;
 mod numbering;
+mod table;
 
 pub use cnf::cnf_of;
 pub use lrat::lrat_of;

@@ -23,6 +23,7 @@ use crate::cnf::{count_present, push_lit, push_text};
 use crate::hints::{Source, push_hint, push_hints, stay_of};
 use crate::looking::mark_bared;
 use crate::numbering::{is_settled, number_all};
+use crate::table::GroupTable;
 use evidence_rec::Record;
 use gm_base::{Derivation, GroupSet, Lit, Problem};
 use lrat_check::Marks;
@@ -31,7 +32,7 @@ use std::alloc::{AllocError, Global};
 use token_text::put_number;
 
 /// The refutation of an accepted conflict's clauses in LRAT, over the clauses that `cnf_of` writes. It takes memory for a
-/// number for each clause and step of the proof, and for a mark for each literal.
+/// number for each clause and step of the proof, for a mark for each literal, and a byte for each group.
 pub fn lrat_of(alloc: Global, problem: &Problem, record: &Record) -> Result<Vec<u8>, AllocError>
     requires conflict { kind_of «record».now ≡ Conflict }
     requires accepted { Accepts problem.now [] «record».now }
@@ -54,6 +55,19 @@ fn lrat_of_proof(
     alloc: Global,
     problem: &Problem,
     set: &GroupSet,
+    proof: &Derivation,
+) -> Result<Vec<u8>, AllocError>
+    requires { refutes problem.now set.now proof.now ≡ true }
+    ensures { IfOk result (λ text. text.items ≡ lrat_text problem.now set.now proof.now) }
+{
+    let table = GroupTable::new(alloc, set, problem.groups())?;
+    lrat_by_table(alloc, problem, &table, proof)
+}
+
+fn lrat_by_table(
+    alloc: Global,
+    problem: &Problem,
+    set: &GroupTable<'_>,
     proof: &Derivation,
 ) -> Result<Vec<u8>, AllocError>
     requires { refutes problem.now set.now proof.now ≡ true }

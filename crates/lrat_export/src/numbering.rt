@@ -10,7 +10,8 @@ ghost use Rattle.lrat_export.specs.Export.{is_true, is_settled, known_of};
 ghost use Rattle.lrat_export.specs.Numbers.{entry_of, AreEntries, Ascend, IsAt, HasNoId};
 
 use crate::cnf::is_present;
-use gm_base::{Derivation, GroupSet, Lit, Problem};
+use crate::table::GroupTable;
+use gm_base::{Derivation, Lit, Problem};
 use std::alloc::{AllocError, Global};
 
 /// The id of a clause, and the number that it gets, or 0 where it goes.
@@ -24,7 +25,7 @@ pub struct Entry {
 pub fn number_all(
     alloc: Global,
     problem: &Problem,
-    set: &GroupSet,
+    set: &GroupTable<'_>,
     proof: &Derivation,
 ) -> Result<Vec<Entry>, AllocError>
     ensures { IfOk result (λ entries. entries.items ≡ map entry_of (known_of problem.now set.now proof.now)) }
@@ -39,7 +40,7 @@ pub fn number_all(
 fn number_inputs(
     entries: &mut Vec<Entry>,
     problem: &Problem,
-    set: &GroupSet,
+    set: &GroupTable<'_>,
 ) -> Result<u64, AllocError>
     requires { entries.old.items ≡ [] }
     ensures { IfOk result (λ next. AreEntries problem.now.vars set.now (numbered 1 (selector_form problem.now)) entries.new.items next) }
@@ -56,7 +57,7 @@ fn number_inputs(
 fn number_steps(
     entries: &mut Vec<Entry>,
     problem: &Problem,
-    set: &GroupSet,
+    set: &GroupTable<'_>,
     proof: &Derivation,
     first: u64,
 ) -> Result<u64, AllocError>
@@ -88,7 +89,7 @@ fn add(entries: &mut Vec<Entry>, id: u64, stays: bool, next: u64) -> Result<u64,
 }
 
 /// Whether the selectors make a clause true.
-pub fn is_settled(vars: u32, set: &GroupSet, lits: &[Lit]) -> bool
+pub fn is_settled(vars: u32, set: &GroupTable<'_>, lits: &[Lit]) -> bool
     ensures { result ≡ is_settled vars set.now lits.now }
 {
     for lit in lits {
@@ -100,7 +101,7 @@ pub fn is_settled(vars: u32, set: &GroupSet, lits: &[Lit]) -> bool
 }
 
 /// Whether it is a literal of a selector that is true.
-fn is_true(vars: u32, set: &GroupSet, lit: Lit) -> bool
+fn is_true(vars: u32, set: &GroupTable<'_>, lit: Lit) -> bool
     ensures { result ≡ is_true vars set.now lit }
 {
     let var = lit.var();

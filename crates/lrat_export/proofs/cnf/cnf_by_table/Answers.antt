@@ -2,7 +2,7 @@ use Rattle.std.proofs.Common.{◌++◌, codes, ◌∙◌, ap}
 use Rattle.std.specs.Fmt.{decimal}
 use Rattle.lrat_export.specs.Cnf.{lines_of}
 use Rattle.lrat_export.proofs.WritingLemmas.{text-made}
-use Rattle.lrat_export.proofs.cnf.cnf_of.Goals as goal
+use Rattle.lrat_export.proofs.cnf.cnf_by_table.Goals as goal
 
 -- the header, and then the lines of the clauses that are present
 pub returns : goal.returns

@@ -2,7 +2,7 @@ use Rattle.std.proofs.Common.{◌∙◌, List, subst, sym}
 use Rattle.lrat_export.specs.declared.numbering.Entry.{Entry}
 use Rattle.lrat_export.specs.Numbers.{Ascend}
 use Rattle.lrat_export.proofs.EntryLemmas.{numbers-ascend}
-use Rattle.lrat_export.proofs.lrat.lrat_of_proof.Goals as goal
+use Rattle.lrat_export.proofs.lrat.lrat_by_table.Goals as goal
 
 -- the ids of an accepted proof ascend, and so do those of the entries
 pub push_exported-requires : goal.push_exported-requires
