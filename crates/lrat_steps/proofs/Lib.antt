@@ -2,9 +2,9 @@ pub mod LogLemmas
 pub mod ForgettingLemmas
 pub mod MarkLemmas
 pub mod LayoutLemmas
-pub mod PlaceLemmas
 pub mod ConeLemmas
 pub mod FollowLemmas
 pub mod TrimLemmas
 pub mod SoundLemmas
 pub mod PaidLemmas
+pub mod FirstLemmas

@@ -1,7 +1,8 @@
 -- Lemmas on marks that lie apart from the steps: what one more step and one more mark change, and what is read of the steps.
-use Rattle.std.proofs.Common.{◌≡◌, ℕ, ◌+◌, ◌-◌, ◌<◌, ◌≤◌, List, [], ◌∷◌, ◌++◌, map, length, get_or, take, drop, refl, sym, ◌∙◌, ap, ap₂, subst, arith, append_assoc}
-use Rattle.std.specs.Prelude.{ℤ, slice_range}
-use Rattle.std.proofs.lemmas.List.{take-append-le, drop-append-le, take_all, drop_all, length-drop, length-map, get_or-map, take-append-drop}
+use Rattle.std.proofs.Common.{◌≡◌, ℕ, zero, suc, ◌+◌, ◌-◌, ◌<◌, ◌≤◌, List, [], ◌∷◌, ◌++◌, length, get_or, take, drop, refl, sym, ◌∙◌, ap, ap₂, subst, arith, append_assoc}
+use Rattle.std.specs.Prelude.{ℤ}
+use Rattle.std.proofs.lemmas.List.{take-append-le, drop-append-le, take_all, drop_all, length-drop, take-append-drop}
+use Rattle.sat_base.specs.Derivation.{Step}
 use Rattle.lrat_steps.specs.declared.step.StepKind.{StepKind}
 use Rattle.lrat_steps.specs.declared.step.StepKind.TheVariants as step_kind
 use Rattle.lrat_steps.specs.declared.log.StepRecord.{StepRecord}
@@ -9,7 +10,7 @@ use Rattle.lrat_steps.specs.declared.log.Mark.{Mark}
 use Rattle.lrat_steps.specs.declared.log.Log.TheInside.{Inside}
 use Rattle.lrat_steps.specs.Log.{LogStep, Input, Learned, Core, Forgot, lits_of, hints_of, kind_of, steps_of, step_in, step_at, inputs_of, learned_count}
 use Rattle.lrat_steps.specs.Parts.{step_with}
-use Rattle.lrat_steps.specs.Layout.{step_of_record, all_steps, woven, log_of, IsRecord, AreInOrder, IsLaidOut}
+use Rattle.lrat_steps.specs.Layout.{step_of_record, steps_with, all_steps, woven, log_of, IsRecord, AreRecords, AreInOrder, IsLaidOut}
 use Rattle.lrat_steps.specs.Cone.{inputs_up_to}
 use Rattle.lrat_steps.proofs.LogLemmas.{steps-append}
 
@@ -72,14 +73,13 @@ step_alone step_kind.Input lits hints rest = refl
 step_alone step_kind.Learned lits hints rest = refl
 step_alone step_kind.Core lits hints rest = refl
 
-no_marks : (lits : List ℤ) (hints : List ℕ) (records : List StepRecord) → steps_of (map (step_of_record lits hints) records) ≡ map (step_of_record lits hints) records
-no_marks lits hints [] = refl
-no_marks lits hints (r ∷ records) =
-    step_alone r.kind _ _ (map (step_of_record lits hints) records)
-    ∙ ap (λ (rest : List LogStep). step_of_record lits hints r ∷ rest) (no_marks lits hints records)
+no_marks : (records : List StepRecord) (steps : List Step) → steps_of (steps_with records steps) ≡ steps_with records steps
+no_marks [] steps = refl
+no_marks (r ∷ records) [] = refl
+no_marks (r ∷ records) (s ∷ steps) = step_alone r.kind _ _ (steps_with records steps) ∙ ap (λ (rest : List LogStep). step_of_record r s ∷ rest) (no_marks records steps)
 
 pub steps_laid : (log : Inside) → steps_of (log_of log) ≡ all_steps log
-steps_laid log = steps_woven 0 log.marks.items (all_steps log) ∙ no_marks log.lits.items log.hints.items log.steps.items
+steps_laid log = steps_woven 0 log.marks.items (all_steps log) ∙ no_marks log.records.items log.steps
 
 -- marks are neither inputs nor learnt clauses
 pub inputs_of-steps : (log : List LogStep) → inputs_of (steps_of log) ≡ inputs_of log
@@ -99,7 +99,6 @@ learned_count-steps (Forgot id ∷ log) = learned_count-steps log
 -- what a log that is seen as `seen` has
 pub record IsRead (log : Inside) (seen : List LogStep) : Type 0 where
   pub steps : steps_of seen ≡ all_steps log
-  pub count : length (steps_of seen) ≡ length log.steps.items
   pub inputs : inputs_of seen ≡ inputs_of (all_steps log)
   pub learned : learned_count seen ≡ learned_count (all_steps log)
 
@@ -108,10 +107,23 @@ read log seen is =
     let steps : steps_of seen ≡ all_steps log = ap steps_of (sym is) ∙ steps_laid log in
     record {
       steps = steps;
-      count = ap length steps ∙ length-map log.steps.items (step_of_record log.lits.items log.hints.items);
       inputs = sym (inputs_of-steps seen) ∙ ap inputs_of steps;
       learned = sym (learned_count-steps seen) ∙ ap learned_count steps;
     }
+
+-- a record for each step
+pub steps_count : (id : ℕ) (records : List StepRecord) (steps : List Step) → AreRecords id records steps → length (steps_with records steps) ≡ length records
+steps_count id [] steps all = refl
+steps_count id (r ∷ records) [] all = absurd all
+steps_count id (r ∷ records) (s ∷ steps) all = let rest = steps_count (id + 1) records steps all.1 in omega arith
+
+kept_count : (id : ℕ) (records : List StepRecord) (steps : List Step) → AreRecords id records steps → length steps ≡ length records
+kept_count id [] steps all = ap length all
+kept_count id (r ∷ records) [] all = absurd all
+kept_count id (r ∷ records) (s ∷ steps) all = let rest = kept_count (id + 1) records steps all.1 in omega arith
+
+pub count_of : (log : Inside) (seen : List LogStep) → IsLaidOut log → log_of log ≡ seen → length (steps_of seen) ≡ length log.records.items
+count_of log seen laid is = ap length (read log seen is).steps ∙ steps_count 1 log.records.items log.steps laid.records
 
 -- the record of an id
 
@@ -130,40 +142,46 @@ hints-with step_kind.Input lits hints none = sym (none refl)
 hints-with step_kind.Learned lits hints none = refl
 hints-with step_kind.Core lits hints none = refl
 
--- the record `r` is that of the step of an id
-pub record IsRecordAt (log : Inside) (seen : List LogStep) (id : ℕ) (r : StepRecord) : Type 0 where
-  pub place : id - 1 < length log.steps.items
-  pub record_is : IsRecord (length log.lits.items) (length log.hints.items) r
+-- the record and the step at a place
+record_at : (id : ℕ) (records : List StepRecord) (steps : List Step) (at : ℕ) (dr : StepRecord) (ds : Step) → AreRecords id records steps → at < length records
+    → IsRecord (id + at) (get_or records at dr) (get_or steps at ds) × (get_or (steps_with records steps) at (Input []) ≡ step_of_record (get_or records at dr) (get_or steps at ds))
+record_at id [] steps at dr ds all lt = absurd (omega arith)
+record_at id (r ∷ records) [] at dr ds all lt = absurd all
+record_at id (r ∷ records) (s ∷ steps) zero dr ds all lt = let same : id ≡ id + 0 = omega arith in (subst (λ n. IsRecord n r s) same all.0, refl)
+record_at id (r ∷ records) (s ∷ steps) (suc at) dr ds all lt =
+    let rest = record_at (id + 1) records steps at dr ds all.1 (omega arith) in
+    let same : id + 1 + at ≡ id + suc at = omega arith in
+    (subst (λ n. IsRecord n (get_or records at dr) (get_or steps at ds)) same rest.0, rest.1)
+
+-- the record `r` and the step `s` are those of an id
+pub record IsRecordAt (log : Inside) (seen : List LogStep) (id : ℕ) (r : StepRecord) (s : Step) : Type 0 where
+  pub named : s.id ≡ id
   pub kind : r.kind ≡ kind_of (step_at seen id)
-  pub lits : slice_range log.lits.items r.lits_from r.lits_to ≡ lits_of (step_at seen id)
-  pub hints : slice_range log.hints.items r.hints_from r.hints_to ≡ hints_of (step_at seen id)
+  pub lits : s.lits ≡ lits_of (step_at seen id)
+  pub hints : s.hints ≡ hints_of (step_at seen id)
   pub inputs : r.inputs ≡ inputs_up_to (steps_of seen) id
 
-pub place_at_id : (log : Inside) (seen : List LogStep) (id : ℕ) → log_of log ≡ seen → 0 < id → id ≤ length (steps_of seen) → id - 1 < length log.steps.items
-place_at_id log seen id is low high = let count = (read log seen is).count in omega arith
+pub place_at_id : (log : Inside) (seen : List LogStep) (id : ℕ) → IsLaidOut log → log_of log ≡ seen → 0 < id → id ≤ length (steps_of seen) → (id - 1 < length log.records.items) × (id - 1 < length log.steps)
+place_at_id log seen id laid is low high =
+    let count = count_of log seen laid is in
+    let kept = kept_count 1 log.records.items log.steps laid.records in
+    (omega arith, omega arith)
 
-pub record_at : (log : Inside) (seen : List LogStep) (id : ℕ) (r : StepRecord) → IsLaidOut log → log_of log ≡ seen → 0 < id → id ≤ length (steps_of seen) → r ≡ get_or log.steps.items (id - 1) r
-    → IsRecordAt log seen id r
-record_at log seen id r laid is low high got =
-    let lt : id - 1 < length log.steps.items = place_at_id log seen id is low high in
+pub read_at : (log : Inside) (seen : List LogStep) (id : ℕ) (dr : StepRecord) (ds : Step) → IsLaidOut log → log_of log ≡ seen → 0 < id → id ≤ length (steps_of seen)
+    → IsRecordAt log seen id (get_or log.records.items (id - 1) dr) (get_or log.steps (id - 1) ds)
+read_at log seen id dr ds laid is low high =
+    let lt : id - 1 < length log.records.items = (place_at_id log seen id laid is low high).0 in
+    let r = get_or log.records.items (id - 1) dr in
+    let s = get_or log.steps (id - 1) ds in
     let steps = (read log seen is).steps in
-    let found : IsRecord (length log.lits.items) (length log.hints.items) r = subst (IsRecord (length log.lits.items) (length log.hints.items)) (sym got) (laid.records (id - 1) r lt) in
-    let s = step_of_record log.lits.items log.hints.items r in
-    let step : step_at seen id ≡ s =
-    ap (λ (all : List LogStep). step_in all id) steps
-    ∙ get_or-map (step_of_record log.lits.items log.hints.items) log.steps.items (id - 1) r (Input []) lt
-    ∙ ap (step_of_record log.lits.items log.hints.items) (sym got) in
+    let found = record_at 1 log.records.items log.steps (id - 1) dr ds laid.records lt in
+    let step : step_at seen id ≡ step_of_record r s = ap (λ (all : List LogStep). step_in all id) steps ∙ found.1 in
     let next : id - 1 + 1 ≡ id = omega arith in
-    let counted : r.inputs ≡ length (inputs_of (take (id - 1 + 1) (all_steps log))) = ap (λ (k : StepRecord). k.inputs) got ∙ laid.counted (id - 1) r lt in
+    let same : 1 + (id - 1) ≡ id = omega arith in
     record {
-      place = lt;
-      record_is = found;
-      kind = sym (kind-with r.kind _ _) ∙ ap kind_of (sym step);
-      lits = sym (lits-with r.kind (slice_range log.lits.items r.lits_from r.lits_to) (slice_range log.hints.items r.hints_from r.hints_to)) ∙ ap lits_of (sym step);
-      hints = sym (hints-with r.kind (slice_range log.lits.items r.lits_from r.lits_to) (slice_range log.hints.items r.hints_from r.hints_to) (λ input. no_range log.hints.items r.hints_from r.hints_to (found.no_hints input)))
-          ∙ ap hints_of (sym step);
-      inputs = counted ∙ ap₂ (λ n (all : List LogStep). length (inputs_of (take n all))) next (sym steps);
+      named = found.0.named ∙ same;
+      kind = sym (kind-with r.kind s.lits s.hints) ∙ ap kind_of (sym step);
+      lits = sym (lits-with r.kind s.lits s.hints) ∙ ap lits_of (sym step);
+      hints = sym (hints-with r.kind s.lits s.hints found.0.no_hints) ∙ ap hints_of (sym step);
+      inputs = laid.counted (id - 1) dr lt ∙ ap₂ (λ n (all : List LogStep). length (inputs_of (take n all))) next (sym steps);
     }
-  where
-    no_range : (xs : List ℕ) (from to : ℕ) → from ≡ to → slice_range xs from to ≡ []
-    no_range xs from to same = let none : to - from ≡ 0 = omega arith in ap (λ n. take n (drop from xs)) none

@@ -9,15 +9,16 @@ use Rattle.std.proofs.lemmas.List.{append-nil, length-map, length-append, get_or
 use Rattle.sat_base.specs.Members.{In}
 use Rattle.sat_base.specs.Literals.{var_of, IsLiteral, AreLiterals}
 use Rattle.sat_base.specs.Derivation.{Step, Derivation, is_derivation, numbered, clause_of, contains_lit, follows, is_step_clause, steps_follow, all_known}
+use Rattle.sat_base.specs.Numbering.{Ascends, place_in}
 use Rattle.sat_base.specs.Database.{StoredClause, known_of}
 use Rattle.sat_base.proofs.Members.{In-map, In-append_right, all_from, any_from}
 use Rattle.sat_base.proofs.DatabaseLemmas.{named_at, named_is, named_more, named_range}
 use Rattle.lrat_steps.specs.Log.{LogStep, Input, Learned, Core, Forgot, lits_of, stored, inputs_of}
 use Rattle.lrat_steps.specs.Honest.{IsProper}
 use Rattle.lrat_steps.specs.Trimmed.{AreNeeded, IsTrimmed}
-use Rattle.lrat_steps.specs.Cone.{is_input, lits_at, hints_at, is_input_at, inputs_up_to, Ascends, IsReached, AreDerivedIds, AreNeededIds, IsCone, place_in, number_in, trimmed_step, trimmed}
+use Rattle.lrat_steps.specs.Cone.{is_input, lits_at, hints_at, is_input_at, inputs_up_to, IsReached, AreDerivedIds, AreNeededIds, IsCone, number_in, trimmed_step, trimmed}
 use Rattle.lrat_steps.proofs.FollowLemmas.{AreDerived, hint_known, follows_renamed, backward_of}
-use Rattle.lrat_steps.proofs.PlaceLemmas.{place_has, place_at, place-append, In-before}
+use Rattle.sat_base.proofs.PlaceLemmas.{place_has, place_at, place-append, In-before}
 
 -- the clause of an id
 

@@ -1,8 +1,9 @@
 -- The steps that the clause of a step needs, and their numbers in a derivation of it. All is said of the steps of a log
 -- without its marks: a step that was forgotten may be needed still.
-use Rattle.std.specs.Prelude.{◌≡◌, ◌⊎◌, ◌↔◌, ℕ, ◌+◌, ◌<◌, ◌≤◌, ◌==◌, Bool, true, false, List, [], ◌∷◌, map, length, take, ℤ, if◌then◌else◌}
+use Rattle.std.specs.Prelude.{◌≡◌, ◌⊎◌, ◌↔◌, ℕ, ◌+◌, ◌<◌, ◌≤◌, Bool, true, false, List, [], ◌∷◌, map, length, take, ℤ, if◌then◌else◌}
 use Rattle.sat_base.specs.Members.{In}
 use Rattle.sat_base.specs.Derivation.{Step, Derivation}
+use Rattle.sat_base.specs.Numbering.{Ascends, place_in}
 use Rattle.lrat_steps.specs.Log.{LogStep, Input, Learned, Core, Forgot, lits_of, hints_of, step_in, inputs_of}
 
 abbrev pub is_input : LogStep → Bool
@@ -27,11 +28,6 @@ inputs_up_to steps id = length (inputs_of (take id steps))
 -- the hints of each step name earlier ones
 abbrev pub IsBackward : List LogStep → Type 0
 IsBackward steps = (id : ℕ) → 0 < id → id ≤ length steps → (h : ℕ) → In h (hints_at steps id) → (0 < h) × (h < id)
-
--- the numbers rise
-abbrev pub Ascends : List ℕ → Type 0
-Ascends [] = Unit {0}
-Ascends (x ∷ xs) = ((y : ℕ) → In y xs → x < y) × Ascends xs
 
 -- the id of a step that was derived
 pub record IsDerivedId (steps : List LogStep) (id : ℕ) : Type 0 where
@@ -64,17 +60,20 @@ pub record IsCone (steps : List LogStep) (goal : ℕ) (ids : List ℕ) : Type 0 
   pub hints_reached : (id : ℕ) → In id ids → (h : ℕ) → In h (hints_at steps id) → IsReached steps ids h
   pub needed : AreNeededIds steps goal ids
 
--- the place of a number in a list, from 0
-abbrev pub place_in : List ℕ → ℕ → ℕ
-place_in [] n = 0
-place_in (x ∷ xs) n = if x == n then 0 else place_in xs n + 1
-
 -- the number of a step's clause: an input's among the inputs, and that of a derived step on from them
 abbrev pub number_in : List LogStep → List ℕ → ℕ → ℕ
 number_in steps ids id = if is_input_at steps id then inputs_up_to steps id else length (inputs_of steps) + 1 + place_in ids id
 
 abbrev pub trimmed_step : List LogStep → List ℕ → ℕ → Step
 trimmed_step steps ids id = record { id = number_in steps ids id; lits = lits_at steps id; hints = map (number_in steps ids) (hints_at steps id) }
+
+-- a step as the log keeps it
+abbrev pub kept_at : List LogStep → ℕ → Step
+kept_at steps id = record { id = id; lits = lits_at steps id; hints = hints_at steps id }
+
+-- the inputs are the first steps
+abbrev pub InputsComeFirst : List LogStep → Type 0
+InputsComeFirst steps = inputs_up_to steps (length (inputs_of steps)) ≡ length (inputs_of steps)
 
 -- the derivation of a goal's clause by these steps
 abbrev pub trimmed : List LogStep → ℕ → List ℕ → Derivation

@@ -1,7 +1,7 @@
--- How a log lays its steps out: all literals one after another, all hints one after another, and of each step its kind,
--- where its own literals and hints begin and end, and how many inputs there are up to it. The marks lie apart, each with the
--- number of the steps before it.
-use Rattle.std.specs.Prelude.{◌≡◌, ℕ, ◌+◌, ◌-◌, ◌<◌, ◌≤◌, ◌^◌, List, [], ◌∷◌, ◌++◌, map, length, take, drop, All, ℤ, slice_range, slice_index_or}
+-- How a log lays its steps out: the literals and hints of each step under its id, and beside them of each step its kind, and how
+-- many inputs there are up to it. The marks lie apart, each with the number of the steps before it.
+use Rattle.std.specs.Prelude.{◌≡◌, ℕ, ◌+◌, ◌-◌, ◌<◌, ◌≤◌, ◌^◌, List, [], ◌∷◌, ◌++◌, length, take, drop, slice_index_or}
+use Rattle.sat_base.specs.Derivation.{Step}
 use Rattle.lrat_steps.specs.declared.step.StepKind.TheVariants as step_kind
 use Rattle.lrat_steps.specs.declared.log.StepRecord.{StepRecord}
 use Rattle.lrat_steps.specs.declared.log.Mark.{Mark}
@@ -11,12 +11,17 @@ use Rattle.lrat_steps.specs.Forgetting.{live_count}
 use Rattle.lrat_steps.specs.Parts.{step_with}
 
 -- the step of a record
-abbrev pub step_of_record : List ℤ → List ℕ → StepRecord → LogStep
-step_of_record lits hints r = step_with r.kind (slice_range lits r.lits_from r.lits_to) (slice_range hints r.hints_from r.hints_to)
+abbrev pub step_of_record : StepRecord → Step → LogStep
+step_of_record r s = step_with r.kind s.lits s.hints
+
+abbrev pub steps_with : List StepRecord → List Step → List LogStep
+steps_with [] steps = []
+steps_with (r ∷ records) [] = []
+steps_with (r ∷ records) (s ∷ steps) = step_of_record r s ∷ steps_with records steps
 
 -- the steps, without the marks
 abbrev pub all_steps : Inside → List LogStep
-all_steps log = map (step_of_record log.lits.items log.hints.items) log.steps.items
+all_steps log = steps_with log.records.items log.steps
 
 -- the steps behind the first `done`, with the marks among them
 abbrev pub woven : ℕ → List Mark → List LogStep → List LogStep
@@ -31,13 +36,16 @@ abbrev pub AreInOrder : ℕ → ℕ → List Mark → Type 0
 AreInOrder done last [] = done ≤ last
 AreInOrder done last (m ∷ marks) = (done ≤ m.steps) × AreInOrder m.steps last marks
 
--- the record ends within so many literals and hints, and an input has no hints
-pub record IsRecord (lits hints : ℕ) (r : StepRecord) : Type 0 where
-  pub lits_ordered : r.lits_from ≤ r.lits_to
-  pub lits_within : r.lits_to ≤ lits
-  pub hints_ordered : r.hints_from ≤ r.hints_to
-  pub hints_within : r.hints_to ≤ hints
-  pub no_hints : r.kind ≡ step_kind.Input → r.hints_from ≡ r.hints_to
+-- the step stands under its id, and an input has no hints
+pub record IsRecord (id : ℕ) (r : StepRecord) (s : Step) : Type 0 where
+  pub named : s.id ≡ id
+  pub no_hints : r.kind ≡ step_kind.Input → s.hints ≡ []
+
+-- there is a record for each step, and the ids rise from the first
+abbrev pub AreRecords : ℕ → List StepRecord → List Step → Type 0
+AreRecords id [] steps = steps ≡ []
+AreRecords id (r ∷ records) [] = ⊥
+AreRecords id (r ∷ records) (s ∷ steps) = IsRecord id r s × AreRecords (id + 1) records steps
 
 -- each record has the number of the inputs up to its step
 abbrev pub AreCounted : List LogStep → List StepRecord → Type 0
@@ -45,12 +53,12 @@ AreCounted log records =
     (at : ℕ) (d : StepRecord) → at < length records → (slice_index_or records at d).inputs ≡ length (inputs_of (take (at + 1) log))
 
 pub record IsLaidOut (log : Inside) : Type 0 where
-  pub records : All (IsRecord (length log.lits.items) (length log.hints.items)) log.steps.items
-  pub counted : AreCounted (all_steps log) log.steps.items
+  pub records : AreRecords 1 log.records.items log.steps
+  pub counted : AreCounted (all_steps log) log.records.items
   pub inputs : log.inputs ≡ length (inputs_of (all_steps log))
   pub learned : log.learned ≡ learned_count (all_steps log)
-  pub few : length log.steps.items < 2 ^ 32
-  pub counts : log.inputs + log.learned ≤ length log.steps.items
-  pub marks : AreInOrder 0 (length log.steps.items) log.marks.items
+  pub few : length log.records.items < 2 ^ 32
+  pub counts : log.inputs + log.learned ≤ length log.records.items
+  pub marks : AreInOrder 0 (length log.records.items) log.marks.items
   pub live : log.live ≡ live_count (log_of log)
   pub most_live : log.live ≤ log.learned

@@ -38,8 +38,9 @@ fn put_hints(log: &Log, work: &mut WorkList, id: u64) -> Result<(), AllocError>
     requires within { id ≤ length (steps_of log.now) }
     ensures { OnOk result (PutsDerived (steps_of log.now) work.old (hints_at (steps_of log.now) id) work.new) }
 {
-    for hint in log.hints(id) {
-        put(log, work, u64::from(*hint))?;
+    let hints = log.hints(id);
+    for at in 0..hints.len() {
+        put(log, work, hints.at(at))?;
     }
     Ok(())
 }

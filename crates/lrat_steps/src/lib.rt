@@ -23,7 +23,6 @@
 //! A log believes what it is told: whether it is honest is for its callers to know, and `trim` asks for it.
 #![tactic(auto)]
 
-mod arena;
 mod cone;
 mod forget;
 mod log;

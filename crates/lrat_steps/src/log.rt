@@ -2,39 +2,33 @@
 //!
 //! A log is the list of a solver's steps in the order in which it took them: clauses that it was given, and clauses
 //! that it derived, each with the hints by which it follows. It lives as long as the run and is the largest thing in
-//! memory, so the literals of all steps stand one after another, and so do their hints, and a step itself is a small
-//! record of where its own begin and end. Each record counts the inputs up to its step: so the number of an input
-//! among the inputs, which a derivation goes by, is read off in one step, wherever the input stands in the log.
+//! memory, so its steps stand in blocks that derivations share, and of each step a small record says its kind and counts the
+//! inputs up to it: so the number of an input among the inputs, which a derivation goes by, is read off in one step, wherever
+//! the input stands in the log.
 //!
 //! Among the steps stand marks of the clauses that were forgotten. A mark takes no id, so the marks lie in a list of
 //! their own, each with the number of the steps before it, and the id of a step is the place of its record.
-ghost use Rattle.std.specs.Prelude.{◌≡◌, ◌<◌, ◌≤◌, ◌+◌, ◌^◌, ◌++◌, ◌∷◌, [], length, IfOk, OnOk, OnErr, Some, List, ℤ};
-ghost use Rattle.sat_base.specs.Derivation.{clause_of};
+ghost use Rattle.std.specs.Prelude.{◌≡◌, ◌<◌, ◌≤◌, ◌+◌, ◌^◌, ◌++◌, ◌∷◌, [], length, All, IfOk, OnOk, OnErr, Some, List, ℤ};
+ghost use Rattle.sat_base.specs.Derivation.{max_id, clause_of};
+ghost use Rattle.sat_base.specs.Hints.{ids_of};
 ghost use Rattle.sat_base.specs.Database.{known_of};
 ghost use Rattle.lrat_steps.specs.Log.{Forgot, step_of, steps_of, step_at, lits_of, hints_of, kind_of, learned_count, inputs_of, db_of};
-ghost use Rattle.lrat_steps.specs.Parts.{inputs_in};
 ghost use Rattle.lrat_steps.specs.Forgetting.{IsLiveLearned, live_count};
-ghost use Rattle.lrat_steps.specs.Cone.{inputs_up_to, IsBackward};
+ghost use Rattle.lrat_steps.specs.Cone.{inputs_up_to, kept_at, IsBackward};
 ghost use Rattle.lrat_steps.specs.Honest.{IsHonest};
 ghost use Rattle.lrat_steps.specs.Trimmed.{IsTrimmed};
 
-use crate::arena::push_both;
 use crate::cone::cone_of;
 use crate::renumber::derivation_of;
-use crate::step::{LogStep, Parts, StepKind, counts_of, parts_of};
-use sat_base::{Derivation, Lit, end_of};
+use crate::step::{LogStep, StepKind, counts_of, parts_of};
+use sat_base::{Derivation, Hints, Lit, SharedStep, StepArena, are_small, end_of};
 use std::alloc::{AllocError, Global};
 use std::marker::Model;
 
-// What a step is, where its literals and hints begin and end among those of all steps, and how many inputs there are up
-// to it.
+// What a step is, and how many inputs there are up to it.
 #[derive(Clone, Copy)]
 struct StepRecord {
     kind: StepKind,
-    lits_from: u32,
-    lits_to: u32,
-    hints_from: u32,
-    hints_to: u32,
     inputs: u32,
 }
 
@@ -48,9 +42,8 @@ struct Mark {
 /// The steps of a solver, in order, and marks among them. The id of a step is its place among the steps, from 1.
 #[derive(Drop)]
 pub struct Log {
-    steps: Vec<StepRecord>,
-    lits: Vec<Lit>,
-    hints: Vec<u32>,
+    records: Vec<StepRecord>,
+    steps: StepArena,
     marks: Vec<Mark>,
     inputs: u32,
     learned: u64,
@@ -76,9 +69,8 @@ impl Log {
         ensures { result ≡ [] }
     {
         Log {
-            steps: Vec::new(alloc),
-            lits: Vec::new(alloc),
-            hints: Vec::new(alloc),
+            records: Vec::new(alloc),
+            steps: StepArena::new(alloc),
             marks: Vec::new(alloc),
             inputs: 0,
             learned: 0,
@@ -93,24 +85,22 @@ impl Log {
         ensures err { OnErr result (self.new ≡ self.old) }
     {
         let parts = parts_of(step);
-        let record = next_record(
-            self.steps.len(),
-            self.lits.len(),
-            self.hints.len(),
-            self.inputs,
-            parts,
-        )?;
+        let id = next_id(self.records.len(), parts.hints)?;
         // Room first, so that all is as it was where there is none.
-        self.steps.reserve(1)?;
-        push_both(&mut self.lits, &mut self.hints, parts.lits, parts.hints)?;
-        let (_, more_learned) = counts_of(parts.kind);
-        let learned = self.learned + more_learned;
-        let live = self.live + more_learned;
-        self.steps.push_reserved(record);
-        self.inputs = record.inputs;
+        self.records.reserve(1)?;
+        self.steps.push(id, parts.lits, parts.hints)?;
+        let counts = counts_of(parts.kind);
+        let inputs = self.inputs + counts.0;
+        let learned = self.learned + counts.1;
+        let live = self.live + counts.1;
+        self.records.push_reserved(StepRecord {
+            kind: parts.kind,
+            inputs,
+        });
+        self.inputs = inputs;
         self.learned = learned;
         self.live = live;
-        Ok(self.steps.len() as u64)
+        Ok(id)
     }
 
     /// Marks that a learnt clause, which is live, is so no more. Its step stays, and may be named still.
@@ -119,7 +109,7 @@ impl Log {
         ensures ok { OnOk result (self.new ≡ self.old ++ Forgot id ∷ []) }
         ensures err { OnErr result (self.new ≡ self.old) }
     {
-        let steps = self.steps.len() as u32;
+        let steps = self.records.len() as u32;
         let live = self.live - 1;
         self.marks.push(Mark {
             steps,
@@ -133,7 +123,7 @@ impl Log {
     pub fn len(&self) -> u64
         ensures { result ≡ length (steps_of self.now) }
     {
-        self.steps.len() as u64
+        self.records.len() as u64
     }
 
     /// How many clauses were learnt, forgotten or not.
@@ -163,7 +153,7 @@ impl Log {
         requires within { id ≤ length (steps_of self.now) }
         ensures { result ≡ kind_of (step_at self.now id) }
     {
-        self.steps[(id - 1) as usize].kind
+        self.records[(id - 1) as usize].kind
     }
 
     /// The clause of the step of an id.
@@ -172,18 +162,25 @@ impl Log {
         requires within { id ≤ length (steps_of self.now) }
         ensures { result.now ≡ lits_of (step_at self.now id) }
     {
-        let step = self.steps[(id - 1) as usize];
-        &self.lits[step.lits_from as usize..step.lits_to as usize]
+        self.steps.step((id - 1) as usize).lits
     }
 
     /// The ids of the clauses from which the step of an id follows, in the order of propagation. An input has none.
-    pub fn hints(&self, id: u64) -> &[u32]
+    pub fn hints(&self, id: u64) -> Hints<'_>
         requires from_one { 0 < id }
         requires within { id ≤ length (steps_of self.now) }
-        ensures { result.now ≡ hints_of (step_at self.now id) }
+        ensures { ids_of result ≡ hints_of (step_at self.now id) }
     {
-        let step = self.steps[(id - 1) as usize];
-        &self.hints[step.hints_from as usize..step.hints_to as usize]
+        self.steps.step((id - 1) as usize).hints
+    }
+
+    /// The step of an id, to be kept. It takes no memory, and fails where its block is held 2^63 times already.
+    pub(crate) fn share(&self, id: u64) -> Result<SharedStep, AllocError>
+        requires from_one { 0 < id }
+        requires within { id ≤ length (steps_of self.now) }
+        ensures { IfOk result (λ step. step ≡ kept_at (steps_of self.now) id) }
+    {
+        self.steps.share((id - 1) as usize)
     }
 
     /// The derivation of the clause of a step, with the steps that it needs and no other. The clauses that were given
@@ -213,7 +210,7 @@ impl Log {
         if hints.len() != 1 {
             return id;
         }
-        let only = u64::from(hints[0]);
+        let only = hints.at(0);
         if self.lits(only) == self.lits(id) {
             only
         } else {
@@ -226,7 +223,7 @@ impl Log {
     pub(crate) fn count(&self) -> u32
         ensures { result ≡ length (steps_of self.now) }
     {
-        self.steps.len() as u32
+        self.records.len() as u32
     }
 
     pub(crate) fn input_count(&self) -> u32
@@ -240,39 +237,19 @@ impl Log {
         requires within { id ≤ length (steps_of self.now) }
         ensures { result ≡ inputs_up_to (steps_of self.now) id }
     {
-        self.steps[(id - 1) as usize].inputs
+        self.records[(id - 1) as usize].inputs
     }
 }
 
-// The record of a step behind so many steps, literals, hints and inputs, where its numbers fit.
-fn next_record(
-    steps: usize,
-    lits: usize,
-    hints: usize,
-    inputs: u32,
-    parts: Parts<'_>,
-) -> Result<StepRecord, AllocError>
-    requires { inputs ≤ steps }
+// The id of a step behind so many, where it and the step's hints fit.
+fn next_id(steps: usize, hints: &[u64]) -> Result<u64, AllocError>
     ensures few { OnOk result (steps + 1 < 2 ^ 32) }
-    ensures record { IfOk result (λ next. next ≡ record {
-      kind = parts.entry.kind;
-      lits_from = lits;
-      lits_to = lits + length parts.entry.lits.now;
-      hints_from = hints;
-      hints_to = hints + length parts.entry.hints.now;
-      inputs = inputs + inputs_in parts.entry.kind;
-    }) }
+    ensures hints { OnOk result (All (λ h. h ≤ max_id) hints.now) }
+    ensures id { IfOk result (λ id. id ≡ steps + 1) }
 {
-    let _id = end_of(steps, 1)?;
-    let lits_to = end_of(lits, parts.lits.len())?;
-    let hints_to = end_of(hints, parts.hints.len())?;
-    let (more_inputs, _) = counts_of(parts.kind);
-    Ok(StepRecord {
-        kind: parts.kind,
-        lits_from: lits as u32,
-        lits_to,
-        hints_from: hints as u32,
-        hints_to,
-        inputs: inputs + more_inputs,
-    })
+    let id = end_of(steps, 1)?;
+    if !are_small(hints) {
+        return Err(AllocError);
+    }
+    Ok(u64::from(id))
 }

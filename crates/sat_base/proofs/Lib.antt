@@ -6,3 +6,6 @@ pub mod FollowsLemmas
 pub mod Soundness
 pub mod BitLemmas
 pub mod ForgottenLemmas
+pub mod PlaceLemmas
+pub mod BlockLemmas
+pub mod NumberingLemmas

@@ -4,9 +4,12 @@ pub mod Derivation
 pub mod Database
 pub mod Units
 pub mod Work
+pub mod Numbering
 pub mod Hints
 pub mod HintLists
 pub mod Cuts
 pub mod Spans
+pub mod Blocks
+pub mod Bodies
 pub mod Bits
 pub mod Forgotten

@@ -6,12 +6,17 @@
 //! text can hold.
 //!
 //! The same refutation stands in many records. So a derivation is made by a builder, which has it alone, and is shared
-//! once it is finished: a copy is one more reference to the same steps.
-ghost use Rattle.std.specs.Prelude.{◌≡◌, ◌≤◌, ◌<◌, [], ◌∷◌, ◌++◌, All, Some, IfOk, OnOk, OnErr, length, slice_get};
+//! once it is finished: a copy is one more reference to the same steps. What a log derives is not even copied out of the log: it
+//! holds the steps that it needs where they stand ([`Derivation::of_log`]).
+ghost use Rattle.std.specs.Prelude.{◌≡◌, ◌≤◌, ◌<◌, [], ◌∷◌, ◌++◌, All, Some, IfOk, OnOk, OnErr, length, map, slice_get};
 ghost use Rattle.sat_base.specs.Derivation.{Derivation, max_id, HasIds};
 ghost use Rattle.sat_base.specs.Hints.{ids_of};
+ghost use Rattle.sat_base.specs.Numbering.{renumbered};
 
+use crate::cone::Cone;
 use crate::lit::Lit;
+use crate::numbering::Numbering;
+use crate::step_arena::SharedStep;
 use crate::steps::{Step, Steps};
 use std::alloc::{AllocError, Global};
 use std::marker::Model;
@@ -73,35 +78,65 @@ impl DerivationBuilder {
         let DerivationBuilder { goal, mut steps } = self;
         steps.shrink_to_fit();
         let steps = Arc::new(alloc, steps)?;
-        Ok(Derivation { goal, steps })
+        Ok(Derivation {
+            goal,
+            body: Body::Own(steps),
+        })
     }
+}
+
+// The steps, its own or those of a log.
+#[derive(Drop)]
+enum Body {
+    Own(Arc<Steps, Global>),
+    Shared(Arc<Cone, Global>),
 }
 
 /// Steps, and the id of the clause that they are made for.
 #[derive(Drop)]
 pub struct Derivation {
     goal: u64,
-    steps: Arc<Steps, Global>,
+    body: Body,
 }
 
 impl Model for Derivation {
     ghost use Rattle.std.specs.Prelude.{◌≤◌};
-    ghost use Rattle.std.specs.Arc.{arc_value};
     ghost use Rattle.sat_base.specs.Derivation.{Derivation, max_id};
+    ghost use Rattle.sat_base.specs.Bodies.{body_steps};
 
     ghost Value = { Derivation };
 
-    ghost view = { λ derivation. record { steps = arc_value derivation.steps; goal = derivation.goal } };
+    ghost view = { λ derivation. record { steps = body_steps derivation.body; goal = derivation.goal } };
 
     ghost invariant = { λ derivation. derivation.goal ≤ max_id };
 }
 
 impl Derivation {
+    /// Steps of a log, which stay where they are, under numbers without gaps.
+    pub fn of_log(
+        alloc: Global,
+        goal: u64,
+        by: Numbering,
+        steps: Vec<SharedStep>,
+    ) -> Result<Derivation, AllocError>
+        requires { goal ≤ max_id }
+        ensures { IfOk result (λ derivation. derivation ≡ record { steps = map (renumbered by) steps.items; goal = goal }) }
+    {
+        let cone = Arc::new(alloc, Cone::new(by, steps))?;
+        Ok(Derivation {
+            goal,
+            body: Body::Shared(cone),
+        })
+    }
+
     /// How many steps it has.
     pub fn len(&self) -> usize
         ensures { result ≡ length self.now.steps }
     {
-        self.steps.len()
+        match &self.body {
+            Body::Own(steps) => steps.len(),
+            Body::Shared(cone) => cone.len(),
+        }
     }
 
     /// The step at a place, from 0.
@@ -109,7 +144,10 @@ impl Derivation {
         requires { at < length self.now.steps }
         ensures { slice_get self.now.steps at ≡ Some (record { id = result.id; lits = result.lits.now; hints = ids_of result.hints }) }
     {
-        self.steps.step(at)
+        match &self.body {
+            Body::Own(steps) => steps.step(at),
+            Body::Shared(cone) => cone.step(at),
+        }
     }
 
     /// The id of the clause that it is made for.
@@ -117,7 +155,10 @@ impl Derivation {
         ensures goal { result ≡ self.now.goal }
         ensures ids { HasIds self.now }
     {
-        self.steps.ids_fit(self.goal);
+        match &self.body {
+            Body::Own(steps) => steps.ids_fit(self.goal),
+            Body::Shared(cone) => cone.ids_fit(self.goal),
+        }
         self.goal
     }
 
@@ -125,10 +166,13 @@ impl Derivation {
     pub fn copy(&self) -> Result<Derivation, AllocError>
         ensures { IfOk result (λ copy. copy ≡ self.now) }
     {
-        let steps = Arc::try_clone(&self.steps)?;
+        let body = match &self.body {
+            Body::Own(steps) => Body::Own(Arc::try_clone(steps)?),
+            Body::Shared(cone) => Body::Shared(Arc::try_clone(cone)?),
+        };
         Ok(Derivation {
             goal: self.goal,
-            steps,
+            body,
         })
     }
 }

@@ -2,12 +2,56 @@
 //!
 //! A hint is the id of a clause. The program numbers clauses from 1, so its ids fit 32 bits, but whoever wrote a derivation
 //! elsewhere may have taken greater ones. So a list keeps its hints in 32 bits each as long as all fit, and all of them in
-//! 64 from the first one on that doesn't.
-ghost use Rattle.std.specs.Prelude.{◌≡◌, ◌≤◌, ◌<◌, ◌^◌, [], ◌++◌, ◌↔◌, All, IsTrue, OnOk, OnErr, length, slice_index, slice_range};
-ghost use Rattle.sat_base.specs.Hints.{ids_of};
+//! 64 from the first one on that doesn't. A step that stands in a log is lent with the ids of the log, and their numbers are
+//! found as they are read.
+ghost use Rattle.std.specs.Prelude.{◌≡◌, ◌≤◌, ◌<◌, ◌^◌, [], ◌++◌, ◌↔◌, All, IsTrue, OnOk, OnErr, length, map, slice_index, slice_range};
+ghost use Rattle.sat_base.specs.Hints.{kept_ids, ids_of};
+ghost use Rattle.sat_base.specs.Numbering.{number_by};
 
+use crate::numbering::Numbering;
 use std::alloc::{AllocError, Global};
 use std::marker::Model;
+
+/// Ids as they are kept, lent.
+#[derive(Clone, Copy)]
+pub enum Ids<'a> {
+    /// In 32 bits each.
+    Narrow(&'a [u32]),
+    /// In 64 bits each.
+    Wide(&'a [u64]),
+}
+
+impl<'a> Ids<'a> {
+    pub(crate) fn len(&self) -> usize
+        ensures { result ≡ length (kept_ids self.now) }
+    {
+        match self {
+            Ids::Narrow(ids) => ids.len(),
+            Ids::Wide(ids) => ids.len(),
+        }
+    }
+
+    /// The id at a place, from 0.
+    pub(crate) fn at(&self, at: usize) -> u64
+        requires { at < length (kept_ids self.now) }
+        ensures { result ≡ slice_index (kept_ids self.now) at }
+    {
+        match self {
+            Ids::Narrow(ids) => narrow_at(ids, at),
+            Ids::Wide(ids) => wide_at(ids, at),
+        }
+    }
+
+    /// They as hints.
+    pub(crate) fn as_they_are(self) -> Hints<'a>
+        ensures { ids_of result ≡ kept_ids self.entry }
+    {
+        match self {
+            Ids::Narrow(ids) => Hints::Narrow(ids),
+            Ids::Wide(ids) => Hints::Wide(ids),
+        }
+    }
+}
 
 /// The hints of a step, lent, in the order of propagation.
 #[derive(Clone, Copy)]
@@ -16,6 +60,8 @@ pub enum Hints<'a> {
     Narrow(&'a [u32]),
     /// In 64 bits each.
     Wide(&'a [u64]),
+    /// Ids of a log, under other numbers.
+    Numbered(Ids<'a>, &'a Numbering),
 }
 
 impl Hints<'_> {
@@ -25,6 +71,7 @@ impl Hints<'_> {
         match self {
             Hints::Narrow(ids) => ids.len(),
             Hints::Wide(ids) => ids.len(),
+            Hints::Numbered(ids, _) => ids.len(),
         }
     }
 
@@ -36,6 +83,7 @@ impl Hints<'_> {
         match self {
             Hints::Narrow(ids) => narrow_at(ids, at),
             Hints::Wide(ids) => wide_at(ids, at),
+            Hints::Numbered(ids, by) => numbered_at(ids, by, at),
         }
     }
 }
@@ -52,6 +100,13 @@ fn wide_at(ids: &[u64], at: usize) -> u64
     ensures { result ≡ slice_index ids.now at }
 {
     ids[at]
+}
+
+fn numbered_at(ids: &Ids<'_>, by: &Numbering, at: usize) -> u64
+    requires { at < length (map (number_by by.now) (kept_ids ids.now)) }
+    ensures { result ≡ slice_index (map (number_by by.now) (kept_ids ids.now)) at }
+{
+    by.number(ids.at(at))
 }
 
 /// Hints of many steps, one after another.
@@ -108,15 +163,15 @@ impl HintList {
     }
 
     /// The hints from a place up to another one.
-    pub(crate) fn range(&self, from: usize, to: usize) -> Hints<'_>
+    pub(crate) fn range(&self, from: usize, to: usize) -> Ids<'_>
         requires ordered { from ≤ to }
         requires within { to ≤ length self.now }
-        ensures { ids_of result ≡ slice_range self.now from to }
+        ensures { kept_ids result ≡ slice_range self.now from to }
     {
         if self.wide.len() == 0 {
-            Hints::Narrow(&self.narrow[from..to])
+            Ids::Narrow(&self.narrow[from..to])
         } else {
-            Hints::Wide(&self.wide[from..to])
+            Ids::Wide(&self.wide[from..to])
         }
     }
 

@@ -25,21 +25,26 @@
 mod arena;
 mod assign;
 mod bits;
+mod cone;
 mod crossing;
 mod derivation;
 mod hints;
 mod lit;
+mod numbering;
 mod purse;
 mod row;
+mod step_arena;
 mod steps;
 mod worklist;
 
 pub use arena::end_of;
 pub use assign::{Assign, AssignBuilder};
 pub use derivation::{Derivation, DerivationBuilder};
-pub use hints::{Hints, are_small, push_narrow};
+pub use hints::{Hints, Ids, are_small, push_narrow};
 pub use lit::{Lit, Lits};
+pub use numbering::Numbering;
 pub use purse::Purse;
 pub use row::Row;
+pub use step_arena::{SharedStep, StepArena};
 pub use steps::Step;
 pub use worklist::WorkList;

@@ -6,10 +6,10 @@
 ghost use Rattle.std.specs.Prelude.{◌≡◌, ◌≤◌, ◌<◌, [], ◌∷◌, ◌++◌, All, Some, OnOk, OnErr, length, slice_get, slice_index_or};
 ghost use Rattle.sat_base.specs.Derivation.{max_id, HasIds};
 ghost use Rattle.sat_base.specs.Cuts.{start};
-ghost use Rattle.sat_base.specs.Hints.{ids_of};
+ghost use Rattle.sat_base.specs.Hints.{kept_ids, ids_of};
 
 use crate::arena::{end_of, push_both};
-use crate::hints::{HintList, Hints};
+use crate::hints::{HintList, Hints, Ids};
 use crate::lit::Lit;
 use std::alloc::{AllocError, Global};
 use std::marker::Model;
@@ -21,6 +21,14 @@ pub struct Step<'a> {
     pub id: u64,
     pub lits: &'a [Lit],
     pub hints: Hints<'a>,
+}
+
+/// A step as it is kept, lent.
+#[derive(Clone, Copy)]
+pub(crate) struct KeptStep<'a> {
+    pub(crate) id: u64,
+    pub(crate) lits: &'a [Lit],
+    pub(crate) ids: Ids<'a>,
 }
 
 // The id of a step, and where its literals and hints end among those of all steps.
@@ -104,12 +112,25 @@ impl Steps {
         requires { at < length self.now }
         ensures { slice_get self.now at ≡ Some (record { id = result.id; lits = result.lits.now; hints = ids_of result.hints }) }
     {
+        let kept = self.kept(at);
+        Step {
+            id: kept.id,
+            lits: kept.lits,
+            hints: kept.ids.as_they_are(),
+        }
+    }
+
+    /// The step at a place as it is kept.
+    pub(crate) fn kept(&self, at: usize) -> KeptStep<'_>
+        requires { at < length self.now }
+        ensures { slice_get self.now at ≡ Some (record { id = result.id; lits = result.lits.now; hints = kept_ids result.ids }) }
+    {
         let before = span_before(self.spans.as_slice(), at);
         let span = self.spans[at];
-        Step {
+        KeptStep {
             id: span.id,
             lits: &self.lits[before.lits_to as usize..span.lits_to as usize],
-            hints: self
+            ids: self
                 .hints
                 .range(before.hints_to as usize, span.hints_to as usize),
         }

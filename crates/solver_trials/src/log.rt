@@ -209,9 +209,7 @@ fn tell_step(log: &Log, step: &Step<'_>, out: &mut String) -> Result<bool, Alloc
     })?;
     add(out, " literals", log.lits(id).len() as u64)?;
     out.push_str(" hints")?;
-    for hint in log.hints(id) {
-        add(out, "", u64::from(*hint))?;
-    }
+    add_hints(out, log.hints(id))?;
     out.push_str("\n")?;
     Ok(true)
 }

@@ -1,12 +1,8 @@
-use Rattle.std.proofs.Common.{◌≡◌, take}
+use Rattle.std.proofs.Common.{take}
 use Rattle.lrat_steps.specs.Cone.{hints_at, PutsDerived}
 use Rattle.lrat_steps.specs.Log.{steps_of}
 use Rattle.lrat_steps.proofs.cone.put_hints.Given as goal
 
 -- the derived ones of the hints up to this one were put in
-abbrev pub invariant-loop-hint : goal.invariant-loop-hint
-invariant-loop-hint l =
-    record {
-      items : l.hint-items ≡ hints_at (steps_of l.log) l.id;
-      puts : PutsDerived (steps_of l.log) l.fn.work (take l.hint-index (hints_at (steps_of l.log) l.id)) l.work;
-    }
+abbrev pub invariant-loop-at : goal.invariant-loop-at
+invariant-loop-at l = PutsDerived (steps_of l.log) l.fn.work (take l.at (hints_at (steps_of l.log) l.id)) l.work

@@ -1,7 +1,7 @@
 use Rattle.std.proofs.Common.{◌<◌, ◌+◌, ◌^◌, arith, rules}
 use Rattle.sat_base.specs.Members.{In}
 use Rattle.lrat_steps.proofs.ConeLemmas.{reached_derived}
-use Rattle.lrat_steps.proofs.PlaceLemmas.{place_below}
+use Rattle.sat_base.proofs.PlaceLemmas.{place_below}
 use Rattle.lrat_steps.specs.Log.{steps_of}
 use Rattle.lrat_steps.proofs.renumber.number_of.Goals as goal
 

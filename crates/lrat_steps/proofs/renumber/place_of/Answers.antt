@@ -1,4 +1,4 @@
-use Rattle.lrat_steps.proofs.PlaceLemmas.{found_at, found_some}
+use Rattle.sat_base.proofs.PlaceLemmas.{found_at, found_some}
 use Rattle.lrat_steps.proofs.renumber.place_of.Goals as goal
 
 -- a member is found

@@ -5,10 +5,9 @@ use Rattle.lrat_steps.specs.Log.{steps_of}
 use Rattle.lrat_steps.proofs.renumber.renumber.Given as goal
 
 -- the hints up to this one have their new numbers
-abbrev pub invariant-loop-hint : goal.invariant-loop-hint
-invariant-loop-hint l =
+abbrev pub invariant-loop-at : goal.invariant-loop-at
+invariant-loop-at l =
     record {
-      items : l.hint-items ≡ hints_at (steps_of l.log) l.id;
-      numbers : l.numbers.items ≡ map (number_in (steps_of l.log) l.cone) (take l.hint-index l.hint-items);
+      numbers : l.numbers.items ≡ map (number_in (steps_of l.log) l.cone) (take l.at (hints_at (steps_of l.log) l.id));
       small : All (λ n. n ≤ max_id) l.numbers.items;
     }

@@ -4,7 +4,7 @@ use Rattle.lrat_steps.specs.declared.log.Log.TheInside.{Inside}
 use Rattle.lrat_steps.specs.Log.{LogStep, Forgot}
 use Rattle.lrat_steps.specs.Forgetting.{IsLiveLearned, live_count}
 use Rattle.lrat_steps.proofs.ForgettingLemmas.{live_count-forgot}
-use Rattle.lrat_steps.proofs.MarkLemmas.{read}
+use Rattle.lrat_steps.proofs.MarkLemmas.{count_of}
 use Rattle.lrat_steps.proofs.LayoutLemmas.{IsMarked, log_marked, laid_out_marked}
 use Rattle.lrat_steps.proofs.log.Log.forget.Goals as goal
 
@@ -18,7 +18,7 @@ overflow_sub-live c =
 -- an id is at most the number of steps
 pub overflow_cast-id : goal.overflow_cast-id
 overflow_cast-id c =
-    let count = (read c.self.inside c.args.self.now c.self.view_is).count in
+    let count = count_of c.self.inside c.args.self.now c.self.invariant c.self.view_is in
     let high = c.requires.live.within in
     let few = c.self.invariant.few in
     omega arith
@@ -26,9 +26,8 @@ overflow_cast-id c =
 abbrev new_inside : goal.After-self-1 → Inside
 new_inside c =
     record {
+      records = c.self.inside.records;
       steps = c.self.inside.steps;
-      lits = c.self.inside.lits;
-      hints = c.self.inside.hints;
       marks = c.push.new.self;
       inputs = c.self.inside.inputs;
       learned = c.self.inside.learned;
@@ -41,9 +40,8 @@ mark c = record { steps = c.len-steps.result; id = c.args.id }
 marked : (c : goal.After-self-1) → IsMarked c.self.inside (new_inside c) (mark c)
 marked c =
     record {
+      records = refl;
       steps = refl;
-      lits = refl;
-      hints = refl;
       inputs = refl;
       learned = refl;
       marks = c.in_ok-push.ensures.items;

@@ -2,6 +2,7 @@ use Rattle.std.proofs.Common.{◌≡◌, ◌<◌, ◌≤◌, ◌∙◌, ℕ, Lis
 use Rattle.std.proofs.lemmas.Slice.Eq.{slice_eq-Decides}
 use Rattle.std.proofs.lemmas.Bool.Decides.{Decides-int_eq}
 use Rattle.sat_base.specs.Members.{In}
+use Rattle.sat_base.specs.Hints.{ids_of}
 use Rattle.sat_base.proofs.DatabaseLemmas.{get_in}
 use Rattle.lrat_steps.specs.Log.{LogStep, steps_of}
 use Rattle.lrat_steps.specs.Cone.{IsBackward, hints_at}
@@ -15,10 +16,10 @@ earlier steps id only hints backward from_one within are one is =
     let below = backward id from_one within only inside in
     (below.0, (let less = below.1 in omega (arith, less, within)))
 
-hinted : (c : goal.After-from-only) → (0 < c.from-only.result) × (c.from-only.result ≤ length (steps_of c.args.self.now))
+hinted : (c : goal.After-at-only) → (0 < c.at-only.result) × (c.at-only.result ≤ length (steps_of c.args.self.now))
 hinted c =
-    earlier (steps_of c.args.self.now) c.args.id c.from-only.result c.hints-hints.result.now c.requires.backward c.requires.from_one c.requires.within
-    c.hints-hints.ensures (omega (arith, c.if-hints-ne1.false)) c.from-only.ensures
+    earlier (steps_of c.args.self.now) c.args.id c.at-only.result (ids_of c.hints-hints.result) c.requires.backward c.requires.from_one c.requires.within
+    c.hints-hints.ensures (omega (arith, c.if-len-ne1.false, c.len.ensures)) c.at-only.ensures
 
 pub lits-requires-clause-from_one : goal.lits-requires-clause-from_one
 lits-requires-clause-from_one c = (hinted c).0
@@ -28,13 +29,13 @@ lits-requires-clause-within c = (hinted c).1
 
 pub returns-then-eq-clause-from_one : goal.returns-then-eq-clause-from_one
 returns-then-eq-clause-from_one c =
-    (earlier (steps_of c.args.self.now) c.args.id c.from-only.result c.hints-hints.result.now c.requires.backward c.requires.from_one c.requires.within
-    c.hints-hints.ensures (omega (arith, c.if-hints-ne1.false)) c.from-only.ensures).0
+    (earlier (steps_of c.args.self.now) c.args.id c.at-only.result (ids_of c.hints-hints.result) c.requires.backward c.requires.from_one c.requires.within
+    c.hints-hints.ensures (omega (arith, c.if-len-ne1.false, c.len.ensures)) c.at-only.ensures).0
 
 pub returns-then-eq-clause-within : goal.returns-then-eq-clause-within
 returns-then-eq-clause-within c =
-    (earlier (steps_of c.args.self.now) c.args.id c.from-only.result c.hints-hints.result.now c.requires.backward c.requires.from_one c.requires.within
-    c.hints-hints.ensures (omega (arith, c.if-hints-ne1.false)) c.from-only.ensures).1
+    (earlier (steps_of c.args.self.now) c.args.id c.at-only.result (ids_of c.hints-hints.result) c.requires.backward c.requires.from_one c.requires.within
+    c.hints-hints.ensures (omega (arith, c.if-len-ne1.false, c.len.ensures)) c.at-only.ensures).1
 
 -- the two lists of literals are the same
 pub returns-then-eq-clause-same : goal.returns-then-eq-clause-same

@@ -2,7 +2,7 @@ use Rattle.std.proofs.Common.{◌∙◌, ℕ, List, Some, length, sym, ap, ap₂
 use Rattle.std.specs.Prelude.{ℤ, slice_range}
 use Rattle.sat_base.specs.declared.steps.StepSpan.{StepSpan}
 use Rattle.sat_base.proofs.SpanLemmas.{spans_count, read_at}
-use Rattle.sat_base.proofs.steps.Steps.step.Goals as goal
+use Rattle.sat_base.proofs.steps.Steps.kept.Goals as goal
 
 -- each step has a span
 pub span_before-before-requires : goal.span_before-before-requires

@@ -1,5 +1,5 @@
 -- Lemmas on the places of ascending numbers.
-use Rattle.std.proofs.Common.{◌≡◌, ◌≢◌, ℕ, zero, suc, ◌+◌, ◌<◌, ◌≤◌, eqb, Bool, true, List, [], ◌∷◌, ◌++◌, length, get_or, Result, Ok, Err, MatchResult, refl, sym, ◌∙◌, ap, inl, inr, arith}
+use Rattle.std.proofs.Common.{◌≡◌, ◌≢◌, ℕ, zero, suc, ◌+◌, ◌<◌, ◌≤◌, eqb, Bool, true, List, [], ◌∷◌, ◌++◌, length, get_or, All, Result, Ok, Err, MatchResult, refl, sym, ◌∙◌, ap, inl, inr, arith}
 use Rattle.std.specs.Ordering.{nat_cmp}
 use Rattle.std.specs.List.Sorted.{IsBinarySearchResult}
 use Rattle.std.proofs.lemmas.Bool.{cases_eq, cases_lt, cond-true, cond-false, eq-eqb, ne_eqb}
@@ -7,7 +7,7 @@ use Rattle.std.proofs.lemmas.List.Sorted.{searched}
 use Rattle.sat_base.specs.Members.{In}
 use Rattle.sat_base.proofs.Members.{In-append_cases}
 use Rattle.sat_base.proofs.DatabaseLemmas.{get_in}
-use Rattle.lrat_steps.specs.Cone.{Ascends, place_in}
+use Rattle.sat_base.specs.Numbering.{Ascends, place_in}
 
 place-here : (x n : ℕ) (xs : List ℕ) → x ≡ n → place_in (x ∷ xs) n ≡ 0
 place-here x n xs same = cond-true (eqb x n) 0 (place_in xs n + 1) (eq-eqb x n same)
@@ -117,3 +117,28 @@ found_some xs n at r found up i is = go r (searched xs n r found (rises xs up)) 
           | inl lower ↦ let less = before (place_in xs n) lower in omega arith
           | inr higher ↦ let more = after (place_in xs n) (omega arith) lt in omega arith
         ]
+
+-- a number that the list lacks
+place_lacks : (xs : List ℕ) (n : ℕ) → ¬ In n xs → place_in xs n ≡ length xs
+place_lacks [] n none = refl
+place_lacks (x ∷ xs) n none =
+    elim (cases_eq x n) [
+      | inl same ↦ absurd (none (inl (sym same)))
+      | inr other ↦ let later = place-later x n xs other in let rest = place_lacks xs n (λ i. none (inr i)) in omega arith
+    ]
+
+pub found_none : (xs : List ℕ) (n at : ℕ) (r : Result ℕ ℕ) → IsBinarySearchResult (λ y. nat_cmp y n) xs r → Ascends xs → r ≡ Err at → place_in xs n ≡ length xs
+found_none xs n at r found up is = place_lacks xs n (λ i. found_some xs n at r found up i is)
+
+-- a number above all
+pub above_all : (xs : List ℕ) (n bound : ℕ) → All (λ m. m < bound) xs → bound ≤ n → place_in xs n ≡ length xs
+above_all xs n bound small high =
+    place_lacks xs n (λ i. let (lt, there) = place_has xs n i in let below : get_or xs (place_in xs n) 0 < bound = small (place_in xs n) 0 lt in let same = there 0 in absurd (omega arith))
+
+pub place_at_most : (xs : List ℕ) (n : ℕ) → place_in xs n ≤ length xs
+place_at_most [] n = omega arith
+place_at_most (x ∷ xs) n =
+    elim (cases_eq x n) [
+      | inl same ↦ let here = place-here x n xs same in omega arith
+      | inr other ↦ let later = place-later x n xs other in let rest = place_at_most xs n in omega arith
+    ]
