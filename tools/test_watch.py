@@ -168,6 +168,11 @@ class Rounds(Room):
                 ([file, "--html", self.at("no/page")], Refused, f"{self.at('no/page')}: its folder is not there"),
                 ([file, "--html", self.at("folder")], Refused, f"{self.at('folder')}: this is no plain file"),
                 ([file, "--", "--evidence", "/dev/null"], Refused, "/dev/null: this is no plain file"),
+                ([file, "--journal"], WrongWords, "--journal has nothing behind it"),
+                ([file, "--once"], WrongWords, "--once is for --journal"),
+                ([file, "--journal", "j", "--", "--jobs", "2"], WrongWords, "nothing is called with --journal"),
+                ([file, "--journal", file], Refused, f"{file}, {file}: two of these are one file"),
+                ([file, "--journal", "j", "--html", "j"], Refused, f"{file}, j, j: two of these are one file"),
         ):
             with self.assertRaises(kind, msg=words) as refused:
                 watch.Words(words)
@@ -180,6 +185,78 @@ class Rounds(Room):
         status, output, said = self.watch("f.gcnf", program=self.at("no program"))
         self.assertEqual((status, output), (1, ""))
         self.assertTrue(said.startswith("watch.py: the program can't be started: "), said)
+
+
+def frame(text):
+    """An open gate and a text, whose length stands before it in eight bytes."""
+    return b"\1" + len(text).to_bytes(8, "big") + text
+
+
+class Journals(Room):
+    """Journals are read; the program is never called."""
+
+    FIRST = frame(b"u 1 2 0\nd 51 -51 -52 0 1 2 0\nr 0 51\nw 1 0\nw 2 0\n")
+    SECOND = frame(b"m 2 0\nw 0 0\nd 51 -51 0 1 0\nr 2 51\n")
+    THIRD = frame(b"u 2 3 0\n")
+
+    def hold(self, held):
+        with open(self.at("j"), "wb") as file:
+            file.write(held)
+
+    def test_whole_frames_alone_are_shown_once(self):
+        whole = self.FIRST + self.SECOND
+        for held, found in ((b"", "0 conflicts and 0 corrections"), (b"\0", "0 conflicts and 0 corrections"),
+                            (b"u 1 0", "0 conflicts and 0 corrections"), (self.FIRST + b"\0", "1 conflict and 0 corrections"),
+                            (whole + b"\0", "1 conflict and 1 correction"), (whole + b"\0" + self.THIRD, "1 conflict and 1 correction"),
+                            (whole + b"\2", "1 conflict and 1 correction"), (whole + self.THIRD[:-1], "1 conflict and 1 correction"),
+                            (whole + self.THIRD, "1 conflict and 1 correction"), (whole + b"\1", "1 conflict and 1 correction"),
+                            (whole + b"\1" + b"\xff" * 8 + b"u 1 0\n\0", "1 conflict and 1 correction")):
+            self.hold(held)
+            status, output, said = self.watch("f.gcnf", "--journal", "j", "--once")
+            self.assertEqual((status, said, output.split("\n")[0]), (0, "", found + " are there"), held)
+            with open(self.at("j"), "rb") as file:
+                self.assertEqual(file.read(), held)
+        self.assertEqual(self.files(), ["j"])
+
+    def test_names_and_the_page(self):
+        self.hold(self.FIRST + self.THIRD + self.SECOND + frame(b"m 0\nw 0 0\n") + b"\0")
+        status, output, said = self.watch("f.gcnf", "--journal=j", "--once", "--html=page.html")
+        self.assertEqual((status, said, output.split("\n")), (0, "", [
+            "2 conflicts and 2 corrections are there", "    newest correction: the empty one", "    newest correction: group 2",
+            "    newest conflict: group 2; group 3",
+            "    in most conflicts: group 2 (2); the <first> rule (1); group 3 (1)", ""]))
+        self.assertIn("What clashes in f.gcnf", self.read("page.html"))
+        self.assertEqual(self.files(), ["j", "page.html"])
+
+    def test_what_is_no_record(self):
+        for text in (b"", b"u 1 0", b"x 1 0\n", b"u 51 0\n", b"u 01 0\n", b"e partial\n"):
+            self.hold(self.FIRST + frame(text) + b"\0")
+            status, output, said = self.watch("f.gcnf", "--journal", "j", "--once")
+            self.assertEqual((status, output, said), (
+                1, "", f"watch.py: j: at byte {len(self.FIRST)} it has what is no record of a journal\n"), text)
+        status, output, said = self.watch("f.gcnf", "--journal", "none", "--once")
+        self.assertEqual((status, output, said), (1, "", "watch.py: none: No such file or directory\n"))
+
+    def test_it_follows_until_an_interrupt(self):
+        child = self.start("f.gcnf", "--journal", "j")
+        lines = iter(child.stdout.readline, "")
+        time.sleep(0.5)
+        self.hold(self.FIRST + b"\0")
+        self.assertEqual(next(lines), "1 conflict and 0 corrections are there\n")
+        with open(self.at("j"), "r+b") as file:
+            file.seek(len(self.FIRST) + 1)
+            file.write(self.SECOND[1:] + b"\0")
+            file.flush()
+            file.seek(len(self.FIRST))
+            file.write(b"\1")
+        shown = [next(lines) for _ in range(4)]
+        self.assertRegex(shown[2], r"^1 conflict and 1 correction, after [0-9.]+ s: [0-9]+ sets a minute\n$")
+        self.assertEqual(shown[3], "    newest correction: group 2\n")
+        self.hold(self.SECOND + b"\0")
+        self.assertRegex([next(lines) for _ in range(2)][1], r"^0 conflicts and 1 correction, after ")
+        child.send_signal(signal.SIGTERM)
+        _, said = child.communicate(timeout=30)
+        self.assertEqual((child.returncode, said), (143, ""))
 
 
 @unittest.skipUnless(os.access(BUILT, os.X_OK), f"the program is not built: {BUILT}")

@@ -2,6 +2,7 @@
 """Lists the conflicts and the corrections of a file in rounds, and shows after each what was found.
 
     tools/watch.py FILE [--html PAGE] [-- WORDS]
+    tools/watch.py FILE --journal NAME [--once] [--html PAGE]
 
 The first round lists up to 20 sets, the next up to 40, then 80 and so on, until none is missing. After each round there are
 the counts, the time and some of the newest sets with their names; with --html the PAGE is written anew.
@@ -17,6 +18,10 @@ WORDS may be, as gmus has them:
 --conflicts B   how many clauses each round may learn
 --limit L       the limit of the last round; without it there is none
 --evidence NAME
+
+With --journal nothing is called. NAME is a journal that a run of `gmus list FILE --journal NAME` writes meanwhile, or has
+written: it is read, never changed, and what it has is shown whenever it has more, with the sets a minute, the newest ones and
+the groups in most conflicts. That goes on until an interrupt; with --once it is shown once.
 
 The status at the end is the program's own, and its line stands on standard error: 0 if no set is missing, 3 if a round learnt
 as many clauses as it may, 4 if the last limit was reached, and all others. It is 1 if watch.py refuses something, 2 if the
@@ -35,6 +40,7 @@ import page
 import program
 from report import decoded, named, number_of
 from telling import Refused, bytes_of, run
+from watch_journal import JournalWatch
 from watch_words import MOST, Words
 
 AT_THE_LIMIT = re.compile(rb"gmus: limit of [0-9]+ records reached\n")
@@ -255,7 +261,10 @@ def remove(name):
 
 
 def main(words):
-    watch = Watch(Words(words))
+    asked = Words(words)
+    if asked.journal is not None:
+        return JournalWatch(asked, Stop(), write_whole).looks()
+    watch = Watch(asked)
     try:
         return watch.end(*watch.rounds())
     finally:

@@ -16,18 +16,27 @@ class Words:
 
     def __init__(self, words):
         at = words.index("--") if "--" in words else len(words)
-        self.file, self.page = None, None
+        self.file, self.page, self.journal, self.once = None, None, None, False
         before = list(words[:at])
         while before:
             word = before.pop(0)
-            if word.partition("=")[0] == "--html":
+            option = word.partition("=")[0]
+            if option == "--html":
                 self.page = value_of(word, before)
+            elif option == "--journal":
+                self.journal = value_of(word, before)
+            elif word == "--once":
+                self.once = True
             elif word.startswith("-") or self.file is not None:
                 raise WrongWords(f"{word} can't stand here; words of gmus stand behind --")
             else:
                 self.file = word
         if self.file is None:
             raise WrongWords("a FILE has to be named")
+        if self.journal is not None and at < len(words):
+            raise WrongWords("nothing is called with --journal: no words of gmus can stand behind --")
+        if self.once and self.journal is None:
+            raise WrongWords("--once is for --journal")
         self.options = self.read_options(list(words[at + 1:]))
         self.evidence = self.options.pop("--evidence", None) or self.file + ".evidence"
         limit = self.options.pop("--limit", str(MOST))
@@ -38,10 +47,12 @@ class Words:
 
     def refuse_places(self):
         """Refuses names at which a file would be lost, or could not be written."""
-        places = [name for name in (self.file, self.evidence, self.page) if name is not None]
+        read = [self.file] + ([] if self.journal is None else [self.journal])
+        written = ([self.evidence] if self.journal is None else []) + ([] if self.page is None else [self.page])
+        places = read + written
         if len({os.path.realpath(name) for name in places}) < len(places):
             raise Refused(f"{', '.join(places)}: two of these are one file")
-        for name in places[1:]:
+        for name in written:
             if os.path.exists(name) and not os.path.isfile(name):
                 raise Refused(f"{name}: this is no plain file, and is left as it is")
             if not os.path.isdir(os.path.dirname(os.path.realpath(name))):

@@ -1,0 +1,139 @@
+"""Reads a journal that another run of gmus writes, and shows what it has: whole frames alone, and nothing is changed.
+
+What a journal is stands in docs/FORMATS.md, 'The journal'.
+"""
+import os
+import re
+import time
+
+import page
+from report import decoded, named, number_of, read_problem
+from telling import DONE, Refused, bytes_of
+
+OPEN = 1
+# The length of a text stands in so many bytes, the most significant one first.
+LENGTH = 8
+SET_LINE = re.compile(rb"([um])((?: [1-9][0-9]{0,17})*) 0\n")
+NEWEST, MOST_TOLD, WIDTH = 3, 5, 200
+PAUSE = 1.0
+# Looking and writing take this part of the time at most.
+SHARE = 0.2
+
+
+class Foreign(Exception):
+    """The place at which a journal has what no run writes."""
+
+
+class Journal:
+    """A journal as it is read from its beginning on: `sets` are the lines of its sets, in order."""
+
+    def __init__(self, name, groups):
+        self.name, self.groups = name, groups
+        self.begin()
+
+    def begin(self):
+        self.gate, self.sets, self.first = 0, [], b""
+
+    def look(self):
+        """Reads what came since the last look, and tells whether anything did. It is read anew if it was begun anew."""
+        before = (self.gate, self.first)
+        with open(self.name, "rb") as file:
+            begins = file.read(64)
+            if os.fstat(file.fileno()).st_size < self.gate or not begins.startswith(self.first):
+                self.begin()
+            while self.read_frame(file):
+                pass
+            file.seek(0)
+            self.first = file.read(min(self.gate, 64))
+        return (self.gate, self.first) != before
+
+    def read_frame(self, file):
+        """Reads the frame at the ending gate, if there is a whole one behind an open gate."""
+        file.seek(self.gate)
+        if file.read(1) != bytes([OPEN]):
+            return False
+        length = file.read(LENGTH)
+        size = int.from_bytes(length, "big")
+        left = os.fstat(file.fileno()).st_size - self.gate - 1 - LENGTH
+        if len(length) < LENGTH or size >= left:
+            return False
+        line = SET_LINE.match(file.read(size))
+        if not line or any(int(group) > self.groups for group in line.group(2).split()):
+            raise Foreign(self.gate)
+        self.sets.append(line.group().rstrip(b"\n").decode("ascii"))
+        self.gate += 1 + LENGTH + size
+        return True
+
+
+class JournalWatch:
+    """The looks at one journal."""
+
+    def __init__(self, asked, stop, write_whole):
+        self.asked, self.stop, self.write_whole = asked, stop, write_whole
+        self.file_text = decoded(bytes_of(asked.file))
+        _, groups = read_problem(self.file_text)
+        if groups is None:
+            raise Refused(f"{asked.file}: it has no header 'p gcnf ..' or 'p cnf ..'")
+        self.journal = Journal(asked.journal, groups)
+        self.began, self.at_first, self.known = time.monotonic(), None, 0
+
+    def looks(self):
+        """Looks again and again until it is interrupted, or once if so asked, and gives the status."""
+        while True:
+            begins = time.monotonic()
+            self.one_look()
+            if self.asked.once:
+                return DONE
+            pause = max(PAUSE, (time.monotonic() - begins) / SHARE)
+            ends = time.monotonic() + pause
+            while time.monotonic() < ends:
+                if self.stop.signal is not None:
+                    return 128 + self.stop.signal
+                time.sleep(min(0.1, pause))
+
+    def one_look(self):
+        """Shows what the journal has, if that is more than before."""
+        try:
+            came = self.journal.look()
+        except FileNotFoundError:
+            # The run that makes it may not have come so far.
+            if self.asked.once:
+                raise
+            return
+        except Foreign as at:
+            raise Refused(f"{self.asked.journal}: at byte {at} it has what is no record of a journal") from None
+        if not came and self.at_first is not None:
+            return
+        sets = self.journal.sets
+        self.known = min(self.known, len(sets))
+        report = "\n".join([f"p gmus {self.journal.groups}", "s PARTIAL", *sets,
+                            f"e {sum(line[0] == 'u' for line in sets)} {sum(line[0] == 'm' for line in sets)}", ""])
+        shown = named(self.file_text, report, self.asked.file)
+        self.show(shown, sets[self.known:])
+        self.known = len(sets)
+        if self.at_first is None:
+            self.at_first = len(sets)
+        if self.asked.page is not None:
+            self.write_whole(self.asked.page, page.as_html(shown))
+
+    def show(self, shown, new):
+        seconds = time.monotonic() - self.began
+        found = f"{number_of(len(shown.conflicts), 'conflict', 'conflicts')} and " \
+                f"{number_of(len(shown.corrections), 'correction', 'corrections')}"
+        if self.at_first is None:
+            print(f"{found} are there")
+        else:
+            a_minute = max(0, len(self.journal.sets) - self.at_first) * 60 / max(seconds, 0.001)
+            print(f"{found}, after {seconds:.1f} s: {a_minute:.0f} sets a minute")
+        for line in reversed(new[-NEWEST:]):
+            kind, *members, _ = line.split()
+            tell("newest " + ("conflict" if kind == "u" else "correction"), [shown.name(int(group)) for group in members])
+        most = [(group, conflicts) for group, (conflicts, _) in shown.counts[:MOST_TOLD] if conflicts]
+        if most:
+            tell("in most conflicts", [f"{shown.name(group)} ({conflicts})" for group, conflicts in most])
+        print(end="", flush=True)
+
+
+def tell(what, names):
+    line = f"    {what}: " + ("; ".join(names) or "the empty one")
+    print(line if len(line) <= WIDTH else line[:WIDTH - 1] + "\u2026")
