@@ -2,6 +2,7 @@
 """Writes a GCNF file from named rules.
 
     tools/gcnf.py RULES [--strict] > FILE.gcnf
+    tools/gcnf.py --after OLD.gcnf RULES [--strict] > FILE.gcnf
 
 RULES is a text (- is standard input):
 
@@ -19,28 +20,44 @@ is given up. docs/RULES.md has the whole language.
 
 Names that stand with one sign only are told on standard error, since no clause with such a name is in any conflict, and so
 is a name that they may be meant for. With --strict nothing is written if there is such a name, and the status is 1.
+
+--after OLD.gcnf: the file begins with all of OLD.gcnf, which was made from some of these rules before, and has the new ones
+behind it. RULES are all rules, in any order: those of OLD are known by their names, and keep their numbers. If one of them
+changed or is gone, or if [always] is another, its line is told and the status is 1.
 """
 import sys
 
 import limits
 import rules
 import telling
+from rules_after import Old
 
 
 def main(words):
-    files = [word for word in words if word != "--strict"]
-    unknown = [word for word in files if word.startswith("-") and word != "-"]
-    if unknown:
-        raise telling.WrongWords(f"what is {unknown[0]}?")
+    files, after = [], None
+    words = list(words)
+    is_strict = "--strict" in words
+    while words:
+        word = words.pop(0)
+        option, has_value, value = word.partition("=")
+        if option == "--after" and (has_value or words):
+            after = value if has_value else words.pop(0)
+        elif word.startswith("-") and word not in ("-", "--strict"):
+            raise telling.WrongWords("--after has nothing behind it" if word == "--after" else f"what is {word}?")
+        elif word != "--strict":
+            files.append(word)
     if len(files) != 1:
         raise telling.WrongWords("one file of rules is wanted")
+    if files == ["-"] and after == "-":
+        raise telling.WrongWords("RULES and OLD.gcnf can't both come from standard input")
     made = rules.read(telling.text_of(files[0]), files[0])
     notes = made.notes()
     for note in notes:
         print(f"gcnf.py: {note}", file=sys.stderr)
-    if notes and "--strict" in words:
+    if notes and is_strict:
         raise telling.Refused(f"{files[0]}: with --strict this is refused")
-    file = made.gcnf().encode("utf-8", "replace")
+    text = made.gcnf() if after is None else Old(telling.text_of(after), after).longer(made)
+    file = text.encode("utf-8", "replace")
     if len(file) > limits.BYTES:
         raise telling.Refused(f"{files[0]}: the file would have more than {limits.BYTES:,} bytes")
     sys.stdout.buffer.write(file)
