@@ -8,6 +8,9 @@ FILE is the GCNF or CNF file. Its comments 'c group 7 TEXT' name its groups, in 
 them, their texts are joined by a blank. A group with a name is called a rule. The report comes from the file REPORT, or
 from standard input.
 
+A report of roles is taken too, from `gmus roles FILE`: what is written is which rules are in every conflict, in some, and
+in none.
+
 What is written is a text: first the rules, with how many conflicts and how many corrections each is in. Those in most
 conflicts come first, then those in most corrections. Then the conflicts and the corrections, those of few rules first,
 since they tell most; a correction of one rule is told as a sentence.
@@ -25,6 +28,7 @@ import json
 import sys
 
 import page
+import roles_report
 from report import decoded, named, number_of
 from telling import DONE, Refused, WrongWords, bytes_of, run
 
@@ -139,24 +143,32 @@ class Words:
 def main(words):
     asked = Words(words)
     file, held = asked.files[0], bytes_of(asked.files[0])
-    shown = named(decoded(held), decoded(bytes_of(asked.files[1] if asked.files[1:] else "-")), file)
-    if asked.form == "json":
-        text = as_json(shown)
-    elif asked.form == "html":
-        reasons = None if asked.evidence is None else reasons_of(file, held, asked.evidence)
-        text = page.as_html(shown, reasons)
+    report = decoded(bytes_of(asked.files[1] if asked.files[1:] else "-"))
+    first = ON_A_TERMINAL if asked.first is None and sys.stdout.isatty() else asked.first
+    if roles_report.is_roles(report):
+        if asked.evidence is not None:
+            raise Refused("--why: a report of roles has no conflicts to open")
+        shown = clashing = roles_report.Roles(decoded(held), report, file)
+        text = {"json": roles_report.as_json, "html": roles_report.as_html}.get(
+            asked.form, lambda roles: roles_report.as_text(roles, first))(shown)
     else:
-        first = ON_A_TERMINAL if asked.first is None and sys.stdout.isatty() else asked.first
-        text = as_text(shown, first)
+        shown = named(decoded(held), report, file)
+        clashing = shown.report
+        if asked.form == "json":
+            text = as_json(shown)
+        elif asked.form == "html":
+            text = page.as_html(shown, None if asked.evidence is None else reasons_of(file, held, asked.evidence))
+        else:
+            text = as_text(shown, first)
     sys.stdout.buffer.write(text.encode("utf-8", "replace"))
-    return status_of(shown.report) if asked.fails else DONE
+    return status_of(clashing) if asked.fails else DONE
 
 
 def status_of(report):
     """The status where a clash has to fail."""
     clashes = report.has_clash()
     if clashes is None:
-        raise Refused("whether something clashes is not known: the report is partial, and has no set")
+        raise Refused(f"whether something clashes is not known: {report.UNCLEAR}")
     return CLASH if clashes else DONE
 
 

@@ -43,6 +43,8 @@ def read_problem(text):
 class Report:
     """The sets of a report, as lists of group numbers."""
 
+    UNCLEAR = "the report is partial, and has no set"
+
     def __init__(self, text):
         lines = text.split("\n")
         if lines == [""]:

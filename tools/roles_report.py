@@ -1,0 +1,101 @@
+"""A report of roles, the names that its file gives to groups, and what both say in words: which rules are in every conflict,
+in some, or in none."""
+import html
+import json
+import re
+
+from page import cut, part
+from report import number_of, read_problem
+from telling import Refused, plain
+
+HEAD = "p roles "
+LINE = re.compile(r"r ([1-9][0-9]{0,17}) (every|some|none)")
+VERSION = 1
+# Of each role: its heading, and what it means.
+SECTIONS = (
+    ("every", "In every conflict", "Giving up any one of these alone mends all."),
+    ("some", "In some conflicts", "Each of these clashes with others, and no one of them alone mends all."),
+    ("none", "In no conflict", "None of these clashes with anything."),
+)
+
+
+def is_roles(text):
+    """Whether a report is one of roles."""
+    return text.startswith(HEAD)
+
+
+class Roles:
+    """The groups of each role, ascending, with the names of the file."""
+
+    UNCLEAR = "no rule is in a conflict, and the background may clash with itself"
+
+    def __init__(self, file_text, report_text, file_name):
+        self.names, groups = read_problem(file_text)
+        if groups is None:
+            raise Refused(f"{file_name}: it has no header 'p gcnf ..' or 'p cnf ..'")
+        self.file = plain(file_name.rpartition("/")[2])
+        self.title = f"Which rules clash in {self.file}"
+        self.groups = {role: [] for role, _, _ in SECTIONS}
+        lines = report_text.split("\n")
+        found = re.fullmatch(r"p roles (0|[1-9][0-9]{0,17})", lines[0])
+        if not found or lines[-1] or len(lines) != int(found.group(1)) + 2:
+            raise Refused("the report can't be read: it is cut off, or is no report")
+        if int(found.group(1)) != groups:
+            raise Refused(f"the report can't be read: it is of another file: {file_name} has groups up to {groups}, and it has "
+                          f"them up to {found.group(1)}")
+        for group, line in enumerate(lines[1:-1], 1):
+            found = LINE.fullmatch(line)
+            if not found or int(found.group(1)) != group:
+                raise Refused(f"the report can't be read: line {group + 1} is not of group {group}")
+            self.groups[found.group(2)].append(group)
+
+    def name(self, group):
+        return self.names.get(group, f"group {group}")
+
+    def has_clash(self):
+        """Whether something clashes, or None if the report does not tell: the background may clash with itself."""
+        return True if self.groups["every"] or self.groups["some"] else None
+
+    def summary(self):
+        counts = {role: number_of(len(groups), "rule", "rules") for role, groups in self.groups.items()}
+        if not self.has_clash():
+            return ("No rule is in a conflict: all rules fit together, unless the background clashes with itself.")
+        return f"{counts['every']} in every conflict, {counts['some']} in some, {counts['none']} in none."
+
+    def sections(self):
+        """The lists that have a rule, each behind its heading and what it means."""
+        return [(heading, meaning, self.groups[role]) for role, heading, meaning in SECTIONS if self.groups[role]]
+
+
+def as_text(roles, first=None):
+    """The roles as a text; of each list the first ones alone, if so many are asked for."""
+    lines = [roles.title, "=" * len(roles.title), "", roles.summary()]
+    for heading, meaning, groups in roles.sections():
+        lines += ["", heading, "-" * len(heading), "", meaning, ""]
+        lines += [f"{group:5}  {roles.name(group)}" for group in groups[:first]]
+        if first is not None and len(groups) > first:
+            left = number_of(len(groups) - first, "more is", "more are")
+            lines += ["", f"{left} left: --first {len(groups)} has all of them."]
+    return "".join(line + "\n" for line in lines)
+
+
+def as_json(roles):
+    """The roles as JSON, a list of groups a line."""
+    head = {"version": VERSION, "file": roles.file, "groups": sum(map(len, roles.groups.values())),
+            "names": {str(group): name for group, name in sorted(roles.names.items())}, **roles.groups}
+    return "{\n" + ",\n".join(f'"{key}": {json.dumps(value, ensure_ascii=False)}' for key, value in head.items()) + "\n}\n"
+
+
+def as_html(roles):
+    """The roles as a page that stands by itself."""
+    text = html.escape
+    lines = ["<!DOCTYPE html>", '<html lang="en">', "<head>", '<meta charset="utf-8">',
+             '<meta name="viewport" content="width=device-width, initial-scale=1">',
+             f"<title>{text(roles.title)}</title>", f"<style>\n{part('page.css')}</style>", "</head>",
+             "<body>", f"<h1>{text(roles.title)}</h1>", f"<p>{text(roles.summary())}</p>"]
+    for heading, meaning, groups in roles.sections():
+        lines += [f"<h2>{heading}</h2>", f"<p>{text(meaning)}</p>", "<table>",
+                  '<tr class="head"><th class="n">no.</th><th>rule</th></tr>']
+        lines += [f'<tr><td class="n">{group}</td><td>{text(cut(roles.name(group)))}</td></tr>' for group in groups]
+        lines.append("</table>")
+    return "".join(line + "\n" for line in [*lines, "</body>", "</html>"])
