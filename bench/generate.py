@@ -1,9 +1,10 @@
 #!/usr/bin/env python3
 """Writes a problem of one of several families to standard output, as GCNF.
 
-    bench/generate.py FAMILY --size GROUPS [--seed N]
+    bench/generate.py FAMILY --size GROUPS [--seed N] [--cnf]
 
-The problem has about GROUPS groups. Equal arguments give equal bytes: all choices come from `Random.random`, whose
+The problem has about GROUPS groups; with --cnf it is written as a CNF, in which each clause is a group, those of the
+background too. Equal arguments give equal bytes: all choices come from `Random.random`, whose
 numbers stay the same from one version of Python to the next.
 
 chain           implications from a fact to its denial; some links are there twice
@@ -22,6 +23,8 @@ colour-vertex   a graph and three colours; that a vertex has a colour is a group
 types           statements of a program, which say of its names that they are numbers, texts or lists; each is a group
 net             packages that need others or don't go with others; each such need, clash or wish is a group
 index           the index of a distribution: needs of its packages, which of them don't go together, and wishes are groups
+config          the options of a kernel, each of which needs or selects others; each such line and each wish is a group
+unrolled        a row of cells, each of which follows its neighbours by three gates a step; a step of a cell is a group
 plan            parcels that go from place to place; how a parcel comes to a place at a time is a group
 pigeon          pigeons and fewer holes; that a pigeon has a hole, and that a hole has room for one, are groups
 pigeon-holes    pigeons that fit into some holes each; that a hole has room for one is a group
@@ -90,6 +93,12 @@ class Problem:
     def sizes(self):
         return {"variables": self.variables, "clauses": len(self.clauses), "groups": self.groups,
                 "literals": sum(len(lits) for _, lits in self.clauses)}
+
+    def write_cnf(self, choices, out):
+        """Writes each clause as a group, in an order of chance."""
+        out.write(f"p cnf {self.variables} {len(self.clauses)}\n")
+        for _, lits in choices.shuffled(self.clauses):
+            out.write(" ".join([*map(str, lits), "0"]) + "\n")
 
     def write(self, choices, out):
         """Writes the clauses by groups, and numbers these by chance, so that no program has luck with their order."""
@@ -608,6 +617,89 @@ def index(size, choices):
     return problem
 
 
+def config(size, choices):
+    """The options of a kernel: each stands in a menu, may depend on others, or on one of two, and may select others.
+
+    A menu is an option too. In a choice, which has up to six options, at most one of them is on, and one of them if its menu
+    is. Each such line, and each of 40 wishes, is a group. Two pairs of wishes clash, each since what the one selects in the
+    end is what the other rules out. Nearly all groups are in no conflict.
+    """
+    problem = Problem()
+    wishes, clashes = (4, 1) if size < 1000 else (40, 2)
+    options, below, menus = [problem.variable()], [[]], [0]
+    chosen = set()     # options of a choice, which nothing depends on
+    while size - wishes - clashes - problem.groups > 0:
+        menu = choices.one_of(menus[-50:])
+        if choices.happens(0.02):
+            places = list(range(len(options), len(options) + 2 + int(4 * choices.numbers.random())))
+            for _ in places:
+                options.append(problem.variable())
+                below.append([menu])
+                problem.group([-options[-1], options[menu]])
+            chosen.update(places)
+            problem.group([-options[menu], *[options[place] for place in places]],
+                          *[[-options[one], -options[other]] for one, other in combinations(places, 2)])
+            continue
+        place = len(options)
+        options.append(problem.variable())
+        problem.group([-options[place], options[menu]])
+        needs = [menu]
+        for _ in range(choices.one_of([0, 0, 1, 1, 2, 3])):
+            other = choices.one_of(range(place))
+            if other in chosen:
+                continue
+            if choices.happens(0.3):
+                problem.group([-options[place], options[other], options[choices.one_of(range(place))]])
+            else:
+                problem.group([-options[place], options[other]])
+                needs.append(other)
+        below.append(needs)
+        if choices.happens(0.1):
+            menus.append(place)
+    late = [place for place in range(len(options) // 2, len(options)) if place not in chosen]
+    wished = choices.distinct(late, wishes)
+    for place in wished:
+        problem.group([options[place]])
+    for one, other in zip(wished[:2 * clashes:2], wished[1:2 * clashes:2]):
+        first = choices.one_of(closure(one, below)[1:])
+        second = choices.one_of([place for place in closure(other, below)[1:] if place != first] or [other])
+        problem.group([-options[second], -options[first]])
+    return problem
+
+
+def unrolled(size, choices):
+    """A row of cells over eight steps, or three if there are few groups: a cell becomes left xor (itself or right), if it may.
+
+    How the row begins, and that each cell may change, is the background, and so is how it ends, in which one bit is wrong,
+    from 1,000 groups on two. A correction is a cell at a step, or two, of those that the wrong bits come from.
+    """
+    problem = Problem()
+    circuit = Circuit(problem)
+    steps = 3 if size < 100 else 8
+    width = max(3, round(size / steps))
+    row = [problem.variable() for _ in range(width)]
+    circuit.inputs += row
+    gates = []
+    for _ in range(steps):
+        may = problem.variable()
+        circuit.inputs.append(may)
+        following = []
+        for at, here in enumerate(row):
+            some = circuit.gate("or", here, row[(at + 1) % width])
+            other = circuit.gate("xor", row[at - 1], some)
+            following.append(circuit.gate("and", other, may))
+            gates.append(circuit.gates[-3:])
+        row = following
+    mays = set(circuit.inputs[width:])
+    inputs = {var: var in mays or choices.happens(0.5) for var in circuit.inputs}
+    values = circuit.values(inputs, {})
+    wrong = set(choices.distinct(row, 1 if size < 1000 else 2))
+    problem.always(*[[var if values[var] != (var in wrong) else -var] for var in circuit.inputs + row])
+    for three in gates:
+        problem.group(*[clause for gate in three for clause in gate_clauses(*gate)])
+    return problem
+
+
 class Square:
     """Places in a square, with roads between neighbours."""
 
@@ -701,7 +793,8 @@ def parity(size, choices):
 
 FAMILIES = {"chain": chain, "links": links, "random": random_cnf, "threshold": threshold, "clumps": clumps, "dense": dense,
             "feature": feature, "adder": adder, "multiplier": multiplier, "tripled": tripled, "miter": miter,
-            "colour": colour, "colour-vertex": colour_vertex, "types": types, "net": net, "index": index, "plan": plan,
+            "colour": colour, "colour-vertex": colour_vertex, "types": types, "net": net, "index": index, "config": config,
+            "unrolled": unrolled, "plan": plan,
             "pigeon": pigeon, "pigeon-holes": pigeon_holes, "parity": parity}
 
 
@@ -710,15 +803,19 @@ def main():
     words.add_argument("family", choices=FAMILIES)
     words.add_argument("--size", type=int, required=True, help="about how many groups, from 10 on")
     words.add_argument("--seed", type=int, default=1)
+    words.add_argument("--cnf", action="store_true", help="each clause is a group")
     given = words.parse_args()
     if given.size < 10:
         words.error("--size is at least 10")
     choices = Choices(given.seed)
     problem = FAMILIES[given.family](given.size, choices)
-    for name, size in problem.sizes().items():
+    sizes = problem.sizes()
+    if given.cnf:
+        sizes["groups"] = sizes["clauses"]
+    for name, size in sizes.items():
         if size > LIMITS[name]:
             sys.exit(f"generate.py: {size} {name}, above the limit of {LIMITS[name]}")
-    problem.write(choices, sys.stdout)
+    (problem.write_cnf if given.cnf else problem.write)(choices, sys.stdout)
 
 
 main()

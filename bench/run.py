@@ -128,10 +128,21 @@ big    net            4000  1  -
 big    net            16000 2  -
 big    pigeon         18    1  -
 big    parity         50    1  -
-huge   index          60000 1  40
-huge   index          300000 1 40
-huge   index          1000000 1 40
-huge   net            1000000 1 20
+huge   index          60000 1  1000
+huge   index          300000 1 100
+huge   index          1000000 1 100
+huge   config         60000 1  1000
+huge   config         300000 1 100
+huge   config         1000000 1 100
+huge   unrolled       60000 1  10
+huge   unrolled       300000 1 4
+huge   unrolled-cnf   99000 1  2
+huge   plan           60000 1  -
+huge   plan           208000 1 -
+huge   chain          60000 1  20
+huge   chain          1000000 1 4
+huge   net            60000 1  1000
+huge   net            1000000 1 100
 """.strip().splitlines()]
 
 
@@ -280,10 +291,12 @@ class Bench:
     def row(self, problem):
         file = os.path.join(self.folder, f"{problem.family}-{problem.size}-{problem.seed}.gcnf")
         with open(file, "w") as out:
-            generate = [sys.executable, os.path.join(HERE, "generate.py"), problem.family]
-            subprocess.run([*generate, "--size", problem.size, "--seed", problem.seed], stdout=out, check=True)
+            family = problem.family.removesuffix("-cnf")
+            generate = [sys.executable, os.path.join(HERE, "generate.py"), family, "--size", problem.size, "--seed", problem.seed]
+            subprocess.run([*generate, *(["--cnf"] if family != problem.family else [])], stdout=out, check=True)
         with open(file) as lines:
-            _, _, _, clauses, groups = lines.readline().split()
+            counts = lines.readline().split()[3:]
+        clauses, groups = counts[0], counts[-1]
         results = {name: self.measure(name, problem, file) for name in self.programs}
         agreed = self.agree(file, results)
         best = best_of(results)

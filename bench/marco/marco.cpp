@@ -156,11 +156,15 @@ class Reader {
 public:
     explicit Reader(const std::string& text) : text(text) {}
     bool at_end() { skip(); return at == text.size(); }
-    void expect(const char* word) {
+    bool takes(const char* word) {
         skip();
         size_t length = std::strlen(word);
-        if (text.compare(at, length, word) != 0) fail(BadInput, std::string("input refused: no ") + word);
-        at += length;
+        bool stands = text.compare(at, length, word) == 0;
+        if (stands) at += length;
+        return stands;
+    }
+    void expect(const char* word) {
+        if (!takes(word)) fail(BadInput, std::string("input refused: no ") + word);
     }
     int number(int least, int most) {
         skip();
@@ -200,16 +204,20 @@ static Problem read_problem(const char* name) {
     std::fclose(file);
     Reader reader(text);
     reader.expect("p");
-    reader.expect("gcnf");
+    bool in_groups = reader.takes("gcnf");
+    if (!in_groups) reader.expect("cnf");
     Problem problem;
     problem.variables = reader.number(0, 4194304);
     int clauses = reader.number(0, 16777216);
-    problem.groups = reader.number(0, 1048576);
+    problem.groups = in_groups ? reader.number(0, 1048576) : clauses;
     for (int i = 0; i < clauses; i++) {
         Clause clause;
-        reader.expect("{");
-        clause.group = reader.number(0, problem.groups);
-        reader.expect("}");
+        clause.group = i + 1;
+        if (in_groups) {
+            reader.expect("{");
+            clause.group = reader.number(0, problem.groups);
+            reader.expect("}");
+        }
         while (int lit = reader.number(-problem.variables, problem.variables)) clause.lits.push_back(lit);
         problem.clauses.push_back(std::move(clause));
     }
