@@ -7,5 +7,7 @@ pub mod Laws
 pub mod Index
 pub mod Evidence
 pub mod Explored
+pub mod Roles
 pub mod Rows
 pub mod EvidenceRows
+pub mod RoleRows

@@ -11,8 +11,9 @@
 //! ```
 //!
 //! Literals, assignments and derivations are those of `sat_base`, and can be had from here too. For those who enumerate, a
-//! [`Kind`] says whether a minimal set is a conflict or a correction, a [`Side`] which sets it takes out of the map, and
-//! `specs/Explored.antt` which sets all that was found has explored. A set that is only kept is a [`CompactSet`].
+//! [`Kind`] says whether a minimal set is a conflict or a correction, a [`Side`] which sets it takes out of the map,
+//! `specs/Explored.antt` which sets all that was found has explored, a [`Role`] in which conflicts a group is, and
+//! `specs/Roles.antt` when what was found tells it. A set that is only kept is a [`CompactSet`].
 //!
 //! Start reading at `specs/Sets.antt`, `specs/Problem.antt` and `specs/Minimal.antt`, on which every promise of the
 //! program stands. `specs/Rows.antt` has worked examples that the definitions compute, and the module `laws` what is
@@ -26,6 +27,7 @@ mod index;
 mod kind;
 pub mod laws;
 mod problem;
+mod role;
 mod selectors;
 mod sets;
 
@@ -35,6 +37,7 @@ pub use group_set::GroupSet;
 pub use index::Placed;
 pub use kind::{Kind, Side};
 pub use problem::{Problem, clause_fits};
+pub use role::Role;
 pub use sat_base::{
     Assign, AssignBuilder, Derivation, DerivationBuilder, Hints, Lit, Lits, Purse, Step,
 };
