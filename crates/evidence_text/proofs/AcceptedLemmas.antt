@@ -18,13 +18,14 @@ use Rattle.evidence_rec.specs.declared.record.Record.{Record}
 use Rattle.evidence_rec.specs.declared.record.Record.TheVariants as record_of
 use Rattle.evidence_rec.specs.declared.record.Refutation.{Refutation}
 use Rattle.evidence_rec.specs.declared.record.Refutation.TheVariants.{Steps, Earlier}
-use Rattle.evidence_rec.specs.Records.{founds, numbered_record, is_inside, shows_refuted, IsAccepted, AllAcceptedBehind, AllAccepted}
+use Rattle.evidence_rec.specs.Records.{founds, numbered_record, is_inside, shows_refuted, IsAccepted, IsAcceptedAlone, AllAcceptedBehind, AllAccepted}
 use Rattle.evidence_rec.specs.Seeding.{shows_all_explored}
 use Rattle.evidence_rec.specs.Shorten.{least_serving, naming, shortened_refutations, shortened, shortened_behind, shorten}
 use Rattle.evidence_rec.proofs.ShortenLemmas.{founds-shorten, length-shorten, accepted-shorten}
+use Rattle.evidence_text.specs.declared.version.Version.{Version}
 use Rattle.evidence_text.specs.declared.version.Version.TheVariants.{Two}
 use Rattle.evidence_text.specs.Text.{evidence_text}
-use Rattle.evidence_text.specs.Readable.{IsSmall, IsId, IsReadableStep, IsReadableProof, IsReadableRefutation, IsReadable, IsReadableEnd, HasRefutationIds, HasRecordIds}
+use Rattle.evidence_text.specs.Readable.{IsSmall, IsId, IsReadableStep, IsReadableProof, IsReference, IsReadableRefutation, IsReadable, IsReadableEnd, HasRefutationIds, HasRecordIds}
 use Rattle.evidence_text.specs.Laws.{IsRead}
 use Rattle.evidence_text.proofs.WholeLemmas.{text-is_read}
 
@@ -171,38 +172,62 @@ reference-readable earlier (suc i) passes few h = by (slice_get earlier i) refl 
     by None e t = absurd (false≢true t)
     by (Some r) e t = let lt = slice_get_within earlier i r e in record { from_one = omega arith; in_range = omega arith }
 
-refutation-readable : (p : Problem) (earlier : List Record) (set : List ℕ) (g : ℕ) (r : Refutation) → length earlier ≤ max_id → HasRefutationIds r
-    → shows_refuted p earlier set g r ≡ true → IsReadableRefutation Two (p.vars + p.groups) r
-refutation-readable p earlier set g (Steps d) few ids shows =
+-- the records that a version's lines can name, of those before, wherever one serves
+abbrev pub MayName : Version → List Record → Type 0
+MayName version earlier = (set : List ℕ) (g i : ℕ) → option_map_or (is_inside set g) (numbered_record earlier i) false ≡ true → IsReference version i
+
+refutation-readable : (version : Version) (p : Problem) (earlier : List Record) (set : List ℕ) (g : ℕ) (r : Refutation) → MayName version earlier
+    → HasRefutationIds r → shows_refuted p earlier set g r ≡ true → IsReadableRefutation version (p.vars + p.groups) r
+refutation-readable version p earlier set g (Steps d) names ids shows =
     derivation-readable (p.vars + p.groups) (selector_form p) d (λ l. list_any (λ h. int_eq (left_out p h) l) (complement p.groups (without set g))) shows ids
-refutation-readable p earlier set g (Earlier i) few ids shows = reference-readable earlier i (is_inside set g) few shows
+refutation-readable version p earlier set g (Earlier i) names ids shows = names set g i shows
 
-refutations-readable : (p : Problem) (earlier : List Record) (set gs : List ℕ) (rs : List Refutation) → length earlier ≤ max_id
+refutations-readable : (version : Version) (p : Problem) (earlier : List Record) (set gs : List ℕ) (rs : List Refutation) → MayName version earlier
     → AllByRecursion HasRefutationIds rs → each_passes (shows_refuted p earlier set) gs rs ≡ true
-    → (length rs ≡ length gs) × AllByRecursion (IsReadableRefutation Two (p.vars + p.groups)) rs
-refutations-readable p earlier set [] [] few ids all = (refl, tt)
-refutations-readable p earlier set [] (r ∷ rs) few ids all = absurd (false≢true all)
-refutations-readable p earlier set (g ∷ gs) [] few ids all = absurd (false≢true all)
-refutations-readable p earlier set (g ∷ gs) (r ∷ rs) few ids all =
+    → (length rs ≡ length gs) × AllByRecursion (IsReadableRefutation version (p.vars + p.groups)) rs
+refutations-readable version p earlier set [] [] names ids all = (refl, tt)
+refutations-readable version p earlier set [] (r ∷ rs) names ids all = absurd (false≢true all)
+refutations-readable version p earlier set (g ∷ gs) [] names ids all = absurd (false≢true all)
+refutations-readable version p earlier set (g ∷ gs) (r ∷ rs) names ids all =
     let parts = and_parts (shows_refuted p earlier set g r) (each_passes (shows_refuted p earlier set) gs rs) all in
-    let (count, each) = refutations-readable p earlier set gs rs few ids.1 parts.1 in
-    (omega (arith, count), (refutation-readable p earlier set g r few ids.0 parts.0, each))
+    let (count, each) = refutations-readable version p earlier set gs rs names ids.1 parts.1 in
+    (omega (arith, count), (refutation-readable version p earlier set g r names ids.0 parts.0, each))
 
-pub accepted-readable : (p : Problem) (earlier : List Record) (r : Record) → length earlier ≤ max_id → IsAccepted p earlier r → HasRecordIds r → IsReadable Two p r
-accepted-readable p earlier (record_of.Conflict set d ws) few h ids =
+-- in a version that can name the records before it
+named-readable : (version : Version) (p : Problem) (earlier : List Record) (r : Record) → MayName version earlier → IsAccepted p earlier r → HasRecordIds r
+    → IsReadable version p r
+named-readable version p earlier (record_of.Conflict set d ws) names h ids =
     let (count, each) = witnesses-readable p set set ws h.accepts.witnessed in (
       record { ascends = h.accepts.is_set; in_range = set-up_to p.groups set h.within },
       derivation-readable (p.vars + p.groups) (selector_form p) d (λ l. list_any (λ g. int_eq (left_out p g) l) set) h.accepts.refuted ids,
       count,
       each,
     )
-accepted-readable p earlier (record_of.Correction set w rs) few h ids =
-    let (count, each) = refutations-readable p earlier set set rs few ids h.accepts.refuted in (
+named-readable version p earlier (record_of.Correction set w rs) names h ids =
+    let (count, each) = refutations-readable version p earlier set set rs names ids h.accepts.refuted in (
       record { ascends = h.accepts.is_set; in_range = set-up_to p.groups set h.within },
       witness-length p (complement p.groups set) w h.accepts.witnessed,
       count,
       each,
     )
+
+pub accepted-readable : (p : Problem) (earlier : List Record) (r : Record) → length earlier ≤ max_id → IsAccepted p earlier r → HasRecordIds r → IsReadable Two p r
+accepted-readable p earlier r few h ids =
+    named-readable Two p earlier r (λ set g i serves. reference-readable earlier i (is_inside set g) few serves) h ids
+
+-- with none before it there is none to name, so either version can hold it
+no_record : (i : ℕ) → numbered_record [] i ≡ None
+no_record zero = refl
+no_record (suc i) = by (slice_get [] i) refl
+  where
+    by : (o : Option Record) → slice_get [] i ≡ o → o ≡ None
+    by None e = refl
+    by (Some r) e = absurd (let lt = slice_get_within [] i r e in omega arith)
+
+pub alone-readable : (version : Version) (p : Problem) (r : Record) → IsAcceptedAlone p r → HasRecordIds r → IsReadable version p r
+alone-readable version p r h ids =
+    named-readable version p [] r
+    (λ set g i serves. absurd (false≢true (sym (ap (λ (o : Option Record). option_map_or (is_inside set g) o false) (no_record i)) ∙ serves))) h ids
 
 pub closing-readable : (p : Problem) (found : List Found) (d : Derivation) → shows_all_explored p.groups found d ≡ true → HasIds d → IsReadableProof p.groups d
 closing-readable p found d shows ids = derivation-readable p.groups (map block_clause found) d (λ l. false) shows ids

@@ -14,5 +14,8 @@ pub mod StandsLemmas
 pub mod WordsBackLemmas
 pub mod LinesBackLemmas
 pub mod PlainLemmas
+pub mod FromLinesLemmas
 pub mod WholeLemmas
 pub mod AcceptedLemmas
+pub mod AloneLemmas
+pub mod FormLemmas

@@ -222,7 +222,7 @@ refutations-plain version vars (g ∷ gs) (r ∷ rs) small few all =
     all-append IsPlainLine (refutation_lines g r) (refutations_lines gs rs) (refutation-plain version vars g r small few.0 all.0)
     (refutations-plain version vars gs rs small few.1 all.1)
 
-record-plain : (version : Version) (p : Problem) (r : Record) → p.vars + p.groups < 2 ^ 64 → IsReadable version p r → AllByRecursion IsPlainLine (record_lines r)
+pub record-plain : (version : Version) (p : Problem) (r : Record) → p.vars + p.groups < 2 ^ 64 → IsReadable version p r → AllByRecursion IsPlainLine (record_lines r)
 record-plain version p (record_of.Conflict set d ws) small (ok, good, count, each) = (
   set-plain p (codes "u") set small refl ok,
   all-append IsPlainLine (derivation_lines 0 d) (witnesses_lines set ws) (derivation-plain (p.vars + p.groups) 0 d small (omega arith) good)

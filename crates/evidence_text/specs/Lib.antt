@@ -8,4 +8,5 @@ pub mod Scan
 pub mod Items
 pub mod Cursors
 pub mod Laws
+pub mod Alone
 pub mod Rows

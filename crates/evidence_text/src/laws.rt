@@ -1,5 +1,6 @@
 //! Laws over the definitions alone. Each is the contract of a function that has no code.
 ghost use Rattle.evidence_text.specs.Laws.{PiecesStand, HeadsStand, HeadsAreRead, RecordsAreRead, EndsAreRead, TextsAreTheirLines, TextsAreRead, TextsDiffer, AcceptedAreReadable, ClosingsAreReadable, AcceptedAreRead, ShortenedAreRead};
+ghost use Rattle.evidence_text.specs.Alone.{TextsAreOfRecords, TextsAreOfOne, AcceptedHaveTexts};
 
 /// What is read stands in just the lines that write it.
 pub fn read_is_written()
@@ -23,4 +24,12 @@ pub fn accepted_is_read()
     ensures closing { ClosingsAreReadable }
     ensures texts { AcceptedAreRead }
     ensures shortened { ShortenedAreRead }
+{}
+
+/// Bytes are read as a record exactly where they are its lines, in version 1, and they are those of one record at most; each
+/// record that is accepted with none before it has such lines.
+pub fn record_texts_are_read()
+    ensures exactly { TextsAreOfRecords }
+    ensures one { TextsAreOfOne }
+    ensures accepted { AcceptedHaveTexts }
 {}

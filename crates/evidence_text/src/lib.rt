@@ -34,11 +34,15 @@
 //! }
 //! ```
 //!
+//! A record by itself has a text of its own, in version 1: a [`RecordText`] is made of it, and [`record_of`] reads it.
+//!
 //! Start reading at `specs/Text.antt`, which says what is written, and at `specs/Reading.antt`, which says what is read and
-//! what a text's first offence is; `specs/Reader.antt` has what a reader's answers mean. That the evidence shows what a
+//! what a text's first offence is; `specs/Reader.antt` has what a reader's answers mean, and
+//! `specs/Alone.antt` what the text of one record is. That the evidence shows what a
 //! record says is not looked at here.
 #![tactic(auto)]
 
+mod alone;
 mod answer;
 mod fields;
 mod fitting;
@@ -58,6 +62,7 @@ mod whole;
 mod words;
 mod writing;
 
+pub use alone::{FRONT, RecordAnswer, RecordText, TextParts, record_of};
 pub use answer::Answer;
 pub use fitting::{count_fits, problem_fits, record_fits};
 pub use line_sink::{LineSink, PutError};

@@ -7,6 +7,7 @@
 //!                    replaced by those below
 //! shorten            the text as it is written where each record is written behind those before it
 //! head               its head is asked for twice
+//! alone              the text below is read as one record by itself, and written again where it is accepted
 //! audit              the text below is audited; `audit 8 9` likewise
 //! conflict 1 2       a record begins, with its set; `correction` likewise
 //! proof 5            a derivation for the clause of this id begins
@@ -69,7 +70,7 @@ impl Player for EvidencePlayer {
         match step.word(0) {
             "problem" => self.read_problem(alloc, step),
             "evidence" => self.read_evidence(alloc, step),
-            "read" | "shorten" | "head" | "audit" => match &self.problem {
+            "read" | "shorten" | "head" | "alone" | "audit" => match &self.problem {
                 Some(problem) => call_text(problem, self.evidence.as_slice(), alloc, step, out),
                 None => Ok(false),
             },

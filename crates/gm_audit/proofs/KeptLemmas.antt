@@ -14,7 +14,8 @@ use Rattle.evidence_rec.specs.Records.{kind_of, set_of, Accepts, AllAccepted}
 use Rattle.evidence_rec.specs.Held.{is_held, AreNew}
 use Rattle.evidence_rec.proofs.AcceptedLemmas.{accepted-push}
 use Rattle.evidence_text.specs.declared.version.Version.{Version}
-use Rattle.evidence_text.specs.Readable.{IsSetUpTo, IsReadable}
+use Rattle.evidence_text.specs.Readable.{IsReadable}
+use Rattle.evidence_text.proofs.FormLemmas.{up_to-within, set-readable, shaped-readable}
 use Rattle.gm_audit.specs.declared.auditor.Auditor.{Auditor}
 use Rattle.gm_audit.specs.declared.seen.SeenSets.{SeenSets}
 use Rattle.gm_audit.specs.Refusals.{in_text}
@@ -35,27 +36,12 @@ new-push earlier (x ∷ xs) r new h = (
       (subst (λ ys. is_held ys (kind_of r) (set_of r) ≡ false) (sym (append_assoc earlier (x ∷ []) xs)) h),
 )
 
--- groups of a set up to a number are among all up to it
-up_to-within : (high : ℕ) (set : List ℕ) → IsSetUpTo high set → IsSubset set (all_groups high)
-up_to-within high set ok g inside =
-    has-all_groups high g (AscendsAbove-has 0 set g ok.ascends inside) (at_most set ok.in_range inside)
-  where
-    at_most : (gs : List ℕ) → AllByRecursion (λ h. h ≤ high) gs → has gs g ≡ true → g ≤ high
-    at_most [] all h = absurd (false≢true h)
-    at_most (k ∷ ks) all h =
-        elim (or_cases (eqb k g) (has ks g) h) [
-          | inl here ↦ let same = eqb-true k g here in let le = all.0 in omega arith
-          | inr later ↦ at_most ks all.1 later
-        ]
-
 pub within-form : (p : Problem) (r : Record) → HasForm p r → IsSubset (set_of r) (all_groups p.groups)
 within-form p r h = up_to-within p.groups (set_of r) h.set
 
 -- what is read has its form
 pub form-readable : (version : Version) (p : Problem) (r : Record) → IsReadable version p r → HasForm p r
-form-readable version p (Conflict set proof ws) (ok, good, count, each) =
-    record { set = ok; shaped = (count, All-from_recursion (λ (w : List Bool). length w ≡ p.vars) ws each) }
-form-readable version p (Correction set w rs) (ok, len, count, each) = record { set = ok; shaped = (len, count) }
+form-readable version p r h = record { set = set-readable version p r h; shaped = shaped-readable version p r h }
 
 -- a record that passed joins the others
 pub auditing-push : (p : Problem) (a b : Auditor) (r : Record) → IsAuditing p a → HasForm p r → Accepts p a.records r

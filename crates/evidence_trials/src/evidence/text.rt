@@ -1,9 +1,10 @@
 //! Calls that are about a text of evidence.
 use crate::evidence::reading::{Outcome, read_and_write};
-use evidence_rec::Records;
-use evidence_text::{EvidenceReader, Offence};
+use evidence_rec::{Record, Records};
+use evidence_text::{EvidenceReader, Offence, RecordAnswer, RecordText, record_of};
 use gm_audit::{Audited, audit};
 use gm_base::{Kind, Problem};
+use lawful_fakes::{Lacking, checked};
 use lrat_check::{Counts, Mismatch, Why};
 use std::alloc::{AllocError, Global};
 use std::str;
@@ -22,6 +23,7 @@ pub fn call_text(
         "read" => show_reading(problem, alloc, text.as_slice(), out),
         "shorten" => show_shortened(problem, alloc, text.as_slice(), out),
         "head" => show_head(problem, text.as_slice(), out),
+        "alone" => show_alone(problem, alloc, text.as_slice(), out),
         _ => show_audit(problem, alloc, text.as_slice(), out),
     }
 }
@@ -124,6 +126,37 @@ fn show_answer(answer: Result<(), Offence>, out: &mut String) -> Result<bool, Al
     match answer {
         Ok(()) => show("read", out),
         Err(offence) => show_offence(offence, out),
+    }
+}
+
+/// Tells whether the text is that of one record by itself, and whether it is written as it was where it is accepted with none
+/// before it.
+fn show_alone(
+    problem: &Problem,
+    alloc: Global,
+    text: &[u8],
+    out: &mut String,
+) -> Result<bool, AllocError> {
+    match record_of(alloc, problem, text)? {
+        RecordAnswer::Record(found) => show_written(problem, alloc, text, found, out),
+        RecordAnswer::Offence(offence) => show_offence(offence, out),
+    }
+}
+
+fn show_written(
+    problem: &Problem,
+    alloc: Global,
+    text: &[u8],
+    found: Record,
+    out: &mut String,
+) -> Result<bool, AllocError> {
+    match checked(alloc, problem, found) {
+        Ok(found) => {
+            let written = RecordText::new(alloc, problem, &found)?;
+            show(likeness(text, written.text()), out)
+        }
+        Err(Lacking::Evidence) => show("one record, whose evidence does not show it", out),
+        Err(Lacking::Memory) => Err(AllocError),
     }
 }
 
