@@ -10,6 +10,7 @@ pub mod BlockLemmas
 pub mod Explored
 pub mod SetListLemmas
 pub mod HeldLemmas
+pub mod IndexLemmas
 pub mod ColumnLemmas
 pub mod PlaceLemmas
 pub mod NumberedLemmas

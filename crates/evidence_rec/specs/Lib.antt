@@ -8,6 +8,7 @@ pub mod Basis
 pub mod Rows
 pub mod Blocks
 pub mod Held
+pub mod Index
 pub mod Columns
 pub mod Places
 pub mod Numbered

@@ -12,7 +12,7 @@
 //! }
 //! ```
 //!
-//! A [`RecordChecker`] is made once for many records about one problem. An [`Oracle`] answers whether groups can be
+//! A [`RecordChecker`] is made once for many records about one problem, and [`Held`] finds the sets that records hold. An [`Oracle`] answers whether groups can be
 //! satisfied together, and derives its refutations. A [`MapEngine`] finds sets of groups that no record explores yet.
 //!
 //! A correction is shortened where it names the least earlier conflict that serves, for each group that has one
@@ -27,6 +27,7 @@ mod blocks;
 mod checking;
 mod columns;
 mod engine;
+mod held;
 pub mod laws;
 mod lines;
 mod lists;
@@ -41,6 +42,7 @@ mod witnessing;
 pub use blocks::block_lits;
 pub use checking::{RecordChecker, Verdict, check_record};
 pub use engine::{MapEngine, Seed};
+pub use held::Held;
 pub use lists::{Proofs, Records, Witnesses};
 pub use oracle::{Asked, Oracle};
 pub use record::{Record, Refutation};

@@ -20,11 +20,11 @@ use Rattle.map_core.specs.declared.entry.Entry.{Entry}
 use Rattle.map_core.specs.declared.turn.Worker.{Worker}
 use Rattle.map_core.specs.declared.turn.Turn.{Turn}
 use Rattle.map_core.specs.declared.common.Common.{Common}
-use Rattle.map_core.specs.declared.held.Held.{Held}
+use Rattle.evidence_rec.specs.declared.held.Held.{Held}
 use Rattle.map_core.specs.Core.{State, no_worker, worker_at, opened, turn_at, settle, Takes, Posts, Does, after, CoreStep, CoreRun}
 use Rattle.map_core.specs.Own.{calls_of, CanCall, engine_part}
 use Rattle.map_core.specs.Sound.{IsOpening, IsSound, purse_of, is_live, live_count}
-use Rattle.map_core.specs.Index.{IsIndex}
+use Rattle.evidence_rec.specs.Index.{IsIndex}
 use Rattle.std.specs.Option.{option_or}
 use Rattle.map_core.specs.Asked.{GivesProof}
 use Rattle.map_core.specs.Closings.{HaveEnded}

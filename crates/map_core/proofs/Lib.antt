@@ -1,7 +1,6 @@
 pub mod Turns
 pub mod Steps
 pub mod Explored
-pub mod Index
 pub mod Searched
 pub mod Kept
 pub mod Told

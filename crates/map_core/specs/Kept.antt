@@ -15,11 +15,11 @@ use Rattle.map_core.specs.declared.entry.Reply.TheVariants.{Dry}
 use Rattle.map_core.specs.declared.entry.Entry.{Entry}
 use Rattle.map_core.specs.declared.turn.Worker.{Worker}
 use Rattle.map_core.specs.declared.common.Common.{Common}
-use Rattle.map_core.specs.declared.held.Held.{Held}
+use Rattle.evidence_rec.specs.declared.held.Held.{Held}
 use Rattle.map_core.specs.Core.{State, CoreStep, IsReached, worker_at}
 use Rattle.map_core.specs.Own.{engine_used_in}
 use Rattle.map_core.specs.Sound.{IsOpening, live_count}
-use Rattle.map_core.specs.Index.{IsIndex}
+use Rattle.evidence_rec.specs.Index.{IsIndex}
 
 -- the state that these parts make; the opening's records are the first ones
 abbrev pub state_of : Bool → Problem → ℕ → ℕ → ℕ → Common → List Record → List Worker → List Entry → State

@@ -3,7 +3,6 @@ pub mod Own
 pub mod Replies
 pub mod Sound
 pub mod Laws
-pub mod Index
 pub mod Asked
 pub mod Kept
 pub mod Opens

@@ -7,15 +7,14 @@ ghost use Rattle.lrat_steps.specs.Log.{learned_count};
 ghost use Rattle.evidence_rec.specs.Records.{kind_of, set_of, found_of, founds, IsAcceptedAlone};
 ghost use Rattle.evidence_rec.specs.Seeding.{IsHonestMap, blocked};
 ghost use Rattle.map_core.specs.Core.{Posts};
-ghost use Rattle.map_core.specs.Index.{holds, Gains, IsSameHeld, IsIndex};
+ghost use Rattle.evidence_rec.specs.Index.{holds, Gains, IsSameHeld, IsIndex};
 ghost use Rattle.map_core.specs.Replies.{post_reply};
 ghost use Rattle.map_core.specs.declared.replies.Posted.TheVariants.{New};
 
 use crate::entry::{Entry, Reply};
-use crate::held::Held;
 use crate::replies::Posted;
 use crate::turn::Turn;
-use evidence_rec::{MapEngine, Record};
+use evidence_rec::{Held, MapEngine, Record};
 use gm_base::{GroupSet, Kind, Side};
 use std::alloc::{AllocError, Global};
 

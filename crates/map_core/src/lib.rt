@@ -25,7 +25,6 @@ mod calls;
 mod closing;
 mod common;
 mod entry;
-mod held;
 pub mod laws;
 mod open;
 mod regrant;

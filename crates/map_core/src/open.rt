@@ -5,13 +5,12 @@ ghost use Rattle.lrat_steps.specs.Log.{learned_count};
 ghost use Rattle.evidence_rec.specs.Seeding.{IsHonestMap};
 ghost use Rattle.evidence_rec.specs.Records.{kind_of, set_of, found_of, founds};
 ghost use Rattle.map_core.specs.Core.{new_worker};
-ghost use Rattle.map_core.specs.Index.{Gains, IsIndex};
+ghost use Rattle.evidence_rec.specs.Index.{Gains, IsIndex};
 ghost use Rattle.map_core.specs.Opens.{IsWithin};
 
 use crate::admit::side_of;
-use crate::held::Held;
 use crate::turn::Worker;
-use evidence_rec::{MapEngine, Record};
+use evidence_rec::{Held, MapEngine, Record};
 use std::alloc::{AllocError, Global};
 
 /// Gives the engine the block of a record, and puts its set into the index.

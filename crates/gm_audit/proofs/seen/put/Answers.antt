@@ -2,7 +2,7 @@ use Rattle.std.proofs.Common.{◌∙◌}
 use Rattle.std.specs.Ordering.{nat_cmp}
 use Rattle.std.specs.Cmp.Lexicographic.{slice_cmp}
 use Rattle.std.specs.BTreeSet.{contains_by}
-use Rattle.gm_audit.proofs.SeenLemmas.{gained}
+use Rattle.evidence_rec.proofs.IndexLemmas.{gained}
 use Rattle.gm_audit.proofs.seen.put.Goals as goal
 
 pub returns-clause-sees : goal.returns-clause-sees

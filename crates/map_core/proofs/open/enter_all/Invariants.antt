@@ -2,7 +2,7 @@ use Rattle.std.proofs.Common.{◌≡◌, take}
 use Rattle.lrat_steps.specs.Log.{learned_count}
 use Rattle.evidence_rec.specs.Seeding.{IsHonestMap}
 use Rattle.evidence_rec.specs.Records.{founds}
-use Rattle.map_core.specs.Index.{IsIndex}
+use Rattle.evidence_rec.specs.Index.{IsIndex}
 use Rattle.map_core.proofs.open.enter_all.Given as goal
 
 -- the records so far are blocked and in the index

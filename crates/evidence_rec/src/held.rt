@@ -3,7 +3,7 @@ ghost use Rattle.std.specs.Prelude.{◌≡◌, ℕ, not, ◌&&◌, ◌||◌, Lis
 ghost use Rattle.std.specs.Ordering.{nat_cmp};
 ghost use Rattle.std.specs.Cmp.Lexicographic.{slice_cmp};
 ghost use Rattle.std.specs.BTreeSet.{contains_by};
-ghost use Rattle.map_core.specs.Core.{same_set};
+ghost use Rattle.evidence_rec.specs.Held.{same_set};
 
 use gm_base::{GroupSet, Kind};
 use std::alloc::{AllocError, Global};
@@ -31,7 +31,7 @@ fn take_out(sets: &mut BTreeSet<GroupSet>, set: &GroupSet)
 }
 
 impl Held {
-    ghost use Rattle.map_core.specs.Index.{holds, Gains, Loses, IsSameHeld, HoldsNothing};
+    ghost use Rattle.evidence_rec.specs.Index.{holds, Gains, Loses, IsSameHeld, HoldsNothing};
 
     pub fn new(alloc: Global) -> Held
         ensures { HoldsNothing result }

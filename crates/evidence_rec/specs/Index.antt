@@ -6,8 +6,8 @@ use Rattle.std.specs.BTreeSet.{contains_by}
 use Rattle.gm_base.specs.declared.kind.Kind.{Kind}
 use Rattle.gm_base.specs.declared.kind.Kind.TheVariants.{Conflict, Correction}
 use Rattle.evidence_rec.specs.declared.record.Record.{Record}
-use Rattle.map_core.specs.declared.held.Held.{Held}
-use Rattle.map_core.specs.Core.{same_kind, same_set, and_also, is_held}
+use Rattle.evidence_rec.specs.declared.held.Held.{Held}
+use Rattle.evidence_rec.specs.Held.{same_kind, same_set, and_also, is_held}
 
 abbrev pub holds : Held → Kind → List ℕ → Bool
 holds held Conflict set = contains_by (slice_cmp nat_cmp set) held.conflicts
