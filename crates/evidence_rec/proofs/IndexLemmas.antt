@@ -8,7 +8,7 @@ use Rattle.evidence_rec.specs.declared.record.Record.{Record}
 use Rattle.evidence_rec.specs.declared.held.Held.{Held}
 use Rattle.evidence_rec.specs.Records.{kind_of, set_of}
 use Rattle.evidence_rec.specs.Held.{same_kind, same_set, and_also, is_held}
-use Rattle.evidence_rec.specs.Index.{holds, Gains, IsIndex}
+use Rattle.evidence_rec.specs.Index.{Gains, IsIndex}
 
 pub gained : (a : List ℕ) (q : List ℕ) (b : Bool) → cond (is_eq (slice_cmp nat_cmp a q)) true b ≡ (same_set a q || b)
 gained a q b = ap (λ x. cond x true b) (sym (texts_ties a q)) ∙ by (same_set a q)
@@ -25,13 +25,15 @@ lost a q b = ap (λ x. cond x false b) (sym (texts_ties a q)) ∙ by (same_set a
     by true = refl
     by false = refl
 
--- what holds the sets of the records, and one set more, holds those of the records with one more
-pub held-push : (records : List Record) (r : Record) (old new : Kind → List ℕ → Bool) → ((k : Kind) (q : List ℕ) → old k q ≡ is_held records k q)
-    → ((k : Kind) (q : List ℕ) → new k q ≡ (and_also (same_kind (kind_of r) k) (same_set (set_of r) q) || old k q))
-    → (k : Kind) (q : List ℕ) → new k q ≡ is_held (records ++ r ∷ []) k q
-held-push records r old new all more k q =
-    more k q ∙ ap (λ b. is_it k q r || b) (all k q) ∙ turned (is_it k q r) (is_held records k q)
-    ∙ sym (list_any-append (is_it k q) records (r ∷ []))
+-- the set of one more record
+pub index-push : (records : List Record) (r : Record) (old new : Held) → IsIndex old records → Gains (kind_of r) (set_of r) old new
+    → IsIndex new (records ++ r ∷ [])
+index-push records r old new all more =
+    record {
+      at = λ k q.
+          more.at k q ∙ ap (λ b. is_it k q r || b) (all.at k q) ∙ turned (is_it k q r) (is_held records k q)
+          ∙ sym (list_any-append (is_it k q) records (r ∷ []));
+    }
   where
     is_it : Kind → List ℕ → Record → Bool
     is_it k q s = and_also (same_kind (kind_of s) k) (same_set (set_of s) q)
@@ -41,7 +43,3 @@ held-push records r old new all more k q =
     turned true false = refl
     turned false true = refl
     turned false false = refl
-
-pub index-push : (records : List Record) (r : Record) (old new : Held) → IsIndex old records → Gains (kind_of r) (set_of r) old new
-    → IsIndex new (records ++ r ∷ [])
-index-push records r old new all more = record { at = held-push records r (holds old) (holds new) all.at more.at }

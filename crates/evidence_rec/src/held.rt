@@ -1,5 +1,5 @@
 //! Which sets are held, by kind, in the order of sets.
-ghost use Rattle.std.specs.Prelude.{◌≡◌, ℕ, not, ◌&&◌, ◌||◌, List, OnOk, OnErr};
+ghost use Rattle.std.specs.Prelude.{◌≡◌, ℕ, not, ◌&&◌, ◌||◌, List, IfOk, OnOk, OnErr};
 ghost use Rattle.std.specs.Ordering.{nat_cmp};
 ghost use Rattle.std.specs.Cmp.Lexicographic.{slice_cmp};
 ghost use Rattle.std.specs.BTreeSet.{contains_by};
@@ -16,12 +16,14 @@ pub struct Held {
     pub corrections: BTreeSet<GroupSet>,
 }
 
-fn put(sets: &mut BTreeSet<GroupSet>, set: GroupSet) -> Result<(), AllocError>
+// Puts a set among the others, and tells whether it is new there.
+fn put(sets: &mut BTreeSet<GroupSet>, set: GroupSet) -> Result<bool, AllocError>
+    ensures new { IfOk result (λ new. new ≡ not (contains_by (slice_cmp nat_cmp set) sets.old)) }
     ensures ok { OnOk result ((q : List ℕ) → contains_by (slice_cmp nat_cmp q) sets.new ≡ (same_set set q || contains_by (slice_cmp nat_cmp q) sets.old)) }
     ensures err { OnErr result (sets.new.keys ≡ sets.old.keys) }
 {
-    sets.insert(set)?;
-    Ok(())
+    let new = sets.insert(set)?;
+    Ok(new)
 }
 
 fn take_out(sets: &mut BTreeSet<GroupSet>, set: &GroupSet)
@@ -33,6 +35,7 @@ fn take_out(sets: &mut BTreeSet<GroupSet>, set: &GroupSet)
 impl Held {
     ghost use Rattle.evidence_rec.specs.Index.{holds, Gains, Loses, IsSameHeld, HoldsNothing};
 
+    /// No set. It takes no memory.
     pub fn new(alloc: Global) -> Held
         ensures { HoldsNothing result }
     {
@@ -51,7 +54,9 @@ impl Held {
         }
     }
 
-    pub fn add(&mut self, kind: Kind, set: GroupSet) -> Result<(), AllocError>
+    /// One set more, which may be there already: whether it is new.
+    pub fn add(&mut self, kind: Kind, set: GroupSet) -> Result<bool, AllocError>
+        ensures new { IfOk result (λ new. new ≡ not (holds self.old kind set)) }
         ensures ok { OnOk result (Gains kind set self.old self.new) }
         ensures err { OnErr result (IsSameHeld self.old self.new) }
     {

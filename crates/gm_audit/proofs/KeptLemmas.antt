@@ -1,15 +1,10 @@
 -- What an audit keeps with one more record.
-use Rattle.std.proofs.Common.{◌≡◌, ℕ, ◌≤◌, Bool, length, true, false, List, [], ◌∷◌, ◌++◌, Option, Some, None, refl, sym, ◌∙◌, ap, subst, inl, inr, eqb, arith, append_assoc, append-nil}
-use Rattle.std.specs.List.{AllByRecursion}
-use Rattle.std.proofs.lemmas.List.Elements.{All-from_recursion}
-use Rattle.std.proofs.lemmas.Bool.{false≢true, or_cases, eqb-true}
+use Rattle.std.proofs.Common.{◌≡◌, ℕ, Bool, true, false, List, [], ◌∷◌, ◌++◌, Option, Some, None, refl, sym, ◌∙◌, ap, subst, append_assoc, append-nil}
 use Rattle.gm_base.specs.Sets.{has, IsSubset, all_groups}
-use Rattle.gm_base.proofs.SetLemmas.{AscendsAbove-has, has-all_groups}
 use Rattle.gm_base.specs.declared.kind.Kind.{Kind}
 use Rattle.gm_base.specs.Problem.{Problem}
 use Rattle.lrat_check.specs.declared.why.Why.{Why}
 use Rattle.evidence_rec.specs.declared.record.Record.{Record}
-use Rattle.evidence_rec.specs.declared.record.Record.TheVariants.{Conflict, Correction}
 use Rattle.evidence_rec.specs.Records.{kind_of, set_of, Accepts, AllAccepted}
 use Rattle.evidence_rec.specs.Held.{is_held, AreNew}
 use Rattle.evidence_rec.proofs.AcceptedLemmas.{accepted-push}
@@ -17,11 +12,11 @@ use Rattle.evidence_text.specs.declared.version.Version.{Version}
 use Rattle.evidence_text.specs.Readable.{IsReadable}
 use Rattle.evidence_text.proofs.FormLemmas.{up_to-within, set-readable, shaped-readable}
 use Rattle.gm_audit.specs.declared.auditor.Auditor.{Auditor}
-use Rattle.gm_audit.specs.declared.seen.SeenSets.{SeenSets}
+use Rattle.evidence_rec.specs.declared.held.Held.{Held}
 use Rattle.gm_audit.specs.Refusals.{in_text}
-use Rattle.gm_audit.specs.Seen.{sees, SeesOneMore, SeesAll}
+use Rattle.evidence_rec.specs.Index.{holds, Gains, IsIndex}
 use Rattle.gm_audit.specs.Inside.{HasForm, IsAuditing}
-use Rattle.gm_audit.proofs.SeenLemmas.{sees-push}
+use Rattle.evidence_rec.proofs.IndexLemmas.{index-push}
 
 pub in_text-none : (line : ℕ) (part : Option (ℕ × Why)) → in_text line part ≡ None → part ≡ None
 in_text-none line None h = refl
@@ -45,12 +40,12 @@ form-readable version p r h = record { set = set-readable version p r h; shaped 
 
 -- a record that passed joins the others
 pub auditing-push : (p : Problem) (a b : Auditor) (r : Record) → IsAuditing p a → HasForm p r → Accepts p a.records r
-    → SeesOneMore (kind_of r) (set_of r) a.seen b.seen → sees a.seen (kind_of r) (set_of r) ≡ false
+    → Gains (kind_of r) (set_of r) a.seen b.seen → holds a.seen (kind_of r) (set_of r) ≡ false
     → b.checker ≡ a.checker → b.records ≡ a.records ++ r ∷ [] → IsAuditing p b
 auditing-push p a b r ok form accepts more new checker records =
     record {
       basis = checker ∙ ok.basis;
-      seen = subst (SeesAll b.seen) (sym records) (sees-push a.records r a.seen b.seen ok.seen more);
+      seen = subst (IsIndex b.seen) (sym records) (index-push a.records r a.seen b.seen ok.seen more);
       accepted =
           subst (AllAccepted p) (sym records)
           (accepted-push p a.records r ok.accepted (record { within = within-form p r form; accepts = accepts }));
@@ -60,13 +55,13 @@ auditing-push p a b r ok form accepts more new checker records =
     }
 
 -- the same, where its kind and its set were looked at beside it
-pub passed-push : (p : Problem) (a b : Auditor) (r : Record) (kind : Kind) (set : List ℕ) (seen : SeenSets) → IsAuditing p a
-    → HasForm p r → Accepts p a.records r → kind ≡ kind_of r → set ≡ set_of r → SeesOneMore kind set a.seen seen
-    → sees a.seen kind set ≡ false → b.checker ≡ a.checker → b.seen ≡ seen → b.records ≡ a.records ++ r ∷ []
+pub passed-push : (p : Problem) (a b : Auditor) (r : Record) (kind : Kind) (set : List ℕ) (seen : Held) → IsAuditing p a
+    → HasForm p r → Accepts p a.records r → kind ≡ kind_of r → set ≡ set_of r → Gains kind set a.seen seen
+    → holds a.seen kind set ≡ false → b.checker ≡ a.checker → b.seen ≡ seen → b.records ≡ a.records ++ r ∷ []
     → IsAuditing p b
 passed-push p a b r kind set seen ok form accepts of is more new checker sees_is records =
     auditing-push p a b r ok form accepts
-    (subst (λ s. SeesOneMore (kind_of r) (set_of r) a.seen s) (sym sees_is)
-    (subst (λ s. SeesOneMore (kind_of r) s a.seen seen) is (subst (λ k. SeesOneMore k set a.seen seen) of more)))
-    (sym (ap (λ k. sees a.seen k (set_of r)) of) ∙ sym (ap (sees a.seen kind) is) ∙ new)
+    (subst (λ s. Gains (kind_of r) (set_of r) a.seen s) (sym sees_is)
+    (subst (λ s. Gains (kind_of r) s a.seen seen) is (subst (λ k. Gains k set a.seen seen) of more)))
+    (sym (ap (λ k. holds a.seen k (set_of r)) of) ∙ sym (ap (holds a.seen kind) is) ∙ new)
     checker records

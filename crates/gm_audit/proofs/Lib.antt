@@ -1,4 +1,3 @@
-pub mod SeenLemmas
 pub mod BlocksLemmas
 pub mod ExactLemmas
 pub mod KeptLemmas

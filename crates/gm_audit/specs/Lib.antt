@@ -1,4 +1,3 @@
 pub mod Refusals
 pub mod Audits
-pub mod Seen
 pub mod Inside

@@ -5,8 +5,7 @@ ghost use Rattle.gm_audit.specs.Audits.{refusal_of, TellsKept};
 
 use crate::answer::Audited;
 use crate::closing::{closing_offence, offence_of};
-use crate::seen::SeenSets;
-use evidence_rec::{Record, RecordChecker, Records};
+use evidence_rec::{Held, Record, RecordChecker, Records};
 use evidence_text::Offence;
 use gm_base::{Derivation, Problem};
 use lrat_check::Why;
@@ -16,7 +15,7 @@ use std::alloc::{AllocError, Global};
 #[derive(Drop)]
 pub struct Auditor {
     pub checker: RecordChecker,
-    pub seen: SeenSets,
+    pub seen: Held,
     pub records: Records,
 }
 
@@ -30,7 +29,7 @@ impl Auditor {
     {
         Ok(Auditor {
             checker: RecordChecker::new(alloc, problem)?,
-            seen: SeenSets::new(alloc),
+            seen: Held::new(alloc),
             records: Records::new(alloc),
         })
     }

@@ -21,7 +21,6 @@ mod auditing;
 mod auditor;
 mod closing;
 pub mod laws;
-mod seen;
 
 pub use answer::Audited;
 pub use auditing::audit;

@@ -31,7 +31,8 @@ fn enter<M: MapEngine>(
     let kind = opening.kind();
     engine.block(alloc, opening.set(), side_of(kind))?;
     let key = opening.set().copy(alloc)?;
-    held.add(kind, key)
+    held.add(kind, key)?;
+    Ok(())
 }
 
 /// Gives the engine the blocks of the records, and makes their index.

@@ -2,7 +2,7 @@ use Rattle.std.proofs.Common.{◌∙◌, ◌++◌, ◌∷◌, [], refl, sym}
 use Rattle.std.proofs.lemmas.Bool.{not-true}
 use Rattle.evidence_rec.specs.Verdicts.{refusal_by}
 use Rattle.gm_audit.specs.declared.auditor.Auditor.{Auditor}
-use Rattle.gm_audit.specs.Seen.{sees}
+use Rattle.evidence_rec.specs.Index.{holds}
 use Rattle.gm_audit.proofs.KeptLemmas.{in_text-none, passed-push}
 use Rattle.gm_audit.proofs.auditor.Auditor.refusal.Goals as goal
 
@@ -19,6 +19,6 @@ returns-clause-auditing c =
     (in_text-none c.args.line (refusal_by c.in_ok-verdict.verdict) (sym c.in_ok-refusal.ensures ∙ none)))
     c.kind.ensures
     (c.in_ok-set.ensures ∙ c.set.ensures)
-    c.in_ok-add.ensures.sees
-    (not-true (sees old.seen c.kind.result c.in_ok-set.set) (sym c.in_ok-add.ensures.new ∙ c.if-not-branch.false))
+    c.in_ok-add.ensures.ok
+    (not-true (holds old.seen c.kind.result c.in_ok-set.set) (sym c.in_ok-add.ensures.new ∙ c.if-not-branch.false))
     c.check.ensures.same refl refl
