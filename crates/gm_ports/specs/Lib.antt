@@ -1,5 +1,8 @@
 pub mod Faults
 pub mod FilesState
+pub mod DiskState
+pub mod MemDisk
+pub mod MemDiskLaws
 pub mod MemFiles
 pub mod SureFiles
 pub mod MemSink
