@@ -1,0 +1,4 @@
+pub mod Frames
+pub mod Reading
+pub mod Salvage
+pub mod Rows
