@@ -3,17 +3,20 @@
 //! | script | what its calls are made of | player |
 //! |---|---|---|
 //! | `ports` | files and sinks in memory | `ports.rt` |
+//! | `journal` | journals on a disk in memory | `journal.rt` |
 //! | `words` | command lines | `words.rt` |
 //! | `texts` | tokens, problems and reports | `texts.rt` |
 //!
 //! `trial_script` says what a script is, and the head of each player which calls it knows. Start reading at `words.rt`.
 #![tactic(auto)]
 
+mod journal;
 mod ports;
 mod shown;
 mod texts;
 mod words;
 
+use journal::JournalPlayer;
 use ports::PortsPlayer;
 use std::{env, io};
 use texts::TextsPlayer;
@@ -31,6 +34,7 @@ fn main(rt: HostRuntime) -> io::Result<()> {
 fn play_script(rt: &HostRuntime, name: &str) -> io::Result<()> {
     match name.strip_prefix("data/").unwrap_or(name) {
         "ports" => play(rt, name, &mut PortsPlayer::new(rt.alloc())),
+        "journal" => play(rt, name, &mut JournalPlayer::new(rt.alloc())),
         "words" => play(rt, name, &mut WordsPlayer),
         "texts" => play(rt, name, &mut TextsPlayer::new(rt.alloc())),
         _ => println!(rt; "? {name}"),
