@@ -1,5 +1,6 @@
 -- What the four device calls of an append leave, one after the other.
-use Rattle.std.proofs.Common.{◌≡◌, ◌≢◌, inl, ℕ, ◌+◌, ◌≤◌, List, [], ◌∷◌, ◌++◌, length, drop, Option, Some, IfSome, refl, sym, ◌∙◌, ap, subst, arith, append_assoc}
+use Rattle.std.proofs.Common.{◌≡◌, ◌≢◌, inl, ℕ, ◌+◌, ◌≤◌, ◌<◌, List, [], ◌∷◌, ◌++◌, length, take, drop, Option, Some, None, IfSome, length-append, refl, sym, ◌∙◌, ap, subst, arith, append_assoc}
+use Rattle.std.proofs.lemmas.List.{length-take-le}
 use Rattle.gm_ports.specs.DiskState.{DiskState, IsLawful, Looks, Writes, Only, Torn, written, AtEachMoment}
 use Rattle.gm_ports.proofs.Moments.{AtEachMoment-none, AtEachMoment-call}
 use Rattle.disk_frames.specs.Frames.{body, frames, HoldsTexts, HoldsWithOrWithout, IsSettled}
@@ -120,3 +121,16 @@ module _ (s0 : DiskState) (texts : List (List ℕ)) (text piece : List ℕ) (at 
         pub appended : IfSome s2.reads (λ bytes. at ≤ length bytes → s3.reads ≡ Some (written bytes at (1 ∷ [])))
             → IfSome s3.reads (λ bytes. Only bytes s4.may_leave) → IsSettled s4 (texts ++ text ∷ []) (at + 9 + length text)
         appended opened settles = gate_settled s2 texts text at staged s3 s4 opened fourth settles
+
+-- what the two writes make of the bytes
+pub both_written : (old wrote synced opened new : Option (List ℕ)) (gate : ℕ) (piece exact : List ℕ) → piece ≡ exact
+    → IfSome old (λ bytes. gate + 1 ≤ length bytes → wrote ≡ Some (written bytes (gate + 1) piece)) → synced ≡ wrote
+    → IfSome synced (λ bytes. gate ≤ length bytes → opened ≡ Some (written bytes gate (1 ∷ []))) → new ≡ opened
+    → IfSome old (λ bytes. gate < length bytes → new ≡ Some (written (written bytes (gate + 1) exact) gate (1 ∷ [])))
+both_written None wrote synced opened new gate piece exact is first same second last = tt
+both_written (Some bytes) wrote synced opened new gate piece exact is first same second last = λ inside.
+    let reads : synced ≡ Some (written bytes (gate + 1) piece) = same ∙ first (omega arith) in
+    let long : gate ≤ length (written bytes (gate + 1) piece) =
+    omega (arith, length-append (take (gate + 1) bytes ++ piece) (drop (gate + 1 + length piece) bytes), length-append (take (gate + 1) bytes) piece, length-take-le (gate + 1) bytes (omega arith)) in
+    last ∙ told_of synced (written bytes (gate + 1) piece) (λ text. gate ≤ length text → opened ≡ Some (written text gate (1 ∷ []))) reads second long
+    ∙ ap (λ (l : List ℕ). Some (written (written bytes (gate + 1) l) gate (1 ∷ []))) is

@@ -1,5 +1,5 @@
 -- What the device calls of a start leave.
-use Rattle.std.proofs.Common.{◌≡◌, ◌≢◌, ℕ, ◌≤◌, List, [], ◌∷◌, ◌++◌, length, Some, None, IfSome, refl, sym, ◌∙◌, ap, arith}
+use Rattle.std.proofs.Common.{Option, ◌≡◌, ◌≢◌, ℕ, ◌≤◌, List, [], ◌∷◌, ◌++◌, length, Some, None, IfSome, refl, sym, ◌∙◌, ap, arith}
 use Rattle.gm_ports.specs.DiskState.{DiskState, Looks, Only, written}
 use Rattle.disk_frames.specs.Frames.{frames, HoldsTexts, IsSettled}
 use Rattle.disk_frames.specs.Salvage.{first_of, IsReadTo}
@@ -43,3 +43,11 @@ module _ (disk : DiskState) (texts : List (List ℕ)) (place : ℕ) where
         ends = read.ends.gate_is;
         durable = told_of wrote.reads (0 ∷ []) (λ bytes. Only bytes new.may_leave) reads durable;
       }
+
+-- one byte is written between two syncs, and nothing else
+pub once_written : (old synced wrote new : Option (List ℕ)) (place : ℕ) → synced ≡ old
+    → IfSome synced (λ bytes. place ≤ length bytes → wrote ≡ Some (written bytes place (0 ∷ []))) → new ≡ wrote
+    → IfSome old (λ bytes. place ≤ length bytes → new ≡ Some (written bytes place (0 ∷ [])))
+once_written None synced wrote new place first write last = tt
+once_written (Some bytes) synced wrote new place first write last = λ inside.
+    last ∙ told_of synced bytes (λ text. place ≤ length text → wrote ≡ Some (written text place (0 ∷ []))) first write inside

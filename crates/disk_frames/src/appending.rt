@@ -1,8 +1,8 @@
 //! Adding a text at the end.
-ghost use Rattle.std.specs.Prelude.{◌≡◌, ◌+◌, ◌^◌, ◌<◌, ◌≤◌, ℕ, List, ◌++◌, ◌∷◌, [], IfOk, OnOk, length};
+ghost use Rattle.std.specs.Prelude.{◌≡◌, ◌+◌, ◌^◌, ◌<◌, ◌≤◌, ℕ, List, ◌++◌, ◌∷◌, [], Some, IfOk, OnOk, IfSome, length};
 ghost use Rattle.gm_ports.specs.Faults.{HasCause};
-ghost use Rattle.gm_ports.specs.DiskState.{TellsStill, AtEachMoment};
-ghost use Rattle.disk_frames.specs.Frames.{HoldsWithOrWithout, IsSettled};
+ghost use Rattle.gm_ports.specs.DiskState.{TellsStill, AtEachMoment, written};
+ghost use Rattle.disk_frames.specs.Frames.{HoldsWithOrWithout, IsSettled, piece_of};
 
 use crate::FramedText;
 use gm_ports::{Disk, Failed};
@@ -18,6 +18,10 @@ pub fn append<D: Disk>(disk: &mut D, gate: u64, text: &FramedText) -> Result<u64
         → IsSettled (D.state disk.new) (texts ++ text.now ∷ []) (gate + 9 + length text.now)) }
     ensures any_moment { (texts : List (List ℕ)) → IsSettled (D.state disk.old) texts gate
         → AtEachMoment (D.state disk.old) (D.state disk.new) (HoldsWithOrWithout texts text.now) }
+
+    // It writes a frame's body and a closed gate behind the gate, and opens that gate, and nothing else.
+    ensures written { OnOk result (IfSome (D.state disk.old).reads (λ bytes. gate < length bytes
+        → (D.state disk.new).reads ≡ Some (written (written bytes (gate + 1) (piece_of text.now)) gate (1 ∷ [])))) }
     ensures tells { TellsStill (D.state disk.old) (D.state disk.new) }
     ensures cause { HasCause (D.state disk.old).faults (D.state disk.new).faults result }
 {

@@ -1,7 +1,7 @@
 //! Going on with a journal that was read.
-ghost use Rattle.std.specs.Prelude.{◌≡◌, ◌≢◌, ◌⊎◌, ◌≤◌, ℕ, List, None, IfSome, OnOk};
+ghost use Rattle.std.specs.Prelude.{◌≡◌, ◌≢◌, ◌⊎◌, ◌≤◌, ◌∷◌, [], ℕ, List, None, Some, IfSome, OnOk, length};
 ghost use Rattle.gm_ports.specs.Faults.{HasCause};
-ghost use Rattle.gm_ports.specs.DiskState.{Looks, Only, TellsStill};
+ghost use Rattle.gm_ports.specs.DiskState.{Looks, Only, TellsStill, written};
 ghost use Rattle.disk_frames.specs.Frames.{IsSettled};
 ghost use Rattle.disk_frames.specs.Salvage.{IsReadTo};
 
@@ -17,6 +17,8 @@ pub fn start<D: Disk>(disk: &mut D, end: End) -> Result<(), Failed>
     ensures opened { OnOk result ((texts : List (List ℕ)) → IsReadTo (D.state disk.old) texts end.gate end.last
         → IsSettled (D.state disk.new) texts end.gate) }
     ensures looks { end.last ≢ None → Looks (D.state disk.old) (D.state disk.new) }
+    ensures made { OnOk result (end.last ≡ None → IfSome (D.state disk.old).reads (λ bytes. end.gate ≤ length bytes
+        → (D.state disk.new).reads ≡ Some (written bytes end.gate (0 ∷ [])))) }
 
     // There is a moment before the return up to which no crash leaves what none could leave at the entry. There the call
     // ended, or nothing was pending.

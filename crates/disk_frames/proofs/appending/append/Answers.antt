@@ -1,7 +1,7 @@
 use Rattle.std.proofs.Common.{◌+◌, ◌^◌, ◌<◌, length, ap, arith}
 use Rattle.disk_frames.specs.Frames.{piece_of}
 use Rattle.disk_frames.proofs.FrameLemmas.{length-piece_of}
-use Rattle.disk_frames.proofs.AppendSteps.{through_body, through_sync, through_gate, through_all, appended}
+use Rattle.disk_frames.proofs.AppendSteps.{through_body, through_sync, through_gate, through_all, appended, both_written}
 use Rattle.disk_frames.proofs.appending.append.Goals as goal
 
 -- the closed gate stands while the frame is written behind it
@@ -49,3 +49,7 @@ pub returns-clause-any_moment : goal.returns-clause-any_moment
 returns-clause-any_moment g c = λ texts settled.
     through_all _ texts c.args.text.now _ c.args.gate (g.met.D.Disk.lawful c.args.disk.now) settled c.piece.ensures _ c.write_at.ensures.writes _ c.sync.ensures.looks
     c.in_ok-write_at.ensures.bytes c.in_ok-sync.ensures.settled _ c.write_at-2.ensures.writes _ c.sync-2.ensures.looks
+
+pub returns-clause-written : goal.returns-clause-written
+returns-clause-written g c = both_written _ _ _ _ _ c.args.gate _ (piece_of c.args.text.now) c.piece.ensures
+    c.in_ok-write_at.ensures.bytes c.sync.ensures.looks.reads c.in_ok-write_at-2.ensures.bytes c.sync-2.ensures.looks.reads
