@@ -13,14 +13,18 @@
 //! ```
 //!
 //! The judge takes each text that is not empty.
+ghost use Rattle.std.specs.Prelude.{◌<◌};
+
 mod judge;
 
+use crate::numbers::{calls_of, numbers_of};
 use crate::shown::{push_text, show_text};
 use disk_frames::{End, FramedText, Salvaged, append, salvage, start};
 use gm_ports::{Calls, Disk, MemDisk};
 use judge::SomeTexts;
 use std::alloc::{AllocError, Global};
-use trial_script::{Player, Step, known, show};
+use std::mem;
+use trial_script::{Player, Step, show};
 
 /// Has a disk, and where the journal on it ends.
 #[derive(Drop)]
@@ -42,7 +46,9 @@ impl JournalPlayer {
 
 impl Player for JournalPlayer {
     fn begin(&mut self, alloc: Global) -> Result<(), AllocError> {
-        *self = JournalPlayer::new(alloc);
+        self.failing = Calls::new(alloc);
+        self.disk = None;
+        self.end = None;
         Ok(())
     }
 
@@ -79,31 +85,18 @@ impl Player for JournalPlayer {
 impl JournalPlayer {
     /// Makes a disk of these bytes.
     fn make(&mut self, alloc: Global, bytes: &[u8]) -> Result<bool, AllocError> {
-        let failing = std::mem::replace(&mut self.failing, Calls::new(alloc));
+        let failing = mem::replace(&mut self.failing, Calls::new(alloc));
         self.disk = Some(MemDisk::new(alloc, bytes, failing, 40, 400)?);
         self.end = None;
         Ok(true)
     }
 }
 
-/// The numbers behind the first word, as numbers of calls.
-fn calls_of(alloc: Global, step: &Step<'_>) -> Result<Calls, AllocError> {
-    let mut numbers = Vec::new(alloc);
-    for at in 1..step.words().len() {
-        if let Some(number) = step.amount(at) {
-            numbers.push(number)?;
-        }
-    }
-    Calls::from_slice(alloc, numbers.as_slice())
-}
-
-/// The same as bytes.
+/// The numbers behind the first word, as bytes.
 fn bytes_of(alloc: Global, step: &Step<'_>) -> Result<Vec<u8>, AllocError> {
     let mut bytes = Vec::new(alloc);
-    for at in 1..step.words().len() {
-        if let Some(number) = step.amount(at) {
-            bytes.push((number % 256) as u8)?;
-        }
+    for number in numbers_of(alloc, step)?.iter() {
+        bytes.push((*number % 256) as u8)?;
     }
     Ok(bytes)
 }
@@ -128,17 +121,8 @@ fn call_disk(
         "append" => match *end {
             Some(last) if last.gate < 1000 => {
                 let text = FramedText::new(alloc, step.text())?;
-                match append(disk, last.gate, &text) {
-                    Ok(gate) => {
-                        *end = Some(End {
-                            gate,
-                            last: Some(0),
-                        });
-                        writeln!(out, "gate {gate}")?;
-                        Ok(true)
-                    }
-                    Err(_) => show("failed", out),
-                }
+                *end = add_text(disk, last, &text);
+                show_gate(*end, out)
             }
             _ => Ok(false),
         },
@@ -150,6 +134,28 @@ fn call_disk(
         }
         _ => Ok(false),
     }
+}
+
+/// Appends a text; where the journal ends then, if the append did not fail.
+fn add_text(disk: &mut MemDisk, end: End, text: &FramedText) -> Option<End>
+    requires { end.gate < 1000 }
+{
+    match append(disk, end.gate, text) {
+        Ok(gate) => Some(End {
+            gate,
+            last: Some(0),
+        }),
+        Err(_) => None,
+    }
+}
+
+/// Adds a line that says where the journal ends.
+fn show_gate(end: Option<End>, out: &mut String) -> Result<bool, AllocError> {
+    let Some(End { gate, .. }) = end else {
+        return show("failed", out);
+    };
+    writeln!(out, "gate {gate}")?;
+    Ok(true)
 }
 
 /// Salvages the disk, and shows where it ends and which texts it gave.

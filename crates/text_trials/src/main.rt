@@ -11,6 +11,7 @@
 #![tactic(auto)]
 
 mod journal;
+mod numbers;
 mod ports;
 mod shown;
 mod texts;

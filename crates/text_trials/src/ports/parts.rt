@@ -1,6 +1,7 @@
 //! What files and sinks in memory are made of.
 ghost use Rattle.std.specs.Prelude.{◌<◌};
 
+use crate::numbers::calls_of;
 use gm_ports::{Calls, MemFiles, MemSink, Rooms, SureFiles, Texts};
 use std::alloc::{AllocError, Global};
 use trial_script::Step;
@@ -50,17 +51,6 @@ pub fn add_part(parts: &mut Parts, alloc: Global, step: &Step<'_>) -> Result<boo
         _ => parts.failing_writes = calls_of(alloc, step)?,
     }
     Ok(true)
-}
-
-/// The numbers behind the first word, as numbers of calls.
-fn calls_of(alloc: Global, step: &Step<'_>) -> Result<Calls, AllocError> {
-    let mut numbers = Vec::new(alloc);
-    for at in 1..step.words().len() {
-        if let Some(number) = step.amount(at) {
-            numbers.push(number)?;
-        }
-    }
-    Calls::from_slice(alloc, numbers.as_slice())
 }
 
 /// Files or a sink of these parts, if the step's two numbers may be theirs: a call moves at least one byte.
