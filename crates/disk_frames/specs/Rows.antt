@@ -1,7 +1,8 @@
--- A worked journal, computed from the definitions. The wanted bytes were worked out by hand.
-use Rattle.std.specs.Prelude.{◌≡◌, List, ℕ, [], ◌∷◌, ◌++◌, codes}
+-- Worked journals, computed from the definitions. The wanted bytes were worked out by hand.
+use Rattle.std.specs.Prelude.{◌≡◌, List, ℕ, [], ◌∷◌, ◌++◌, Some, codes}
 use Rattle.std.proofs.Common.{refl}
 use Rattle.disk_frames.specs.Frames.{frames, length_bytes}
+use Rattle.disk_frames.specs.Salvage.{EndsAt}
 
 -- a text of ten bytes, two lines of a record
 abbrev pub ten_bytes : List ℕ
@@ -15,3 +16,12 @@ one_text = refl
 -- with no text there is a closed gate alone
 pub no_text : frames [] ++ 0 ∷ [] ≡ 0 ∷ []
 no_text = refl
+
+-- it ends at byte 19
+pub one_text_ends : EndsAt (1 ∷ 0 ∷ 0 ∷ 0 ∷ 0 ∷ 0 ∷ 0 ∷ 0 ∷ 10 ∷ ten_bytes ++ 0 ∷ []) (ten_bytes ∷ []) 19 (Some 0)
+unfolding length_bytes
+one_text_ends = record { rest = 0 ∷ []; parts = refl; gate_is = refl; last_is = refl; closed = λ e. cc; empty = λ e. cc }
+
+-- a file that begins with another byte than 1 ends at once, whatever stands behind it
+pub other_file_ends : EndsAt (7 ∷ 1 ∷ 1 ∷ []) [] 0 (Some 7)
+other_file_ends = record { rest = 7 ∷ 1 ∷ 1 ∷ []; parts = refl; gate_is = refl; last_is = refl; closed = λ e. cc; empty = λ e. cc }
