@@ -1,7 +1,7 @@
 mod AppendSteps
 mod FrameLemmas
 mod FrontLemmas
-mod SalvageLemmas
+pub mod SalvageLemmas
 mod StartSteps
 mod TornLemmas
 mod WalkLemmas

@@ -1,0 +1,3 @@
+pub mod FollowingLemmas
+pub mod JudgingLemmas
+pub mod SalvagingLemmas

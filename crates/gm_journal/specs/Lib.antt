@@ -1,0 +1,5 @@
+pub mod Following
+pub mod FollowingLaws
+pub mod Salvage
+pub mod Laws
+pub mod Judging
