@@ -49,7 +49,7 @@ pub fn shrink<O: Oracle>(
     Ok(Shrunk::Done(Record::Conflict {
         set: candidate.set,
         proof: candidate.proof,
-        witnesses: candidate.witnesses,
+        witnesses: in_just_enough_memory(candidate.witnesses),
     }))
 }
 
@@ -89,4 +89,13 @@ fn try_group<O: Oracle>(
             Ok(Some(rest))
         }
     }
+}
+
+// They, without the room behind them: a record lives as long as the run.
+fn in_just_enough_memory(witnesses: Witnesses) -> Witnesses
+    ensures { result ≡ witnesses }
+{
+    let mut items = witnesses.into_vec();
+    items.shrink_to_fit();
+    Witnesses::from_vec(items)
 }

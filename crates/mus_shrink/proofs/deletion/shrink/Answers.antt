@@ -66,12 +66,15 @@ returns-clause-shrunk g c =
     let last = g.O.Oracle.state c.loop-g.oracle in
     let all : take c.loop-g.g-index c.as_slice-g-items.result.now ≡ c.args.set.now = take_all c.loop-g.g-index c.as_slice-g-items.result.now (omega arith) ∙ c.as_slice-g-items.ensures.groups in
     let same : c.args.problem.now ≡ last.problem = c.requires.problem ∙ sym c.loop-g.invariant.spent.problem in
-    let tried : IsCandidate last.problem c.args.set.now c.args.set.now c.loop-g.candidate =
+    let loose : IsCandidate last.problem c.args.set.now c.args.set.now c.loop-g.candidate =
     subst (λ p. IsCandidate p c.args.set.now c.args.set.now c.loop-g.candidate) same
-    (subst (λ gs. IsCandidate c.args.problem.now c.args.set.now gs c.loop-g.candidate) all c.loop-g.invariant.candidate) in (
+    (subst (λ gs. IsCandidate c.args.problem.now c.args.set.now gs c.loop-g.candidate) all c.loop-g.invariant.candidate) in
+    let fitted = record c.loop-g.candidate { witnesses = c.in_just_enough_memory.result } in
+    let tried : IsCandidate last.problem c.args.set.now c.args.set.now fitted =
+    subst (λ ws. IsCandidate last.problem c.args.set.now c.args.set.now (record c.loop-g.candidate { witnesses = ws })) (sym c.in_just_enough_memory.ensures) loose in (
       tried.within,
-      IsShaped-from_candidate last.problem c.args.set.now c.loop-g.candidate c.as_slice-g-items.ensures.ascends tried,
-      AcceptsConflict-from_candidate last.problem c.args.set.now c.loop-g.candidate c.as_slice-g-items.ensures.ascends tried,
+      IsShaped-from_candidate last.problem c.args.set.now fitted c.as_slice-g-items.ensures.ascends tried,
+      AcceptsConflict-from_candidate last.problem c.args.set.now fitted c.as_slice-g-items.ensures.ascends tried,
     )
 
 -- no group was tried, and nothing was asked
