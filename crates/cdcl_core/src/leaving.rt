@@ -22,9 +22,9 @@ use sat_base::Lit;
 use trail_book::Trail;
 
 impl Search {
-    /// Plans a variable that is false and takes levels back until it has no value, where the last assignment would come again
-    /// or it is time for another one.
-    pub fn leave(&mut self)
+    /// Plans a variable that is false and takes levels back until it has no value, where it is time for another assignment or
+    /// the last one would come again and may not.
+    pub fn leave(&mut self, may_repeat: bool)
         requires { IsReady self.old }
         ensures ready { IsReady self.new }
         ensures log { self.new.log ≡ self.old.log }
@@ -33,7 +33,7 @@ impl Search {
         ensures true_first { self.new.true_first ≡ self.old.true_first }
     {
         let is_due = self.plan.is_due();
-        if !is_due && !is_whole(&self.trail) {
+        if !is_due && (may_repeat || !is_whole(&self.trail)) {
             return;
         }
         let last = self.plan.first().map_or(0, |lit| lit.var());

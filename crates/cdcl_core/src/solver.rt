@@ -151,14 +151,14 @@ impl Solver {
         Ok(answer)
     }
 
-    /// Has the next search begin elsewhere where it would find the last assignment again, and else at growing intervals:
-    /// it goes back and decides a variable next that is false now, another one for each such call. So assignments that are
-    /// asked for one after the other differ where they can, and not in a few late variables only.
-    pub fn leave(&mut self)
+    /// Has the next search begin elsewhere at growing intervals, and else where it would find the last assignment again, unless
+    /// that may come again: it goes back and decides a variable next that is false now, another one for each such call. So
+    /// assignments that are asked for one after the other differ where they can, and not in a few late variables only.
+    pub fn leave(&mut self, may_repeat: bool)
         ensures { self.new ≡ self.old }
     {
         if !self.broken {
-            self.search.leave();
+            self.search.leave(may_repeat);
         }
     }
 

@@ -76,7 +76,7 @@ impl MapEngine for PowerMap {
 
     fn seed(&mut self, alloc: Global, turn: u64, purse: &mut Purse) -> Result<Seed, AllocError> {
         // Where no block came since that takes the last seed out, another worker is still at it.
-        self.solver.leave();
+        self.solver.leave(may_repeat(self.sides.as_slice()));
         match self.solver.solve(alloc, &[], turn, purse)? {
             Solved::Sat(assign) => Ok(Seed::Set(set_of(alloc, self.solver.vars(), &assign)?)),
             Solved::Unsat(step) => {
@@ -96,5 +96,15 @@ impl MapEngine for PowerMap {
 
     fn into_log(self) -> Log {
         self.solver.into_log()
+    }
+}
+
+// Whether the last seed may come again, though another worker is still at it: not behind a correction. Near a conflict a seed
+// is mostly unsatisfiable, and then two workers mostly find two conflicts in it, which are alike, so that they take fewer
+// questions than elsewhere. In a satisfiable one both would find its complement.
+fn may_repeat(sides: &[Side]) -> bool {
+    match sides.last() {
+        Some(side) => *side == Side::Up,
+        None => true,
     }
 }
