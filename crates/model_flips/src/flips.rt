@@ -293,8 +293,8 @@ fn keep_true(kept: &mut [bool], standing: &Standing) {
     }
 }
 
-// The assignment, where it makes each clause of the background and of the set true.
-fn tested(problem: &Problem, set: &GroupSet, assign: Assign) -> Option<Assign>
+/// The assignment, where it makes each clause of the background and of the set true.
+pub fn tested(problem: &Problem, set: &GroupSet, assign: Assign) -> Option<Assign>
     ensures { IfSome result (λ shown. is_witness problem.now set.now shown ≡ true) }
 {
     if assign.len() == problem.vars() as usize && problem.holds(set, &assign) {

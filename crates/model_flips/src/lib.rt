@@ -17,14 +17,16 @@
 //!
 //! [`Rotation`] flips one variable of an assignment that is known to satisfy all groups but some, and tells at the cost of
 //! the clauses that have the variable which groups are left out then. Start there at `specs/Rotation.antt`.
-//! [`Rotation::repaired`] flips one variable after the other, until certain groups are true.
+//! [`Rotation::exchanged`] asks that of the groups of one set alone. [`Rotation::repaired`] flips one variable after the other, until certain groups are true.
 #![tactic(auto)]
 
+mod exchange;
 mod flips;
 mod occurrences;
 mod repair;
 mod rotation;
 mod standing;
 
-pub use flips::{Flips, MOST_FLIPS};
+pub use exchange::Exchanged;
+pub use flips::{Flips, MOST_FLIPS, tested};
 pub use rotation::{Rotation, Turned};
