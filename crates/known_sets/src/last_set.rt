@@ -22,6 +22,11 @@ impl LastSet {
         })
     }
 
+    /// The set, where there is one.
+    pub fn set(&self) -> Option<&GroupSet> {
+        self.set.as_ref()
+    }
+
     /// The marks, by the numbers of the groups.
     pub fn marks(&self) -> &[bool] {
         self.marks.as_slice()

@@ -14,14 +14,16 @@
 //! then the oracle within is asked nothing, and learns and spends nothing. The contracts are those of the trait
 //! `evidence_rec::Oracle`, whatever lawful oracle is within.
 //!
-//! Start with `oracle.rt`, and then `memory.rt`, whose head says which questions are looked up. Its three parts are
+//! Start with `oracle.rt`, and then `memory.rt`, whose head says which questions are looked up. Its parts are
 //! `refuted.rt` and `satisfied.rt`, which say why an answer from memory is right, and `model_maker.rt`, which makes models
-//! of those that are remembered. `index.rt` finds a set by one of its groups.
+//! of those that are remembered. `critical.rt` has what is shown of the set that is shrunk alone. `index.rt` finds a set by
+//! one of its groups.
 //!
 //! Not said here: that a set which is known is found, and that there is memory to remember one. Both only cost a question.
 #![tactic(auto)]
 
 mod arena;
+mod critical;
 mod entry;
 mod index;
 mod last_set;
@@ -33,6 +35,7 @@ mod oracle;
 mod patience;
 mod refuted;
 mod satisfied;
+mod showing;
 mod tested;
 mod turning;
 

@@ -17,11 +17,13 @@ ghost use Rattle.model_flips.specs.Rotation.{Satisfies};
 ghost use Rattle.known_sets.specs.Entries.{IsRefuted};
 ghost use Rattle.known_sets.specs.Memory.{IsRightFor};
 
+use crate::critical::CriticalGroups;
 use crate::entry::Refuted;
 use crate::model_maker::ModelMaker;
 use crate::refuted::RefutedSets;
 use crate::satisfied::SatisfiedSets;
 use crate::tested::misses;
+use crate::turning::MOST_LEFT_OUT;
 use evidence_rec::Record;
 use gm_base::{Assign, Derivation, GroupSet, Problem};
 use model_flips::Turned;
@@ -32,6 +34,7 @@ use std::alloc::{AllocError, Global};
 pub struct Memory {
     refuted: RefutedSets,
     satisfied: SatisfiedSets,
+    critical: CriticalGroups,
     models: ModelMaker,
 }
 
@@ -44,6 +47,7 @@ impl Memory {
         Ok(Memory {
             refuted: RefutedSets::new(alloc, groups, most / 2)?,
             satisfied: SatisfiedSets::new(alloc, groups, most / 2)?,
+            critical: CriticalGroups::new(alloc),
             models: ModelMaker::new(alloc, problem)?,
         })
     }
@@ -82,12 +86,40 @@ impl Memory {
 
     /// An assignment that satisfies the background and a set without one of its groups, where one is found by that group.
     /// It is looked for where the set is the last refuted one.
-    pub fn satisfying_without(&mut self, set: &GroupSet, group: u32) -> Option<Assign>
+    pub fn satisfying_without(
+        &mut self,
+        alloc: Global,
+        set: &GroupSet,
+        group: u32,
+    ) -> Option<Assign>
+        ensures right { (p : Problem) → IsRightFor p self.old → IsRightFor p self.new }
+        ensures witness { (p : Problem) → IsRightFor p self.old → IsSubset set.now (all_groups p.groups) → IfSome result (λ assign. is_witness p (without set.now group) assign ≡ true) }
+    {
+        match self.critical_of(alloc, set, group) {
+            Some(assign) => Some(assign),
+            None => self.satisfying_less(set, group),
+        }
+    }
+
+    // The same, where it is remembered.
+    fn satisfying_less(&mut self, set: &GroupSet, group: u32) -> Option<Assign>
         ensures right { (p : Problem) → IsRightFor p self.old → IsRightFor p self.new }
         ensures witness { (p : Problem) → IsRightFor p self.old → IsSubset set.now (all_groups p.groups) → IfSome result (λ assign. is_witness p (without set.now group) assign ≡ true) }
     {
         let shrinking = self.refuted.last_marks();
         self.satisfied.within_less(set, group, shrinking)
+    }
+
+    // The same, where it was shown of the set that is shrunk.
+    fn critical_of(&mut self, alloc: Global, set: &GroupSet, group: u32) -> Option<Assign>
+        ensures right { (p : Problem) → IsRightFor p self.old → IsRightFor p self.new }
+        ensures witness { (p : Problem) → IsRightFor p self.old → IfSome result (λ assign. is_witness p (without set.now group) assign ≡ true) }
+    {
+        let found = self.critical.of(alloc, set, group)?;
+        let Ok(rest) = set.without(alloc, group) else {
+            return None;
+        };
+        self.models.tested(&rest, found)
     }
 
     /// An assignment that satisfies the background and the set, where some flips make one of the assignment that was
@@ -132,23 +164,57 @@ impl Memory {
         self.satisfied.answered(alloc, set);
         self.models.count_answer();
         if shrinking {
-            self.keep_grown(alloc, assign).ok();
+            self.keep_shrinking(alloc, set, assign);
         } else {
             let groups = self.models.groups();
             self.satisfied.insert_set(alloc, groups, set, assign).ok();
         }
     }
 
-    // Makes an assignment satisfy more groups, and remembers the set that it satisfies then.
-    fn keep_grown(&mut self, alloc: Global, assign: &Assign) -> Result<(), AllocError>
+    // Remembers what an assignment shows that satisfies the last refuted set without one of its groups. Where it satisfies
+    // few groups, also after some flips, it is turned for that set alone.
+    fn keep_shrinking(&mut self, alloc: Global, set: &GroupSet, assign: &Assign)
+        ensures { (p : Problem) → IsRightFor p self.old → IsRightFor p self.new }
+    {
+        let turned = self.keep_grown(alloc, assign);
+        if !matches!(turned, Ok(true)) {
+            self.show_critical(alloc, set, assign).ok();
+        }
+    }
+
+    // Shows groups of the last refuted set critical.
+    fn show_critical(
+        &mut self,
+        alloc: Global,
+        set: &GroupSet,
+        assign: &Assign,
+    ) -> Result<(), AllocError>
+        ensures { (p : Problem) → IsRightFor p self.old → IsRightFor p self.new }
+    {
+        let (Some(shrunk), Some(group)) = (self.refuted.last_set(), self.refuted.missing_in(set))
+        else {
+            return Ok(());
+        };
+        self.critical.add(alloc, shrunk, set, group, assign)?;
+        let first = self.critical.len().saturating_sub(1);
+        self.models.show_from(alloc, &mut self.critical, first)
+    }
+
+    // Makes an assignment satisfy more groups, and remembers the set that it satisfies then. It tells whether it leaves out
+    // so few that it was turned.
+    fn keep_grown(&mut self, alloc: Global, assign: &Assign) -> Result<bool, AllocError>
         ensures { (p : Problem) → IsRightFor p self.old → IsRightFor p self.new }
     {
         let grown = self
             .models
             .grown(alloc, &mut self.refuted, &self.satisfied, assign)?;
         match grown {
-            Some(Turned { out, assign }) => self.keep_turning(alloc, &out, assign),
-            None => Ok(()),
+            Some(Turned { out, assign }) => {
+                let few = out.len() <= MOST_LEFT_OUT;
+                self.keep_turning(alloc, &out, assign)?;
+                Ok(few)
+            }
+            None => Ok(false),
         }
     }
 

@@ -11,20 +11,23 @@
 //! known as surely as before. On some problems hardly any repair succeeds; there most seeds go by untried.
 //!
 //! How much flips, turns and repairs may look at is bounded by how many questions the oracle within was asked.
-ghost use Rattle.std.specs.Prelude.{◌≡◌, All, None, IfOk, IfSome};
+ghost use Rattle.std.specs.Prelude.{◌≡◌, true, All, None, IfOk, IfSome};
 ghost use Rattle.gm_base.specs.Problem.{Problem};
+ghost use Rattle.gm_base.specs.Evidence.{is_witness};
 ghost use Rattle.model_flips.specs.Rotation.{IsListing, Satisfies};
 ghost use Rattle.known_sets.specs.Entries.{IsSatisfied};
 ghost use Rattle.known_sets.specs.Making.{MakesModelsOf};
 
 use crate::arena::set_of;
+use crate::critical::CriticalGroups;
 use crate::last_set::{mark_all, no_marks};
 use crate::patience::Patience;
 use crate::refuted::RefutedSets;
 use crate::satisfied::SatisfiedSets;
+use crate::showing::show_all;
 use crate::turning::turn_all;
 use gm_base::{Assign, GroupSet, Problem};
-use model_flips::{Flips, Rotation, Turned};
+use model_flips::{Flips, Rotation, Turned, tested};
 use std::alloc::{AllocError, Global};
 
 // What a question costs the oracle within at least, in looks of the flips: so many, and so many for each literal of the
@@ -185,6 +188,37 @@ impl ModelMaker {
         );
         self.rotation = Some(rotation);
         turned
+    }
+
+    /// An assignment, where it satisfies the background and a set. This is tested of each of their clauses.
+    pub fn tested(&self, set: &GroupSet, assign: Assign) -> Option<Assign>
+        ensures { (p : Problem) → MakesModelsOf p self.now → IfSome result (λ shown. is_witness p set.now shown ≡ true) }
+    {
+        tested(&self.problem, set, assign)
+    }
+
+    /// Shows more groups critical from those that are known from this number on. It goes on as turns do.
+    pub fn show_from(
+        &mut self,
+        alloc: Global,
+        critical: &mut CriticalGroups,
+        first: usize,
+    ) -> Result<(), AllocError>
+        ensures { (p : Problem) → MakesModelsOf p self.old → MakesModelsOf p self.new }
+    {
+        let rotation = taken(alloc, &mut self.rotation, &self.problem)?;
+        let most = self.most_looks();
+        let shown = show_all(
+            alloc,
+            &rotation,
+            &self.problem,
+            critical,
+            first,
+            &mut self.turns,
+            most,
+        );
+        self.rotation = Some(rotation);
+        shown
     }
 }
 

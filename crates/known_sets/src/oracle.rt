@@ -197,7 +197,7 @@ impl<O: Oracle> Oracle for KnownSets<O> {
         purse: &mut Purse,
     ) -> Result<Asked, AllocError> {
         self.begin();
-        if let Some(assign) = self.memory.satisfying_without(set, group) {
+        if let Some(assign) = self.memory.satisfying_without(alloc, set, group) {
             return Ok(Asked::Sat(assign));
         }
         let rest = set.without(alloc, group)?;

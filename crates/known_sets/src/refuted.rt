@@ -53,6 +53,11 @@ impl RefutedSets {
         self.last.marks()
     }
 
+    /// The set that was answered last, where there is one.
+    pub fn last_set(&self) -> Option<&GroupSet> {
+        self.last.set()
+    }
+
     /// The one group that the set has less than the one that was answered last.
     pub fn missing_in(&self, set: &GroupSet) -> Option<u32> {
         self.last.missing_in(set)

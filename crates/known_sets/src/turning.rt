@@ -16,8 +16,8 @@ use gm_base::{Assign, GroupSet, Problem};
 use model_flips::{Rotation, Turned};
 use std::alloc::{AllocError, Global};
 
-// An assignment that leaves out more groups than that is not turned.
-const MOST_LEFT_OUT: usize = 64;
+/// An assignment that leaves out more groups than that is not turned.
+pub const MOST_LEFT_OUT: usize = 64;
 
 /// Turns the assignments from this number on, with those that come of it, until so much was looked at for nothing: what
 /// shows a group critical saves a question.

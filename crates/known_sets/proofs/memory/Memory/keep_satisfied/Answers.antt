@@ -7,7 +7,7 @@ use Rattle.known_sets.proofs.memory.Memory.keep_satisfied.Goals as goal
 -- with what it satisfies after some flips
 pub returns-then-shrinking : goal.returns-then-shrinking
 returns-then-shrinking c = λ p right h.
-    c.keep_grown.ensures p
+    c.keep_shrinking.ensures p
     (record { refuted = right.refuted; satisfied = subst (All (IsSatisfied p)) (sym c.answered.ensures) right.satisfied; models = c.count_answer.ensures p right.models })
 
 -- with the set as it is

@@ -1,4 +1,4 @@
-use Rattle.known_sets.proofs.memory.Memory.satisfying_without.Goals as goal
+use Rattle.known_sets.proofs.memory.Memory.satisfying_less.Goals as goal
 
 -- of a right memory
 pub returns-clause-witness : goal.returns-clause-witness
