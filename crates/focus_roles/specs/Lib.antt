@@ -1,0 +1,3 @@
+pub mod Narrow
+pub mod Laws
+pub mod Rows
