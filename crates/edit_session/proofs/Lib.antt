@@ -1,0 +1,10 @@
+pub mod RenamedLemmas
+pub mod NumberLemmas
+pub mod PlaceLemmas
+pub mod StepLemmas
+pub mod DerivationLemmas
+pub mod BreakLemmas
+pub mod WitnessLemmas
+pub mod ValueLemmas
+pub mod RegrownLemmas
+pub mod OpeningLemmas

@@ -1,0 +1,82 @@
+//! Corrections of a longer problem.
+//!
+//! What an old correction leaves out is satisfied by its witness, in the longer problem too, where new variables are false.
+//! So it is grown from there: the groups of the correction and the new ones are tried, one after the other. Of the groups of
+//! the correction all stay out, since none of them could be put in before.
+ghost use Rattle.std.specs.Prelude.{◌≡◌, IfOk};
+ghost use Rattle.evidence_rec.specs.Records.{AllAccepted};
+ghost use Rattle.evidence_rec.specs.Asking.{IsSpent, IsHonestOver};
+ghost use Rattle.edit_session.specs.Extends.{Extends};
+ghost use Rattle.edit_session.specs.Carried.{kept};
+ghost use Rattle.edit_session.specs.Opening.{IsKnown, TellsRegrown, TellsAllRegrown};
+
+use crate::witnesses::carried_witness;
+use evidence_rec::{Oracle, Record, Records};
+use gm_base::{GroupSet, Problem, Purse};
+use mss_grow::{Grown, grow};
+use std::alloc::{AllocError, Global};
+
+/// Adds what the corrections of records grow into, in order, and gives the set asked where the purse is empty.
+pub fn regrow_all<O: Oracle>(
+    alloc: Global,
+    oracle: &mut O,
+    old: &Problem,
+    records: &Records,
+    new: &Problem,
+    opening: &mut Records,
+    purse: &mut Purse,
+) -> Result<Option<GroupSet>, AllocError>
+    requires problem { new.now ≡ (O.state oracle.old).problem }
+    requires extends { Extends old.now new.now }
+    requires accepted { AllAccepted old.now records.now }
+    requires kept { opening.old ≡ kept old.now new.now records.now }
+    ensures regrown { IfOk result (λ dry. TellsAllRegrown (O.state oracle.new) old.now records.now opening.new purse.new.left dry) }
+    ensures honest { IsHonestOver new.now (O.state oracle.old).log → IsHonestOver new.now (O.state oracle.new).log }
+    ensures spent { IsSpent (O.state oracle.old) (O.state oracle.new) purse.old.left purse.new.left }
+{
+    let _groups = old.groups(); // The problem is well-formed.
+    for at in 0..records.len() {
+        let known = records.at(at);
+        if let Some(asked) = regrow(alloc, oracle, old, known, new, opening, purse)? {
+            return Ok(Some(asked));
+        }
+    }
+    Ok(None)
+}
+
+/// Adds what a record grows into, where it is a correction, and gives the set asked where the purse is empty.
+fn regrow<O: Oracle>(
+    alloc: Global,
+    oracle: &mut O,
+    old: &Problem,
+    known: &Record,
+    new: &Problem,
+    opening: &mut Records,
+    purse: &mut Purse,
+) -> Result<Option<GroupSet>, AllocError>
+    requires problem { new.now ≡ (O.state oracle.old).problem }
+    requires extends { Extends old.now new.now }
+    requires known { IsKnown old.now known.now }
+    ensures regrown { IfOk result (λ dry. TellsRegrown (O.state oracle.new) old.now known.now opening.old opening.new purse.new.left dry) }
+    ensures honest { IsHonestOver new.now (O.state oracle.old).log → IsHonestOver new.now (O.state oracle.new).log }
+    ensures spent { IsSpent (O.state oracle.old) (O.state oracle.new) purse.old.left purse.new.left }
+{
+    let Record::Correction {
+        set,
+        witness,
+        proofs: _,
+    } = known
+    else {
+        return Ok(None);
+    };
+    let _groups = new.groups(); // The problem is well-formed.
+    let start = set.complement(alloc, old.groups())?;
+    let assign = carried_witness(alloc, new, witness)?;
+    match grow(alloc, oracle, new, &start, &assign, 0, purse)? {
+        Grown::Done(made) => {
+            opening.push(made)?;
+            Ok(None)
+        }
+        Grown::Dry(asked) => Ok(Some(asked)),
+    }
+}
