@@ -1,4 +1,4 @@
-//! The player of evidence: read, written and audited as a text, and checked record by record.
+//! The player of evidence: read, written and audited as a text, carried over, and checked record by record.
 //!
 //! ```text
 //! problem            the problem of the GCNF text below, which all that follows is about
@@ -9,6 +9,7 @@
 //! head               its head is asked for twice
 //! alone              the text below is read as one record by itself, and written again where it is accepted
 //! audit              the text below is audited; `audit 8 9` likewise
+//! carry              the evidence is carried over to the problem of the text below: where that breaks, or the records there
 //! conflict 1 2       a record begins, with its set; `correction` likewise
 //! proof 5            a derivation for the clause of this id begins
 //! step 5 -3 -4 0 1 2 its next step: an id, literals, 0 and hints
@@ -20,12 +21,14 @@
 //! ```
 //!
 //! What is refused is told by the number of its reason and its line: of the text, counted from 1, or of the record, from 0.
+mod carrying;
 mod drafting;
 mod reading;
 mod records;
 mod text;
 
 use crate::problems::problem_of;
+use carrying::show_carried;
 use drafting::{Draft, call_draft};
 use evidence_rec::{Record, Records};
 use gm_base::Problem;
@@ -72,6 +75,10 @@ impl Player for EvidencePlayer {
             "evidence" => self.read_evidence(alloc, step),
             "read" | "shorten" | "head" | "alone" | "audit" => match &self.problem {
                 Some(problem) => call_text(problem, self.evidence.as_slice(), alloc, step, out),
+                None => Ok(false),
+            },
+            "carry" => match &self.problem {
+                Some(problem) => show_carried(problem, self.evidence.as_slice(), alloc, step, out),
                 None => Ok(false),
             },
             _ => match &self.problem {

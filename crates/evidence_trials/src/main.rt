@@ -4,7 +4,7 @@
 //! | script | what its calls are made of | player |
 //! |---|---|---|
 //! | `bases` | assignments, work lists, derivations, sets of groups and problems | `bases.rt` |
-//! | `evidence` | evidence, records of it, and audits | `evidence.rt` |
+//! | `evidence` | evidence, records of it, audits, and what is carried over | `evidence.rt` |
 //!
 //! `trial_script` says what a script is, and the head of each player which calls it knows. Start reading at `evidence.rt`.
 #![tactic(auto)]
