@@ -20,11 +20,14 @@ use Rattle.map_core.specs.declared.entry.Entry.{Entry}
 use Rattle.map_core.specs.declared.turn.Worker.{Worker}
 use Rattle.map_core.specs.declared.turn.Turn.{Turn}
 use Rattle.map_core.specs.declared.common.Common.{Common}
+use Rattle.map_core.specs.declared.entry.Goal.{Goal}
 use Rattle.evidence_rec.specs.declared.held.Held.{Held}
+use Rattle.map_core.specs.declared.tally.Tally.{Tally}
 use Rattle.map_core.specs.Core.{State, no_worker, worker_at, opened, turn_at, settle, Takes, Posts, Does, after, CoreStep, CoreRun}
 use Rattle.map_core.specs.Own.{calls_of, CanCall, engine_part}
 use Rattle.map_core.specs.Sound.{IsOpening, IsSound, purse_of, is_live, live_count}
 use Rattle.evidence_rec.specs.Index.{IsIndex}
+use Rattle.map_core.specs.Tallies.{Tallies}
 use Rattle.std.specs.Option.{option_or}
 use Rattle.map_core.specs.Asked.{GivesProof}
 use Rattle.map_core.specs.Closings.{HaveEnded}
@@ -34,13 +37,13 @@ use Rattle.evidence_rec.proofs.AcceptedLemmas.{accepted-right, alone-right}
 use Rattle.evidence_rec.proofs.Explored.{held_at_end}
 
 -- what holds of every state that a run reaches holds of a core
-pub kept_sound : {s : State} {first capacity : ℕ} {held : Held} {engine : EngineState} {proof : Option Derivation}
-    → IsKept s first capacity held engine proof → IsSound s
+pub kept_sound : {s : State} {first capacity : ℕ} {held : Held} {tally : Tally} {engine : EngineState} {proof : Option Derivation}
+    → IsKept s first capacity held tally engine proof → IsSound s
 kept_sound {s = s} k = (runs_sound s.opening s.history s k.opening k.reached).0
 
 -- a worker that may call has a seat, and the sums fit
-pub ready : {s : State} {first capacity : ℕ} {held : Held} {engine : EngineState} {proof : Option Derivation}
-    {w used : ℕ} → IsKept s first capacity held engine proof → CanCall s.opening w used (calls_of w s.history)
+pub ready : {s : State} {first capacity : ℕ} {held : Held} {tally : Tally} {engine : EngineState} {proof : Option Derivation}
+    {w used : ℕ} → IsKept s first capacity held tally engine proof → CanCall s.opening w used (calls_of w s.history)
     → IsReady s w used
 ready {s = s} {w = w} {used = used} k can =
     let ok = kept_sound k in
@@ -126,15 +129,15 @@ driven_after {s = s} e u records d on =
     }
 
 -- what a call writes back is the state after its entry
-pub moved : (tops : Bool) (problem : Problem) (first budget limit : ℕ) (common common' : Common)
+pub moved : (tops : Bool) (goal : Goal) (problem : Problem) (first budget limit : ℕ) (common common' : Common)
     (records records' : List Record) (workers workers' : List Worker) (history history' : List Entry) (e : Entry)
     (u : Turn) → common' ≡ u.common → workers' ≡ set workers e.worker u.worker → history' ≡ history ++ e ∷ []
     → take first records' ≡ take first records
-    → state_of tops problem first budget limit common' records' workers' history' ≡ after
-    (state_of tops problem first budget limit common records workers history) e u records'
-moved tops problem first budget limit common common' records records' workers workers' history history' e u c w h r =
+    → state_of tops goal problem first budget limit common' records' workers' history' ≡ after
+    (state_of tops goal problem first budget limit common records workers history) e u records'
+moved tops goal problem first budget limit common common' records records' workers workers' history history' e u c w h r =
     let size : length workers' ≡ length workers = ap length w ∙ length-set workers e.worker u.worker in
-    ap (λ x. state_of tops problem first budget limit x records' workers' history') c
+    ap (λ x. state_of tops goal problem first budget limit x records' workers' history') c
     ∙ ap (λ x. at (take first records') (length workers') workers' x) h
     ∙ ap (λ x. at x (length workers') workers' (history ++ e ∷ [])) r
     ∙ ap (λ x. at (take first records) x workers' (history ++ e ∷ [])) size
@@ -143,12 +146,13 @@ moved tops problem first budget limit common common' records records' workers wo
     at : List Record → ℕ → List Worker → List Entry → State
     at opening n workers history =
         record {
-          opening = record { problem = problem; records = opening; workers = n; budget = budget; limit = limit; tops = tops };
+          opening = record { problem = problem; records = opening; workers = n; budget = budget; limit = limit; goal = goal; tops = tops };
           records = records';
           workers = workers;
           available = u.common.available;
           spent = u.common.spent;
           exhausted = u.common.exhausted;
+          settled = u.common.settled;
           limited = u.common.limited;
           stopped = u.common.stopped;
           history = history;
@@ -165,12 +169,12 @@ pub first_stays : (s : State) (first : ℕ) (t u : Turn) (e : Entry) (records : 
 first_stays s first t u e records le does = same_first s first records le (grown s t u e.call e.engine e.reply records does)
 
 -- after a step, with what the engine, the index and the proof have to keep
-pub kept_step : {s t : State} {e : Entry} {first capacity : ℕ} {held : Held} {engine : EngineState}
-    {proof : Option Derivation} (capacity' : ℕ) (held' : Held) (engine' : EngineState) (proof' : Option Derivation)
-    → IsKept s first capacity held engine proof → CoreStep s e t → length t.history + live_count t.workers ≤ capacity'
-    → IsIndex held' t.records → KeepsProof t.opening.problem.groups (founds t.records) t.exhausted proof'
-    → IsDrivenOn engine engine' t.records e → IsKept t first capacity' held' engine' proof'
-kept_step {s = s} {t = t} {e = e} {first = first} {engine = engine} capacity' held' engine' proof' k step room index kept on =
+pub kept_step : {s t : State} {e : Entry} {first capacity : ℕ} {held : Held} {tally : Tally} {engine : EngineState}
+    {proof : Option Derivation} (capacity' : ℕ) (held' : Held) (tally' : Tally) (engine' : EngineState) (proof' : Option Derivation)
+    → IsKept s first capacity held tally engine proof → CoreStep s e t → length t.history + live_count t.workers ≤ capacity'
+    → IsIndex held' t.records → Tallies t.opening.goal t.opening.problem.groups (founds t.records) tally' → KeepsProof t.opening.problem.groups (founds t.records) t.exhausted proof'
+    → IsDrivenOn engine engine' t.records e → IsKept t first capacity' held' tally' engine' proof'
+kept_step {s = s} {t = t} {e = e} {first = first} {engine = engine} capacity' held' tally' engine' proof' k step room index tallies kept on =
     let is = step.is in
     let opening : t.opening ≡ s.opening = ap (λ (x : State). x.opening) is in
     let history : t.history ≡ s.history ++ e ∷ [] = ap (λ (x : State). x.history) is in
@@ -189,6 +193,7 @@ kept_step {s = s} {t = t} {e = e} {first = first} {engine = engine} capacity' he
       small = subst (λ (n : ℕ). n < 2 ^ 64) (sym (ap (λ (x : State). x.opening.budget) is)) k.small;
       room = room;
       index = index;
+      tallies = tallies;
       keeps = kept;
       driven =
           subst (λ x. IsDriven x engine') (sym is)
@@ -211,18 +216,18 @@ keeps-more s r records (Some d) ok adds h =
     (alone-right s.opening.problem r ok.opening.problem adds.accepted)))
 
 -- the step that a call makes
-pub step_made : (tops : Bool) (problem : Problem) (first budget limit : ℕ) (common common' : Common)
+pub step_made : (tops : Bool) (goal : Goal) (problem : Problem) (first budget limit : ℕ) (common common' : Common)
     (records records' : List Record) (workers workers' : List Worker) (history history' : List Entry) (e : Entry)
     (u : Turn) → first ≤ length records
-    → IsReady (state_of tops problem first budget limit common records workers history) e.worker e.used
-    → Does (state_of tops problem first budget limit common records workers history)
-    (settle e.used (turn_at (state_of tops problem first budget limit common records workers history) e.worker)) e.call
+    → IsReady (state_of tops goal problem first budget limit common records workers history) e.worker e.used
+    → Does (state_of tops goal problem first budget limit common records workers history)
+    (settle e.used (turn_at (state_of tops goal problem first budget limit common records workers history) e.worker)) e.call
     e.engine e.reply u records' → common' ≡ u.common → workers' ≡ set workers e.worker u.worker
     → history' ≡ history ++ e ∷ []
-    → CoreStep (state_of tops problem first budget limit common records workers history) e
-    (state_of tops problem first budget limit common' records' workers' history')
-step_made tops problem first budget limit common common' records records' workers workers' history history' e u low r does c w h =
-    let s : State = state_of tops problem first budget limit common records workers history in
+    → CoreStep (state_of tops goal problem first budget limit common records workers history) e
+    (state_of tops goal problem first budget limit common' records' workers' history')
+step_made tops goal problem first budget limit common common' records records' workers workers' history history' e u low r does c w h =
+    let s : State = state_of tops goal problem first budget limit common records workers history in
     record {
       alive = r.alive;
       within = r.within;
@@ -230,40 +235,41 @@ step_made tops problem first budget limit common common' records records' worker
       records = records';
       does = does;
       is =
-          moved tops problem first budget limit common common' records records' workers workers' history history' e u c w h
+          moved tops goal problem first budget limit common common' records records' workers workers' history history' e u c w h
           (first_stays s first (settle e.used (turn_at s e.worker)) u e records' low does);
     }
 
 -- what a core keeps after a call
-pub call_kept : {tops : Bool} {problem : Problem} {first budget limit : ℕ} {common : Common} {records : List Record}
-    {workers : List Worker} {history : List Entry} {capacity : ℕ} {held : Held} {engine : EngineState}
+pub call_kept : {tops : Bool} {goal : Goal} {problem : Problem} {first budget limit : ℕ} {common : Common} {records : List Record}
+    {workers : List Worker} {history : List Entry} {capacity : ℕ} {held : Held} {tally : Tally} {engine : EngineState}
     {proof : Option Derivation}
     → (common' : Common) (records' : List Record) (workers' : List Worker) (history' : List Entry) (capacity' : ℕ)
-    (held' : Held) (engine' : EngineState) (proof' : Option Derivation) (e : Entry) (u : Turn)
-    → IsKept (state_of tops problem first budget limit common records workers history) first capacity held engine proof
-    → IsReady (state_of tops problem first budget limit common records workers history) e.worker e.used
-    → Does (state_of tops problem first budget limit common records workers history)
-    (settle e.used (turn_at (state_of tops problem first budget limit common records workers history) e.worker)) e.call
+    (held' : Held) (tally' : Tally) (engine' : EngineState) (proof' : Option Derivation) (e : Entry) (u : Turn)
+    → IsKept (state_of tops goal problem first budget limit common records workers history) first capacity held tally engine proof
+    → IsReady (state_of tops goal problem first budget limit common records workers history) e.worker e.used
+    → Does (state_of tops goal problem first budget limit common records workers history)
+    (settle e.used (turn_at (state_of tops goal problem first budget limit common records workers history) e.worker)) e.call
     e.engine e.reply u records' → common' ≡ u.common → workers' ≡ set workers e.worker u.worker
     → history' ≡ history ++ e ∷ [] → capacity ≤ capacity'
     → (u.worker.ended ≡ false → length history + (length workers + 1) ≤ capacity') → IsIndex held' records'
+    → Tallies goal problem.groups (founds records') tally'
     → KeepsProof problem.groups (founds records') u.common.exhausted proof' → IsDrivenOn engine engine' records' e
-    → IsKept (state_of tops problem first budget limit common' records' workers' history') first capacity' held'
-    engine' proof'
-call_kept {tops = tops} {problem = problem} {first = first} {budget = budget} {limit = limit} {common = common} {records = records} {workers = workers} {history = history} common' records' workers' history' capacity' held' engine' proof' e u k r does c w h longer on index keeps driven =
+    → IsKept (state_of tops goal problem first budget limit common' records' workers' history') first capacity' held'
+    tally' engine' proof'
+call_kept {tops = tops} {goal = goal} {problem = problem} {first = first} {budget = budget} {limit = limit} {common = common} {records = records} {workers = workers} {history = history} common' records' workers' history' capacity' held' tally' engine' proof' e u k r does c w h longer on index tallies keeps driven =
     let step =
-    step_made tops problem first budget limit common common' records records' workers workers' history history' e u
+    step_made tops goal problem first budget limit common common' records records' workers workers' history history' e u
     k.begins r does c w h in
     let room = room_after workers (length history) _ capacity' e.worker u r.seat r.alive k.room longer on in
     let size : length history' ≡ length history + 1 = ap length h ∙ length-append history (e ∷ []) in
     let live : live_count workers' ≡ live_count (set workers e.worker u.worker) = ap live_count w in
     let marked : common'.exhausted ≡ u.common.exhausted = ap (λ (x : Common). x.exhausted) c in
-    kept_step capacity' held' engine' proof' k step (omega arith) index
+    kept_step capacity' held' tally' engine' proof' k step (omega arith) index tallies
     (subst (λ b. KeepsProof problem.groups (founds records') b proof') (sym marked) keeps) driven
 
 -- a call that does not mark exhausted keeps the proof
-pub proof_kept : {s : State} {first capacity : ℕ} {held : Held} {engine : EngineState} {proof : Option Derivation}
-    (e : Entry) (u : Turn) (records : List Record) → IsKept s first capacity held engine proof
+pub proof_kept : {s : State} {first capacity : ℕ} {held : Held} {tally : Tally} {engine : EngineState} {proof : Option Derivation}
+    (e : Entry) (u : Turn) (records : List Record) → IsKept s first capacity held tally engine proof
     → Does s (settle e.used (turn_at s e.worker)) e.call e.engine e.reply u records → u.common.exhausted ≡ s.exhausted
     → KeepsProof s.opening.problem.groups (founds records) u.common.exhausted proof
 proof_kept {s = s} {proof = proof} e u records k does same =
@@ -282,15 +288,16 @@ proof_taken groups groups' found found' t u before (Some d) same is h gives =
     (gives.0, ap (λ f. shows_all_explored groups f d) (sym is) ∙ ap (λ n. shows_all_explored n found' d) (sym same) ∙ gives.1)
 
 -- a take's answer over equal parts
-pub takes_here : {groups groups' : ℕ} {found found' : List Found} {size size' : ℕ} {t t' : Turn}
+pub takes_here : {groups groups' : ℕ} {found found' : List Found} {told told' : Bool} {size size' : ℕ} {t t' : Turn}
     (tops : Bool) (limit number : ℕ) (engine : Option ℕ) (reply : Reply) (u : Turn) → groups ≡ groups' → found ≡ found'
-    → size ≡ size' → t ≡ t' → Takes tops groups found (leb limit size) number t engine reply u
-    → Takes tops groups' found' (leb limit size') number t' engine reply u
-takes_here {groups = groups} {groups' = groups'} {found = found} {found' = found'} {size = size} {size' = size'} {t = t} tops limit number engine reply u a b n e h =
-    subst (λ x. Takes tops groups' found' (leb limit size') number x engine reply u) e
-    (subst (λ x. Takes tops groups' found' (leb limit x) number t engine reply u) n
-    (subst (λ x. Takes tops groups' x (leb limit size) number t engine reply u) b
-    (subst (λ x. Takes tops x found (leb limit size) number t engine reply u) a h)))
+    → told ≡ told' → size ≡ size' → t ≡ t' → Takes tops groups found told (leb limit size) number t engine reply u
+    → Takes tops groups' found' told' (leb limit size') number t' engine reply u
+takes_here {groups = groups} {groups' = groups'} {found = found} {found' = found'} {told = told} {told' = told'} {size = size} {size' = size'} {t = t} tops limit number engine reply u a b c n e h =
+    subst (λ x. Takes tops groups' found' told' (leb limit size') number x engine reply u) e
+    (subst (λ x. Takes tops groups' found' told' (leb limit x) number t engine reply u) n
+    (subst (λ x. Takes tops groups' found' x (leb limit size) number t engine reply u) c
+    (subst (λ x. Takes tops groups' x told (leb limit size) number t engine reply u) b
+    (subst (λ x. Takes tops x found told (leb limit size) number t engine reply u) a h))))
 
 -- a post's answer over equal parts
 pub posts_here : {size size' : ℕ} {t t' : Turn} (p : Problem) (limit : ℕ) (records : List Record) (kind : Kind)
@@ -302,8 +309,8 @@ posts_here {size = size} {size' = size'} {t = t} p limit records kind groups rep
     (subst (λ x. Posts p (leb limit x) records t kind groups reply u records') n h)
 
 -- a worker that has not ended may call, having used nothing
-pub may_from : {s : State} {first capacity : ℕ} {held : Held} {engine : EngineState} {proof : Option Derivation}
-    (w : ℕ) → IsKept s first capacity held engine proof → w < length s.workers → (worker_at s.workers w).ended ≡ false
+pub may_from : {s : State} {first capacity : ℕ} {held : Held} {tally : Tally} {engine : EngineState} {proof : Option Derivation}
+    (w : ℕ) → IsKept s first capacity held tally engine proof → w < length s.workers → (worker_at s.workers w).ended ≡ false
     → CanCall s.opening w 0 (calls_of w s.history)
 may_from {s = s} w k seat alive =
     let ok = kept_sound k in
@@ -325,8 +332,8 @@ alive_at ws w x seat is h =
     ap (λ (y : Worker). y.ended) (sym (is ∙ get_or_default ws w x no_worker seat)) ∙ not_ended x.ended h
 
 -- where the worker at each place has ended, each has by its own entries
-pub ended_from : {s : State} {first capacity : ℕ} {held : Held} {engine : EngineState} {proof : Option Derivation}
-    → IsKept s first capacity held engine proof
+pub ended_from : {s : State} {first capacity : ℕ} {held : Held} {tally : Tally} {engine : EngineState} {proof : Option Derivation}
+    → IsKept s first capacity held tally engine proof
     → ((w : ℕ) → w < length s.workers → (worker_at s.workers w).ended ≡ true) → HaveEnded s.opening s.history
 ended_from {s = s} k all =
     let ok = kept_sound k in
@@ -337,8 +344,8 @@ ended_from {s = s} k all =
     }
 
 -- the other way round
-pub may_to : {s : State} {first capacity : ℕ} {held : Held} {engine : EngineState} {proof : Option Derivation} (w : ℕ)
-    → IsKept s first capacity held engine proof → CanCall s.opening w 0 (calls_of w s.history)
+pub may_to : {s : State} {first capacity : ℕ} {held : Held} {tally : Tally} {engine : EngineState} {proof : Option Derivation} (w : ℕ)
+    → IsKept s first capacity held tally engine proof → CanCall s.opening w 0 (calls_of w s.history)
     → (w < length s.workers) × ((worker_at s.workers w).ended ≡ false)
 may_to {s = s} w k can =
     let ok = kept_sound k in
@@ -351,8 +358,8 @@ pub not_ended_at : (ws : List Worker) (w : ℕ) (x : Worker) → w < length ws �
 not_ended_at ws w x seat is h = ap not (ap (λ (y : Worker). y.ended) (is ∙ get_or_default ws w x no_worker seat) ∙ h)
 
 -- the other way round
-pub ended_to : {s : State} {first capacity : ℕ} {held : Held} {engine : EngineState} {proof : Option Derivation}
-    → IsKept s first capacity held engine proof → HaveEnded s.opening s.history → (w : ℕ) → w < length s.workers
+pub ended_to : {s : State} {first capacity : ℕ} {held : Held} {tally : Tally} {engine : EngineState} {proof : Option Derivation}
+    → IsKept s first capacity held tally engine proof → HaveEnded s.opening s.history → (w : ℕ) → w < length s.workers
     → (worker_at s.workers w).ended ≡ true
 ended_to {s = s} k over w seat =
     let ok = kept_sound k in

@@ -1,3 +1,5 @@
+pub mod Tallies
+pub mod TallySteps
 pub mod Turns
 pub mod Steps
 pub mod Explored

@@ -8,7 +8,8 @@ use Rattle.map_core.specs.declared.entry.Reply.TheVariants.{Job, Grant, New}
 use Rattle.map_core.specs.declared.entry.Entry.{Entry}
 use Rattle.map_core.specs.declared.turn.Turn.{Turn}
 use Rattle.evidence_rec.specs.declared.record.Record.{Record}
-use Rattle.map_core.specs.Core.{State, turn_at, settle, is_full, Does, CoreStep, CoreRun}
+use Rattle.evidence_rec.specs.Records.{founds}
+use Rattle.map_core.specs.Core.{State, turn_at, settle, is_full, is_told, Does, CoreStep, CoreRun}
 use Rattle.map_core.specs.Own.{is_retirement}
 use Rattle.map_core.specs.Sound.{IsSound}
 use Rattle.map_core.specs.Laws.{KeepsMarks}
@@ -23,17 +24,19 @@ step_keeps s t e step =
     subst (KeepsMarks s) (sym step.is)
     (record {
       exhausted = f.keeps_exhausted;
+      settled = f.keeps_settled;
       limited = f.keeps_limited;
       stopped = λ h. f.stopped ∙ or_left s.stopped (is_retirement e.reply) h;
     })
 
 pub marks_stay : (s t : State) (log : List Entry) → CoreRun s log t → KeepsMarks s t
-marks_stay s t [] run = subst (KeepsMarks s) (sym run) (record { exhausted = λ h. h; limited = λ h. h; stopped = λ h. h })
+marks_stay s t [] run = subst (KeepsMarks s) (sym run) (record { exhausted = λ h. h; settled = λ h. h; limited = λ h. h; stopped = λ h. h })
 marks_stay s t (e ∷ es) run =
     let one = step_keeps s run.0 e run.1 in
     let rest = marks_stay run.0 t es run.2 in
     record {
       exhausted = λ h. rest.exhausted (one.exhausted h);
+      settled = λ h. rest.settled (one.settled h);
       limited = λ h. rest.limited (one.limited h);
       stopped = λ h. rest.stopped (one.stopped h);
     }
@@ -75,18 +78,18 @@ pub none_is_new : (s t : State) (log : List Entry) → IsSound s → CoreRun s l
 none_is_new s t log ok run marked =
     along IsClosed (λ e. e.reply ≢ New) closed_step s t log (ok, or_cases s.exhausted s.limited marked) run
 
--- a job is given only where no mark stands and the limit isn't reached
+-- a job is given only where no mark stands, not all that is wanted is told and the limit isn't reached
 job_unmarked : (s : State) (t : Turn) (call : Call) (engine : Option ℕ) (turn n : ℕ) (seed : List ℕ) (u : Turn) (records : List Record)
     → Does s t call engine (Job turn seed n) u records
-    → (t.common.exhausted ≡ false) × (is_full s.opening s.records ≡ false) × (t.common.stopped ≡ false)
+    → (t.common.exhausted ≡ false) × (is_told s.opening.goal s.opening.problem.groups (founds s.records) ≡ false) × (is_full s.opening s.records ≡ false) × (t.common.stopped ≡ false)
 job_unmarked s t Take None turn n seed u records h = absurd h.0
-job_unmarked s t Take (Some k) turn n seed u records h = (h.0.0.not_exhausted, h.0.0.not_full, h.0.0.not_stopped)
+job_unmarked s t Take (Some k) turn n seed u records h = (h.0.0.not_exhausted, h.0.0.not_told, h.0.0.not_full, h.0.0.not_stopped)
 job_unmarked s t (Refill asked) engine turn n seed u records h = absurd h.1
 job_unmarked s t (Post kind set) engine turn n seed u records h = absurd h.1
 job_unmarked s t Retire engine turn n seed u records h = cc (h.1)
 
 job_step : (s t : State) (e : Entry) (turn n : ℕ) (seed : List ℕ) → CoreStep s e t → e.reply ≡ Job turn seed n
-    → (s.exhausted ≡ false) × (is_full s.opening s.records ≡ false) × (s.stopped ≡ false)
+    → (s.exhausted ≡ false) × (is_told s.opening.goal s.opening.problem.groups (founds s.records) ≡ false) × (is_full s.opening s.records ≡ false) × (s.stopped ≡ false)
 job_step s t e turn n seed step job =
     job_unmarked s (settle e.used (turn_at s e.worker)) e.call e.engine turn n seed step.turn step.records
     (subst (λ r. Does s (settle e.used (turn_at s e.worker)) e.call e.engine r step.turn step.records) job step.does)
@@ -95,29 +98,35 @@ abbrev GivesNoJob : Entry → Type 0
 GivesNoJob e = (turn n : ℕ) (seed : List ℕ) → e.reply ≢ Job turn seed n
 
 abbrev IsMarked : State → Type 0
-IsMarked s = IsSound s × ((s.exhausted || s.limited || s.stopped) ≡ true)
+IsMarked s = IsSound s × ((s.exhausted || s.settled || s.limited || s.stopped) ≡ true)
 
-marked_no_job : (s t : State) (e : Entry) → IsSound s → (s.exhausted || s.limited || s.stopped) ≡ true → CoreStep s e t
+marked_no_job : (s t : State) (e : Entry) → IsSound s → (s.exhausted || s.settled || s.limited || s.stopped) ≡ true → CoreStep s e t
     → GivesNoJob e
 marked_no_job s t e ok marked step turn n seed job =
     let none = job_step s t e turn n seed step job in
-    elim (or_cases (s.exhausted || s.limited) s.stopped marked) [
-      | inl closed ↦ elim (or_cases s.exhausted s.limited closed) [
-        | inl h ↦ true≢false (sym h ∙ none.0)
-        | inr h ↦ true≢false (sym (ok.limited h) ∙ none.1)
+    elim (or_cases (s.exhausted || s.settled || s.limited) s.stopped marked) [
+      | inl closed ↦ elim (or_cases (s.exhausted || s.settled) s.limited closed) [
+        | inl over ↦ elim (or_cases s.exhausted s.settled over) [
+          | inl h ↦ true≢false (sym h ∙ none.0)
+          | inr h ↦ true≢false (sym (ok.settled h) ∙ none.1)
+        ]
+        | inr h ↦ true≢false (sym (ok.limited h) ∙ none.2)
       ]
-      | inr h ↦ true≢false (sym h ∙ none.2)
+      | inr h ↦ true≢false (sym h ∙ none.3)
     ]
 
-marked_stays : (s t : State) → KeepsMarks s t → (s.exhausted || s.limited || s.stopped) ≡ true
-    → (t.exhausted || t.limited || t.stopped) ≡ true
+marked_stays : (s t : State) → KeepsMarks s t → (s.exhausted || s.settled || s.limited || s.stopped) ≡ true
+    → (t.exhausted || t.settled || t.limited || t.stopped) ≡ true
 marked_stays s t keeps marked =
-    elim (or_cases (s.exhausted || s.limited) s.stopped marked) [
-      | inl closed ↦ or_left (t.exhausted || t.limited) t.stopped (elim (or_cases s.exhausted s.limited closed) [
-        | inl h ↦ or_left t.exhausted t.limited (keeps.exhausted h)
-        | inr h ↦ or_right t.exhausted t.limited (keeps.limited h)
+    elim (or_cases (s.exhausted || s.settled || s.limited) s.stopped marked) [
+      | inl closed ↦ or_left (t.exhausted || t.settled || t.limited) t.stopped (elim (or_cases (s.exhausted || s.settled) s.limited closed) [
+        | inl over ↦ or_left (t.exhausted || t.settled) t.limited (elim (or_cases s.exhausted s.settled over) [
+          | inl h ↦ or_left t.exhausted t.settled (keeps.exhausted h)
+          | inr h ↦ or_right t.exhausted t.settled (keeps.settled h)
+        ])
+        | inr h ↦ or_right (t.exhausted || t.settled) t.limited (keeps.limited h)
       ])
-      | inr h ↦ or_right (t.exhausted || t.limited) t.stopped (keeps.stopped h)
+      | inr h ↦ or_right (t.exhausted || t.settled || t.limited) t.stopped (keeps.stopped h)
     ]
 
 marked_step : (s t : State) (e : Entry) → IsMarked s → CoreStep s e t → GivesNoJob e × IsMarked t
@@ -125,7 +134,7 @@ marked_step s t e (ok, marked) step =
     (marked_no_job s t e ok marked step, (step_sound s t e ok step, marked_stays s t (step_keeps s t e step) marked))
 
 pub none_is_job : (s t : State) (log : List Entry) → IsSound s → CoreRun s log t
-    → (s.exhausted || s.limited || s.stopped) ≡ true
+    → (s.exhausted || s.settled || s.limited || s.stopped) ≡ true
     → AllByRecursion (λ (e : Entry). (turn n : ℕ) (seed : List ℕ) → e.reply ≢ Job turn seed n) log
 none_is_job s t log ok run marked = along IsMarked GivesNoJob marked_step s t log (ok, marked) run
 

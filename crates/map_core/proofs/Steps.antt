@@ -3,7 +3,7 @@ use Rattle.std.proofs.Common.{◌≡◌, ◌≢◌, ◌⊎◌, ℕ, ◌<◌, ◌
 use Rattle.std.specs.List.{list_any, AllByRecursion}
 use Rattle.std.proofs.Math.Bool.{or-false}
 use Rattle.std.proofs.lemmas.Bool.{false≢true, true≢false, or_cases, or_left, or_right, leb-true, leb-false, le-leb, cases_Bool, ltb-true, ltb-false}
-use Rattle.std.proofs.lemmas.List.{get_or_past, get_or-set_same, get_or-set_other, length-set, get_or-replicate, length_push}
+use Rattle.std.proofs.lemmas.List.{map-append, get_or_past, get_or-set_same, get_or-set_other, length-set, get_or-replicate, length_push}
 use Rattle.std.proofs.lemmas.List.Folds.{list_any-append, list_any_at, sum_by-replicate}
 use Rattle.std.proofs.lemmas.List.Elements.{filter-append}
 use Rattle.std.proofs.lemmas.List.Sums.{sum_by-set, sum_by_push}
@@ -17,15 +17,17 @@ use Rattle.evidence_rec.specs.Records.{kind_of, set_of, found_of, founds, IsAcce
 use Rattle.map_core.specs.declared.entry.Call.{Call}
 use Rattle.map_core.specs.declared.entry.Call.TheVariants.{Take, Refill, Post, Retire}
 use Rattle.map_core.specs.declared.entry.Reply.{Reply}
-use Rattle.map_core.specs.declared.entry.Reply.TheVariants.{Job, Grant, Exhausted, Limit, Dry, Stopped, New, Already, Retired, Memory}
+use Rattle.map_core.specs.declared.entry.Reply.TheVariants.{Job, Grant, Exhausted, Settled, Limit, Dry, Stopped, New, Already, Retired, Memory}
 use Rattle.map_core.specs.declared.entry.Entry.{Entry}
 use Rattle.map_core.specs.declared.entry.Opening.{Opening}
+use Rattle.map_core.specs.declared.entry.Goal.{Goal}
 use Rattle.map_core.specs.declared.turn.Worker.{Worker}
 use Rattle.map_core.specs.declared.turn.Turn.{Turn}
-use Rattle.map_core.specs.Core.{State, no_worker, new_worker, worker_at, opened, turn_at, settle, is_held, is_full, Posts, Does, after, CoreStep, CoreRun}
+use Rattle.map_core.specs.Core.{State, no_worker, new_worker, worker_at, opened, turn_at, settle, is_held, is_full, is_told, Posts, Does, after, CoreStep, CoreRun}
 use Rattle.map_core.specs.Own.{caller_of, calls_of, worker_after, worker_from, worker_of, is_retirement, engine_part}
 use Rattle.map_core.specs.Sound.{AreNew, IsOpening, purse_of, is_live, IsSound}
 use Rattle.map_core.proofs.Turns.{TurnFacts, turn_facts}
+use Rattle.map_core.proofs.Tallies.{told-append}
 
 -- one accepted record more, that was not held, where there was room for it
 pub record Adds (s : State) (records : List Record) (r : Record) : Type 0 where
@@ -54,6 +56,7 @@ grown-post s t u kind groups New records h =
 grown-post s t u kind groups (Job a b c) records h = absurd h
 grown-post s t u kind groups (Grant a) records h = absurd h
 grown-post s t u kind groups Exhausted records h = absurd h
+grown-post s t u kind groups Settled records h = absurd h
 grown-post s t u kind groups Dry records h = absurd h
 grown-post s t u kind groups Stopped records h = absurd h
 grown-post s t u kind groups Retired records h = absurd h
@@ -90,6 +93,14 @@ all_explored-longer groups rs more records is h =
       explored = λ set is_set within.
           ap (λ x. is_explored (founds x) set) is ∙ explored-append rs more set (h.explored set is_set within);
     }
+
+-- what is told stays so
+told-longer : (goal : Goal) (groups : ℕ) (rs more records : List Record) → records ≡ rs ++ more
+    → is_told goal groups (founds rs) ≡ true → is_told goal groups (founds records) ≡ true
+told-longer goal groups rs more records is h =
+    subst (λ x. is_told goal groups (founds x) ≡ true) (sym is)
+    (subst (λ x. is_told goal groups x ≡ true) (sym (map-append found_of rs more))
+    (told-append goal groups (founds rs) (founds more) h))
 
 full-longer : (o : Opening) (rs more records : List Record) → records ≡ rs ++ more → is_full o rs ≡ true
     → is_full o records ≡ true
@@ -215,6 +226,9 @@ after_sound s e u records ok alive f more =
       exhausted = λ h.
           all_explored-longer s.opening.problem.groups s.records longer.0 records longer.1
           (elim (f.exhausted h) [ inl was ↦ ok.exhausted was | inr all ↦ all ]);
+      settled = λ h.
+          told-longer s.opening.goal s.opening.problem.groups s.records longer.0 records longer.1
+          (elim (f.settled h) [ inl was ↦ ok.settled was | inr told ↦ told ]);
       limited = λ h.
           full-longer s.opening s.records longer.0 records longer.1
           (elim (f.limited h) [ inl was ↦ ok.limited was | inr full ↦ full ]);
@@ -238,18 +252,18 @@ after_sound s e u records ok alive f more =
       live = λ some.
           elim (f.live alive some) [
             | inl on ↦
-                or_left (list_any is_live (set s.workers i me)) (u.common.exhausted || (u.common.limited || u.common.stopped))
+                or_left (list_any is_live (set s.workers i me)) (u.common.exhausted || (u.common.settled || (u.common.limited || u.common.stopped)))
                 (list_any_at is_live (set s.workers i me) i no_worker
                 (subst (λ n. i < n) (sym (length-set s.workers i me)) low)
                 (ap is_live (worker_at-same s i me alive) ∙ ap not on))
-            | inr marks ↦ or_right (list_any is_live (set s.workers i me)) (u.common.exhausted || (u.common.limited || u.common.stopped)) marks
+            | inr marks ↦ or_right (list_any is_live (set s.workers i me)) (u.common.exhausted || (u.common.settled || (u.common.limited || u.common.stopped))) marks
           ];
       last = λ before x same unmarked.
           subst (λ (y : Entry). (worker_at (set s.workers i me) y.worker).ended ≡ true → y.reply ≡ Dry)
           (last-same s.history before e x same)
           (λ over.
           f.dry alive (sym (ap (λ (y : Worker). y.ended) (worker_at-same s i me alive)) ∙ over)
-          unmarked.exhausted unmarked.limited unmarked.stopped);
+          unmarked.exhausted unmarked.settled unmarked.limited unmarked.stopped);
       own =
           each_worker s i me
           (λ k (x : Worker). k < length (set s.workers i me) → x ≡ worker_of (calls_of k (s.history ++ e ∷ []))) alive
@@ -326,12 +340,13 @@ opening_sound o ok =
       begins = ([], sym (append-nil o.records));
       at_most = omega arith;
       exhausted = λ h. absurd (false≢true h);
+      settled = λ h. absurd (false≢true h);
       limited = λ h. absurd (false≢true h);
       stopped = refl;
       ended = λ w _. new-purse o.workers w;
       budget = let none = sum_by-replicate purse_of o.workers new_worker in omega arith;
       spent = refl;
-      live = λ _. ap (λ b. b || (false || (false || false))) (new-live o.workers ok.some);
+      live = λ _. ap (λ b. b || (false || (false || (false || false)))) (new-live o.workers ok.some);
       last = λ before e same. absurd (not_empty before e same);
       own = λ w low. new_worker_at o.workers w (omega (arith, length-new o.workers, low));
       named = tt;

@@ -9,9 +9,9 @@ use Rattle.evidence_rec.specs.Records.{founds}
 use Rattle.map_core.specs.declared.entry.Call.{Call}
 use Rattle.map_core.specs.declared.entry.Call.TheVariants.{Take, Refill, Post, Retire}
 use Rattle.map_core.specs.declared.entry.Reply.{Reply}
-use Rattle.map_core.specs.declared.entry.Reply.TheVariants.{Job, Grant, Exhausted, Limit, Dry, Stopped, New, Already, Retired, Memory}
+use Rattle.map_core.specs.declared.entry.Reply.TheVariants.{Job, Grant, Exhausted, Settled, Limit, Dry, Stopped, New, Already, Retired, Memory}
 use Rattle.map_core.specs.declared.turn.Turn.{Turn}
-use Rattle.map_core.specs.Core.{State, settle, give_back, end_turn, spend, grant, retire, mark_exhausted, mark_limited, refill_size, is_full, MayAsk, Takes, TakesAsked, TakesUnasked, Refills, Posts, Does}
+use Rattle.map_core.specs.Core.{State, settle, give_back, end_turn, spend, grant, retire, mark_exhausted, mark_settled, mark_limited, refill_size, is_full, is_told, MayAsk, Takes, TakesAsked, TakesUnasked, Refills, Posts, Does}
 use Rattle.map_core.specs.Own.{ended, worker_after, is_retirement, engine_part}
 
 -- from the part before the call to the part after it
@@ -21,13 +21,15 @@ pub record TurnFacts (s : State) (t : Turn) (used : ℕ) (engine : Option ℕ) (
   pub worker : u.worker ≡ worker_after t.worker used reply
   pub ended : t.worker.ended ≡ false → u.worker.ended ≡ true → u.worker.purse ≡ 0
   -- a worker that ends where nothing is marked was answered Dry
-  pub dry : t.worker.ended ≡ false → u.worker.ended ≡ true → u.common.exhausted ≡ false → u.common.limited ≡ false → u.common.stopped ≡ false → reply ≡ Dry
+  pub dry : t.worker.ended ≡ false → u.worker.ended ≡ true → u.common.exhausted ≡ false → u.common.settled ≡ false → u.common.limited ≡ false → u.common.stopped ≡ false → reply ≡ Dry
   pub stopped : u.common.stopped ≡ (t.common.stopped || is_retirement reply)
-  pub live : t.worker.ended ≡ false → 0 < u.common.available → (u.worker.ended ≡ false) ⊎ ((u.common.exhausted || (u.common.limited || u.common.stopped)) ≡ true)
+  pub live : t.worker.ended ≡ false → 0 < u.common.available → (u.worker.ended ≡ false) ⊎ ((u.common.exhausted || (u.common.settled || (u.common.limited || u.common.stopped))) ≡ true)
   pub exhausted : u.common.exhausted ≡ true → (t.common.exhausted ≡ true) ⊎ AllExplored s.opening.problem.groups (founds s.records)
+  pub settled : u.common.settled ≡ true → (t.common.settled ≡ true) ⊎ (is_told s.opening.goal s.opening.problem.groups (founds s.records) ≡ true)
   pub limited : u.common.limited ≡ true → (t.common.limited ≡ true) ⊎ (is_full s.opening s.records ≡ true)
   -- no mark is taken back
   pub keeps_exhausted : t.common.exhausted ≡ true → u.common.exhausted ≡ true
+  pub keeps_settled : t.common.settled ≡ true → u.common.settled ≡ true
   pub keeps_limited : t.common.limited ≡ true → u.common.limited ≡ true
 
 -- the part with so much more spent: all else of the worker and the marks is as before, and nothing is lost
@@ -35,6 +37,7 @@ record IsPaid (t u : Turn) (paid : ℕ) : Type 0 where
   last_grant : u.worker.last_grant ≡ t.worker.last_grant
   ended : u.worker.ended ≡ t.worker.ended
   exhausted : u.common.exhausted ≡ t.common.exhausted
+  settled : u.common.settled ≡ t.common.settled
   limited : u.common.limited ≡ t.common.limited
   stopped : u.common.stopped ≡ t.common.stopped
   total : (u.common.available + u.worker.purse) + u.common.spent ≡ (t.common.available + t.worker.purse) + t.common.spent
@@ -46,6 +49,7 @@ paid-settle t used le =
       last_grant = refl;
       ended = refl;
       exhausted = refl;
+      settled = refl;
       limited = refl;
       stopped = refl;
       total = omega arith;
@@ -58,6 +62,7 @@ paid-give_back t used le =
       last_grant = refl;
       ended = refl;
       exhausted = refl;
+      settled = refl;
       limited = refl;
       stopped = refl;
       total = omega arith;
@@ -71,6 +76,7 @@ paid-spend t used n le within =
       last_grant = refl;
       ended = refl;
       exhausted = refl;
+      settled = refl;
       limited = refl;
       stopped = refl;
       total = omega arith;
@@ -90,21 +96,23 @@ facts-end s t u used engine reply paid own kept why =
       spent = paid.spent;
       worker = ap (λ k. record { purse = 0; last_grant = k; ended = true }) paid.last_grant ∙ sym own;
       ended = λ _ _. refl;
-      dry = λ _ _ not_exhausted _ not_stopped. elim why [
+      dry = λ _ _ not_exhausted _ _ not_stopped. elim why [
         | inl h ↦ absurd (true≢false (sym h ∙ not_stopped))
         | inr more ↦ elim more [ inl h ↦ absurd (true≢false (sym h ∙ not_exhausted)) | inr none ↦ none.1 ]
       ];
       stopped = paid.stopped ∙ sym (or-false t.common.stopped) ∙ ap (λ b. t.common.stopped || b) (sym kept);
       live = λ _ some. elim why [
-        | inl h ↦ inr (or_right u.common.exhausted (u.common.limited || u.common.stopped) (or_right u.common.limited u.common.stopped h))
+        | inl h ↦ inr (or_right u.common.exhausted (u.common.settled || (u.common.limited || u.common.stopped)) (or_right u.common.settled (u.common.limited || u.common.stopped) (or_right u.common.limited u.common.stopped h)))
         | inr more ↦ elim more [
-          | inl h ↦ inr (or_left u.common.exhausted (u.common.limited || u.common.stopped) h)
+          | inl h ↦ inr (or_left u.common.exhausted (u.common.settled || (u.common.limited || u.common.stopped)) h)
           | inr none ↦ let empty = none.0 in absurd (omega arith)
         ]
       ];
       exhausted = λ h. inl (sym paid.exhausted ∙ h);
+      settled = λ h. inl (sym paid.settled ∙ h);
       limited = λ h. inl (sym paid.limited ∙ h);
       keeps_exhausted = λ h. paid.exhausted ∙ h;
+      keeps_settled = λ h. paid.settled ∙ h;
       keeps_limited = λ h. paid.limited ∙ h;
     }
 
@@ -118,13 +126,37 @@ facts-limit s t u used paid full =
       spent = paid.spent;
       worker = ap (λ k. record { purse = 0; last_grant = k; ended = true }) paid.last_grant;
       ended = λ _ _. refl;
-      dry = λ _ _ _ not_limited _. absurd (true≢false not_limited);
+      dry = λ _ _ _ _ not_limited _. absurd (true≢false not_limited);
       stopped = paid.stopped ∙ sym (or-false t.common.stopped);
-      live = λ _ _. inr (or_right u.common.exhausted (true || u.common.stopped) refl);
+      live = λ _ _. inr (or_right u.common.exhausted (u.common.settled || (true || u.common.stopped)) (or_right u.common.settled (true || u.common.stopped) refl));
       exhausted = λ h. inl (sym paid.exhausted ∙ h);
+      settled = λ h. inl (sym paid.settled ∙ h);
       limited = λ _. inr full;
       keeps_exhausted = λ h. paid.exhausted ∙ h;
+      keeps_settled = λ h. paid.settled ∙ h;
       keeps_limited = λ _. refl;
+    }
+
+-- a worker that ends since all that is wanted is told
+facts-settled : (s : State) (t u : Turn) (used : ℕ) → IsPaid t u (used + 0)
+    → is_told s.opening.goal s.opening.problem.groups (founds s.records) ≡ true
+    → TurnFacts s t used None Settled (end_turn (mark_settled u))
+facts-settled s t u used paid told =
+    let total = paid.total in
+    record {
+      total = omega arith;
+      spent = paid.spent;
+      worker = ap (λ k. record { purse = 0; last_grant = k; ended = true }) paid.last_grant;
+      ended = λ _ _. refl;
+      dry = λ _ _ _ not_settled _ _. absurd (true≢false not_settled);
+      stopped = paid.stopped ∙ sym (or-false t.common.stopped);
+      live = λ _ _. inr (or_right u.common.exhausted (true || (u.common.limited || u.common.stopped)) refl);
+      exhausted = λ h. inl (sym paid.exhausted ∙ h);
+      settled = λ _. inr told;
+      limited = λ h. inl (sym paid.limited ∙ h);
+      keeps_exhausted = λ h. paid.exhausted ∙ h;
+      keeps_settled = λ _. refl;
+      keeps_limited = λ h. paid.limited ∙ h;
     }
 
 -- a worker that ends since the engine answered that each set is explored
@@ -138,12 +170,14 @@ facts-exhausted s t u used n paid all =
       spent = paid.spent;
       worker = ap (λ k. record { purse = 0; last_grant = k; ended = true }) paid.last_grant;
       ended = λ _ _. refl;
-      dry = λ _ _ not_exhausted _ _. absurd (true≢false not_exhausted);
+      dry = λ _ _ not_exhausted _ _ _. absurd (true≢false not_exhausted);
       stopped = paid.stopped ∙ sym (or-false t.common.stopped);
       live = λ _ _. inr refl;
       exhausted = λ _. inr all;
+      settled = λ h. inl (sym paid.settled ∙ h);
       limited = λ h. inl (sym paid.limited ∙ h);
       keeps_exhausted = λ _. refl;
+      keeps_settled = λ h. paid.settled ∙ h;
       keeps_limited = λ h. paid.limited ∙ h;
     }
 
@@ -159,12 +193,14 @@ facts-retire s t u used engine reply paid own retired =
       spent = paid.spent;
       worker = ap (λ k. record { purse = 0; last_grant = k; ended = true }) paid.last_grant ∙ sym own;
       ended = λ _ _. refl;
-      dry = λ _ _ _ _ not_stopped. absurd (true≢false not_stopped);
+      dry = λ _ _ _ _ _ not_stopped. absurd (true≢false not_stopped);
       stopped = sym (or_right t.common.stopped (is_retirement reply) retired);
-      live = λ _ _. inr (or_right u.common.exhausted (u.common.limited || true) (or_right u.common.limited true refl));
+      live = λ _ _. inr (or_right u.common.exhausted (u.common.settled || (u.common.limited || true)) (or_right u.common.settled (u.common.limited || true) (or_right u.common.limited true refl)));
       exhausted = λ h. inl (sym paid.exhausted ∙ h);
+      settled = λ h. inl (sym paid.settled ∙ h);
       limited = λ h. inl (sym paid.limited ∙ h);
       keeps_exhausted = λ h. paid.exhausted ∙ h;
+      keeps_settled = λ h. paid.settled ∙ h;
       keeps_limited = λ h. paid.limited ∙ h;
     }
 
@@ -184,12 +220,14 @@ facts-grant s t u used n engine reply paid own kept le none =
           ap (λ k. record { purse = k; last_grant = n; ended = u.worker.ended }) purse
           ∙ ap (λ b. record { purse = n; last_grant = n; ended = b }) paid.ended ∙ sym own;
       ended = λ alive over. absurd (false≢true (sym (paid.ended ∙ alive) ∙ over));
-      dry = λ alive over _ _ _. absurd (false≢true (sym (paid.ended ∙ alive) ∙ over));
+      dry = λ alive over _ _ _ _. absurd (false≢true (sym (paid.ended ∙ alive) ∙ over));
       stopped = paid.stopped ∙ sym (or-false t.common.stopped) ∙ ap (λ b. t.common.stopped || b) (sym kept);
       live = λ alive _. inl (paid.ended ∙ alive);
       exhausted = λ h. inl (sym paid.exhausted ∙ h);
+      settled = λ h. inl (sym paid.settled ∙ h);
       limited = λ h. inl (sym paid.limited ∙ h);
       keeps_exhausted = λ h. paid.exhausted ∙ h;
+      keeps_settled = λ h. paid.settled ∙ h;
       keeps_limited = λ h. paid.limited ∙ h;
     }
 
@@ -203,26 +241,31 @@ facts-kept s t used reply le own kept =
       spent = omega arith;
       worker = sym own;
       ended = λ alive over. absurd (false≢true (sym alive ∙ over));
-      dry = λ alive over _ _ _. absurd (false≢true (sym alive ∙ over));
+      dry = λ alive over _ _ _ _. absurd (false≢true (sym alive ∙ over));
       stopped = sym (or-false t.common.stopped) ∙ ap (λ b. t.common.stopped || b) (sym kept);
       live = λ alive _. inl alive;
       exhausted = λ h. inl h;
+      settled = λ h. inl h;
       limited = λ h. inl h;
       keeps_exhausted = λ h. h;
+      keeps_settled = λ h. h;
       keeps_limited = λ h. h;
     }
 
 facts-unasked : (s : State) (t : Turn) (used : ℕ) (reply : Reply) (u : Turn) → used ≤ t.worker.purse
-    → TakesUnasked (is_full s.opening s.records) (give_back (settle used t)) reply u → TurnFacts s t used None reply u
+    → TakesUnasked (is_told s.opening.goal s.opening.problem.groups (founds s.records)) (is_full s.opening s.records) (give_back (settle used t)) reply u → TurnFacts s t used None reply u
 facts-unasked s t used Stopped u le h =
     subst (TurnFacts s t used None Stopped) (sym h.1)
     (facts-end s t (give_back (settle used t)) used None Stopped (paid-give_back t used le) refl refl (inl h.0))
 facts-unasked s t used Exhausted u le h =
     subst (TurnFacts s t used None Exhausted) (sym h.2)
     (facts-end s t (give_back (settle used t)) used None Exhausted (paid-give_back t used le) refl refl (inr (inl h.1)))
+facts-unasked s t used Settled u le h =
+    subst (TurnFacts s t used None Settled) (sym h.3)
+    (facts-settled s t (give_back (settle used t)) used (paid-give_back t used le) h.2)
 facts-unasked s t used Limit u le h =
-    subst (TurnFacts s t used None Limit) (sym h.3)
-    (facts-limit s t (give_back (settle used t)) used (paid-give_back t used le) h.2)
+    subst (TurnFacts s t used None Limit) (sym h.4)
+    (facts-limit s t (give_back (settle used t)) used (paid-give_back t used le) h.3)
 facts-unasked s t used Memory u le h =
     subst (TurnFacts s t used None Memory) (sym h)
     (facts-retire s t (give_back (settle used t)) used None Memory (paid-give_back t used le) refl refl)
@@ -234,7 +277,7 @@ facts-unasked s t used Already u le h = absurd h
 facts-unasked s t used Retired u le h = absurd h
 
 facts-asked : (s : State) (t : Turn) (used n : ℕ) (reply : Reply) (u : Turn) → used ≤ t.worker.purse
-    → MayAsk (is_full s.opening s.records) (give_back (settle used t)) n
+    → MayAsk (is_told s.opening.goal s.opening.problem.groups (founds s.records)) (is_full s.opening s.records) (give_back (settle used t)) n
     → TakesAsked s.opening.tops s.opening.problem.groups (founds s.records) (length s.history + 1) (give_back (settle used t)) n reply u
     → TurnFacts s t used (Some n) reply u
 facts-asked s t used n (Job turn seed g) u le may h =
@@ -255,6 +298,7 @@ facts-asked s t used n Memory u le may h =
     subst (TurnFacts s t used (Some n) Memory) (sym h)
     (facts-retire s t (spend n (give_back (settle used t))) used (Some n) Memory paid refl refl)
 facts-asked s t used n (Grant a) u le may h = absurd h
+facts-asked s t used n Settled u le may h = absurd h
 facts-asked s t used n Limit u le may h = absurd h
 facts-asked s t used n Stopped u le may h = absurd h
 facts-asked s t used n New u le may h = absurd h
@@ -262,7 +306,7 @@ facts-asked s t used n Already u le may h = absurd h
 facts-asked s t used n Retired u le may h = absurd h
 
 facts-takes : (s : State) (t : Turn) (used : ℕ) (engine : Option ℕ) (reply : Reply) (u : Turn) → used ≤ t.worker.purse
-    → Takes s.opening.tops s.opening.problem.groups (founds s.records) (is_full s.opening s.records) (length s.history + 1) (give_back (settle used t)) engine reply u
+    → Takes s.opening.tops s.opening.problem.groups (founds s.records) (is_told s.opening.goal s.opening.problem.groups (founds s.records)) (is_full s.opening s.records) (length s.history + 1) (give_back (settle used t)) engine reply u
     → TurnFacts s t used engine reply u
 facts-takes s t used None reply u le h = facts-unasked s t used reply u le h
 facts-takes s t used (Some n) reply u le h = facts-asked s t used n reply u le h.0 h.1
@@ -293,6 +337,7 @@ facts-refills s t used Memory u le h =
     (facts-retire s t (give_back (settle used t)) used None Memory (paid-give_back t used le) refl refl)
 facts-refills s t used (Job a b c) u le h = absurd h
 facts-refills s t used Exhausted u le h = absurd h
+facts-refills s t used Settled u le h = absurd h
 facts-refills s t used Limit u le h = absurd h
 facts-refills s t used New u le h = absurd h
 facts-refills s t used Already u le h = absurd h
@@ -313,6 +358,7 @@ facts-posts s t used kind set Memory u records le h =
 facts-posts s t used kind set (Job a b c) u records le h = absurd h
 facts-posts s t used kind set (Grant a) u records le h = absurd h
 facts-posts s t used kind set Exhausted u records le h = absurd h
+facts-posts s t used kind set Settled u records le h = absurd h
 facts-posts s t used kind set Dry u records le h = absurd h
 facts-posts s t used kind set Stopped u records le h = absurd h
 facts-posts s t used kind set Retired u records le h = absurd h

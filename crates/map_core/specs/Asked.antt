@@ -20,7 +20,7 @@ GivesProof groups found t u proof =
     MatchOption proof (u.common.exhausted ≡ t.common.exhausted) (λ d. (u.common.exhausted ≡ true) × (shows_all_explored groups found d ≡ true))
 
 -- the answer is one of the definition, and is kept as it is given
-pub record IsAnswered (tops : Bool) (engine : EngineState) (full : Bool) (number : ℕ) (t : Turn) (answer : TakeAnswer) : Type 0 where
-  pub takes : Takes tops engine.groups engine.blocks full number t answer.engine answer.kept answer.turn
+pub record IsAnswered (tops : Bool) (engine : EngineState) (told full : Bool) (number : ℕ) (t : Turn) (answer : TakeAnswer) : Type 0 where
+  pub takes : Takes tops engine.groups engine.blocks told full number t answer.engine answer.kept answer.turn
   pub reply : take_reply answer.reply ≡ answer.kept
   pub proof : GivesProof engine.groups engine.blocks t answer.turn answer.proof

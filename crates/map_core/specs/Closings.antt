@@ -15,18 +15,19 @@ use Rattle.map_core.specs.declared.entry.Reply.TheVariants.{Dry}
 use Rattle.map_core.specs.declared.entry.Entry.{Entry}
 use Rattle.map_core.specs.declared.entry.Opening.{Opening}
 use Rattle.map_core.specs.declared.closing.Verdict.{Verdict}
-use Rattle.map_core.specs.declared.closing.Verdict.TheVariants.{Complete, Memory, Limit, Budget}
+use Rattle.map_core.specs.declared.closing.Verdict.TheVariants.{Complete, Settled, Memory, Limit, Budget}
 use Rattle.map_core.specs.declared.closing.Closing.{Closing}
-use Rattle.map_core.specs.Core.{State, IsReached, is_held}
+use Rattle.map_core.specs.Core.{State, IsReached, is_held, is_told}
 use Rattle.map_core.specs.Own.{calls_of, worker_of, engine_used_in}
 use Rattle.map_core.specs.Sound.{IsSound}
 
--- exhausted goes before stopped, and stopped before limited
-abbrev pub verdict_by : Bool → Bool → Bool → Verdict
-verdict_by true stopped limited = Complete
-verdict_by false true limited = Memory
-verdict_by false false true = Limit
-verdict_by false false false = Budget
+-- exhausted goes before settled, settled before stopped, and stopped before limited
+abbrev pub verdict_by : Bool → Bool → Bool → Bool → Verdict
+verdict_by true settled stopped limited = Complete
+verdict_by false true stopped limited = Settled
+verdict_by false false true limited = Memory
+verdict_by false false false true = Limit
+verdict_by false false false false = Budget
 
 -- each worker has ended, by its own entries
 pub record HaveEnded (o : Opening) (history : List Entry) : Type 0 where
@@ -46,8 +47,9 @@ pub record IsClosing (s : State) (closing : Closing) (log : List LogStep) : Type
   pub sound : IsSound s
   pub records : closing.records ≡ s.records
   pub history : closing.history ≡ s.history
-  pub verdict : closing.verdict ≡ verdict_by s.exhausted s.stopped s.limited
+  pub verdict : closing.verdict ≡ verdict_by s.exhausted s.settled s.stopped s.limited
   pub all : closing.verdict ≡ Complete → HoldsAll s.opening.problem s.records
+  pub told : closing.verdict ≡ Settled → is_told s.opening.goal s.opening.problem.groups (founds s.records) ≡ true
   pub spent : closing.verdict ≡ Budget → s.spent ≡ s.opening.budget
   pub dry : closing.verdict ≡ Budget → EndsDry s.history log
   -- a derivation of the empty clause from the records' block clauses

@@ -8,6 +8,7 @@ use Rattle.std.specs.Cmp.Lexicographic.{pointwise}
 use Rattle.std.specs.Bool.{nat_eq}
 use Rattle.gm_base.specs.Problem.{Problem}
 use Rattle.gm_base.specs.Explored.{Found}
+use Rattle.gm_base.specs.Roles.{are_settled}
 use Rattle.gm_base.specs.declared.kind.Kind.{Kind}
 use Rattle.gm_base.specs.declared.kind.Kind.TheVariants.{Conflict, Correction}
 use Rattle.evidence_rec.specs.declared.record.Record.{Record}
@@ -18,9 +19,11 @@ use Rattle.evidence_rec.specs.Seeding.{IsSeed}
 use Rattle.map_core.specs.declared.entry.Call.{Call}
 use Rattle.map_core.specs.declared.entry.Call.TheVariants.{Take, Refill, Post, Retire}
 use Rattle.map_core.specs.declared.entry.Reply.{Reply}
-use Rattle.map_core.specs.declared.entry.Reply.TheVariants.{Job, Grant, Exhausted, Limit, Dry, Stopped, New, Already, Retired, Memory}
+use Rattle.map_core.specs.declared.entry.Reply.TheVariants.{Job, Grant, Exhausted, Settled, Limit, Dry, Stopped, New, Already, Retired, Memory}
 use Rattle.map_core.specs.declared.entry.Entry.{Entry}
 use Rattle.map_core.specs.declared.entry.Opening.{Opening}
+use Rattle.map_core.specs.declared.entry.Goal.{Goal}
+use Rattle.map_core.specs.declared.entry.Goal.TheVariants.{All, Roles}
 use Rattle.map_core.specs.declared.turn.Worker.{Worker}
 use Rattle.map_core.specs.declared.common.Common.{Common}
 use Rattle.map_core.specs.declared.turn.Turn.{Turn}
@@ -32,6 +35,7 @@ pub record State : Type 0 where
   pub available : ℕ
   pub spent : ℕ
   pub exhausted : Bool
+  pub settled : Bool
   pub limited : Bool
   pub stopped : Bool
   pub history : List Entry
@@ -56,6 +60,7 @@ opened o =
       available = o.budget;
       spent = 0;
       exhausted = false;
+      settled = false;
       limited = false;
       stopped = false;
       history = [];
@@ -63,7 +68,7 @@ opened o =
 
 -- the numbers and marks that do not belong to one worker
 abbrev pub common_of : State → Common
-common_of s = record { available = s.available; spent = s.spent; exhausted = s.exhausted; limited = s.limited; stopped = s.stopped }
+common_of s = record { available = s.available; spent = s.spent; exhausted = s.exhausted; settled = s.settled; limited = s.limited; stopped = s.stopped }
 
 -- the part of the state that a call of the worker changes
 abbrev pub turn_at : State → ℕ → Turn
@@ -106,6 +111,9 @@ grant n t =
 abbrev pub mark_exhausted : Turn → Turn
 mark_exhausted t = record t { common = record t.common { exhausted = true } }
 
+abbrev pub mark_settled : Turn → Turn
+mark_settled t = record t { common = record t.common { settled = true } }
+
 abbrev pub mark_limited : Turn → Turn
 mark_limited t = record t { common = record t.common { limited = true } }
 
@@ -124,13 +132,19 @@ refill_size t = min t.common.available (max (min (t.worker.last_grant * 2) (2 ^ 
 abbrev pub is_full : Opening → List Record → Bool
 is_full o records = nat_le o.limit (length records)
 
--- a take for which no engine was asked; whether the records are at least the limit
-abbrev pub TakesUnasked : Bool → Turn → Reply → Turn → Type 0
-TakesUnasked full t Stopped new = (t.common.stopped ≡ true) × (new ≡ end_turn t)
-TakesUnasked full t Exhausted new = (t.common.stopped ≡ false) × (t.common.exhausted ≡ true) × (new ≡ end_turn t)
-TakesUnasked full t Limit new = (t.common.stopped ≡ false) × (t.common.exhausted ≡ false) × (full ≡ true) × (new ≡ end_turn (mark_limited t))
-TakesUnasked full t Memory new = new ≡ retire t
-TakesUnasked full t _ new = ⊥
+-- the roles of all groups are wanted, and what was found tells them
+abbrev pub is_told : Goal → ℕ → List Found → Bool
+is_told All groups found = false
+is_told Roles groups found = are_settled groups found
+
+-- a take for which no engine was asked; whether all that is wanted is told, and whether the records are at least the limit
+abbrev pub TakesUnasked : Bool → Bool → Turn → Reply → Turn → Type 0
+TakesUnasked told full t Stopped new = (t.common.stopped ≡ true) × (new ≡ end_turn t)
+TakesUnasked told full t Exhausted new = (t.common.stopped ≡ false) × (t.common.exhausted ≡ true) × (new ≡ end_turn t)
+TakesUnasked told full t Settled new = (t.common.stopped ≡ false) × (t.common.exhausted ≡ false) × (told ≡ true) × (new ≡ end_turn (mark_settled t))
+TakesUnasked told full t Limit new = (t.common.stopped ≡ false) × (t.common.exhausted ≡ false) × (told ≡ false) × (full ≡ true) × (new ≡ end_turn (mark_limited t))
+TakesUnasked told full t Memory new = new ≡ retire t
+TakesUnasked told full t _ new = ⊥
 
 -- a take for which the engine was asked, and used so much of what was available; whether the engine gives tops alone, and the
 -- number of the entry
@@ -142,16 +156,17 @@ TakesAsked tops groups found number t used Dry new = (used ≡ t.common.availabl
 TakesAsked tops groups found number t used Memory new = new ≡ retire (spend used t)
 TakesAsked tops groups found number t used _ new = ⊥
 
--- the engine is asked only where nothing is marked that ends a take
-pub record MayAsk (full : Bool) (t : Turn) (used : ℕ) : Type 0 where
+-- the engine is asked only where nothing is marked that ends a take, and not all that is wanted is told
+pub record MayAsk (told full : Bool) (t : Turn) (used : ℕ) : Type 0 where
   pub not_stopped : t.common.stopped ≡ false
   pub not_exhausted : t.common.exhausted ≡ false
+  pub not_told : told ≡ false
   pub not_full : full ≡ false
   pub within : used ≤ t.common.available
 
-abbrev pub Takes : Bool → ℕ → List Found → Bool → ℕ → Turn → Option ℕ → Reply → Turn → Type 0
-Takes tops groups found full number t None reply new = TakesUnasked full t reply new
-Takes tops groups found full number t (Some used) reply new = MayAsk full t used × TakesAsked tops groups found number t used reply new
+abbrev pub Takes : Bool → ℕ → List Found → Bool → Bool → ℕ → Turn → Option ℕ → Reply → Turn → Type 0
+Takes tops groups found told full number t None reply new = TakesUnasked told full t reply new
+Takes tops groups found told full number t (Some used) reply new = MayAsk told full t used × TakesAsked tops groups found number t used reply new
 
 abbrev pub Refills : Turn → Reply → Turn → Type 0
 Refills t Stopped new = (t.common.stopped ≡ true) × (new ≡ end_turn t)
@@ -176,7 +191,7 @@ Posts p full held t kind set _ new records = ⊥
 
 -- what a call does to the settled part of the worker, with its reply
 abbrev pub Does : State → Turn → Call → Option ℕ → Reply → Turn → List Record → Type 0
-Does s t Take engine reply new records = Takes s.opening.tops s.opening.problem.groups (founds s.records) (is_full s.opening s.records) (length s.history + 1) (give_back t) engine reply new × (records ≡ s.records)
+Does s t Take engine reply new records = Takes s.opening.tops s.opening.problem.groups (founds s.records) (is_told s.opening.goal s.opening.problem.groups (founds s.records)) (is_full s.opening s.records) (length s.history + 1) (give_back t) engine reply new × (records ≡ s.records)
 Does s t (Refill asked) engine reply new records = (engine ≡ None) × Refills (give_back t) reply new × (records ≡ s.records)
 Does s t (Post kind set) engine reply new records = (engine ≡ None) × Posts s.opening.problem (is_full s.opening s.records) s.records t kind set reply new records
 Does s t Retire engine reply new records = (engine ≡ None) × (reply ≡ Retired) × (new ≡ retire t) × (records ≡ s.records)
@@ -189,6 +204,7 @@ after s e t records =
       available = t.common.available;
       spent = t.common.spent;
       exhausted = t.common.exhausted;
+      settled = t.common.settled;
       limited = t.common.limited;
       stopped = t.common.stopped;
       history = s.history ++ e ∷ [];

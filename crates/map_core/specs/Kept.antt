@@ -15,22 +15,26 @@ use Rattle.map_core.specs.declared.entry.Reply.TheVariants.{Dry}
 use Rattle.map_core.specs.declared.entry.Entry.{Entry}
 use Rattle.map_core.specs.declared.turn.Worker.{Worker}
 use Rattle.map_core.specs.declared.common.Common.{Common}
+use Rattle.map_core.specs.declared.entry.Goal.{Goal}
 use Rattle.evidence_rec.specs.declared.held.Held.{Held}
+use Rattle.map_core.specs.declared.tally.Tally.{Tally}
 use Rattle.map_core.specs.Core.{State, CoreStep, IsReached, worker_at}
 use Rattle.map_core.specs.Own.{engine_used_in}
 use Rattle.map_core.specs.Sound.{IsOpening, live_count}
 use Rattle.evidence_rec.specs.Index.{IsIndex}
+use Rattle.map_core.specs.Tallies.{Tallies}
 
 -- the state that these parts make; the opening's records are the first ones
-abbrev pub state_of : Bool → Problem → ℕ → ℕ → ℕ → Common → List Record → List Worker → List Entry → State
-state_of tops problem first budget limit common records workers history =
+abbrev pub state_of : Bool → Goal → Problem → ℕ → ℕ → ℕ → Common → List Record → List Worker → List Entry → State
+state_of tops goal problem first budget limit common records workers history =
     record {
-      opening = record { problem = problem; records = take first records; workers = length workers; budget = budget; limit = limit; tops = tops };
+      opening = record { problem = problem; records = take first records; workers = length workers; budget = budget; limit = limit; goal = goal; tops = tops };
       records = records;
       workers = workers;
       available = common.available;
       spent = common.spent;
       exhausted = common.exhausted;
+      settled = common.settled;
       limited = common.limited;
       stopped = common.stopped;
       history = history;
@@ -54,7 +58,7 @@ pub record IsDriven (s : State) (engine : EngineState) : Type 0 where
   pub learned : learned_count engine.log ≡ engine_used_in s.history
   pub dry : StandsDry s.history engine.log
 
-pub record IsKept (s : State) (first : ℕ) (capacity : ℕ) (held : Held) (engine : EngineState) (proof : Option Derivation) : Type 0 where
+pub record IsKept (s : State) (first : ℕ) (capacity : ℕ) (held : Held) (tally : Tally) (engine : EngineState) (proof : Option Derivation) : Type 0 where
   pub opening : IsOpening s.opening
   pub reached : IsReached s
   pub begins : first ≤ length s.records
@@ -62,6 +66,7 @@ pub record IsKept (s : State) (first : ℕ) (capacity : ℕ) (held : Held) (engi
   -- room for one entry of each worker that has not ended
   pub room : length s.history + live_count s.workers ≤ capacity
   pub index : IsIndex held s.records
+  pub tallies : Tallies s.opening.goal s.opening.problem.groups (founds s.records) tally
   pub keeps : KeepsProof s.opening.problem.groups (founds s.records) s.exhausted proof
   pub driven : IsDriven s engine
 

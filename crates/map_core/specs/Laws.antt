@@ -83,6 +83,7 @@ ExhaustedHoldsAll =
 -- a mark of the one state is a mark of the other
 pub record KeepsMarks (s t : State) : Type 0 where
   pub exhausted : s.exhausted ≡ true → t.exhausted ≡ true
+  pub settled : s.settled ≡ true → t.settled ≡ true
   pub limited : s.limited ≡ true → t.limited ≡ true
   pub stopped : s.stopped ≡ true → t.stopped ≡ true
 
@@ -105,7 +106,7 @@ NoneIsJob =
     (s t : State) (log : List Entry)
     → IsSound s
     → CoreRun s log t
-    → (s.exhausted || s.limited || s.stopped) ≡ true
+    → (s.exhausted || s.settled || s.limited || s.stopped) ≡ true
     → AllByRecursion (λ (e : Entry). (turn n : ℕ) (seed : List ℕ) → e.reply ≢ Job turn seed n) log
 
 -- once stopped is marked, no later refill is a grant

@@ -3,6 +3,7 @@ pub mod Own
 pub mod Replies
 pub mod Sound
 pub mod Laws
+pub mod Tallies
 pub mod Asked
 pub mod Kept
 pub mod Opens

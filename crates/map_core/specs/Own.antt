@@ -3,7 +3,7 @@ use Rattle.std.specs.Prelude.{◌≡◌, ℕ, ◌-◌, ◌<◌, ◌≤◌, ◌==
 use Rattle.map_core.specs.declared.entry.Call.{Call}
 use Rattle.map_core.specs.declared.entry.Call.TheVariants.{Take, Refill, Post, Retire}
 use Rattle.map_core.specs.declared.entry.Reply.{Reply}
-use Rattle.map_core.specs.declared.entry.Reply.TheVariants.{Job, Grant, Exhausted, Limit, Dry, Stopped, New, Already, Retired, Memory}
+use Rattle.map_core.specs.declared.entry.Reply.TheVariants.{Job, Grant, Exhausted, Settled, Limit, Dry, Stopped, New, Already, Retired, Memory}
 use Rattle.map_core.specs.declared.entry.Entry.{Entry}
 use Rattle.map_core.specs.declared.entry.Opening.{Opening}
 use Rattle.map_core.specs.declared.turn.Worker.{Worker}
@@ -25,6 +25,7 @@ worker_after w used (Grant n) = record { purse = n; last_grant = n; ended = w.en
 worker_after w used New = record { purse = w.purse - used; last_grant = w.last_grant; ended = w.ended }
 worker_after w used Already = record { purse = w.purse - used; last_grant = w.last_grant; ended = w.ended }
 worker_after w used Exhausted = ended w
+worker_after w used Settled = ended w
 worker_after w used Limit = ended w
 worker_after w used Dry = ended w
 worker_after w used Stopped = ended w
@@ -54,6 +55,7 @@ is_retirement (Grant n) = false
 is_retirement New = false
 is_retirement Already = false
 is_retirement Exhausted = false
+is_retirement Settled = false
 is_retirement Limit = false
 is_retirement Dry = false
 is_retirement Stopped = false
@@ -74,6 +76,7 @@ engine_used_in entries = sum_by (λ (e : Entry). engine_part e.engine) entries
 abbrev pub fits_call : Call → Reply → Bool
 fits_call Take (Job turn seed n) = true
 fits_call Take Exhausted = true
+fits_call Take Settled = true
 fits_call Take Limit = true
 fits_call Take Dry = true
 fits_call Take Stopped = true

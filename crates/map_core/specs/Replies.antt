@@ -11,6 +11,7 @@ use Rattle.map_core.specs.declared.replies.Posted.TheVariants as posted
 abbrev pub take_reply : Taken → Reply
 take_reply (taken.Job turn seed grant) = reply.Job turn seed grant
 take_reply taken.Exhausted = reply.Exhausted
+take_reply taken.Settled = reply.Settled
 take_reply taken.Limit = reply.Limit
 take_reply taken.Dry = reply.Dry
 take_reply taken.Stopped = reply.Stopped

@@ -10,7 +10,7 @@ use Rattle.map_core.specs.declared.entry.Entry.{Entry}
 use Rattle.map_core.specs.declared.entry.Reply.TheVariants.{Dry}
 use Rattle.map_core.specs.declared.entry.Opening.{Opening}
 use Rattle.map_core.specs.declared.turn.Worker.{Worker}
-use Rattle.map_core.specs.Core.{State, worker_at, is_held, is_full}
+use Rattle.map_core.specs.Core.{State, worker_at, is_held, is_full, is_told}
 use Rattle.map_core.specs.Own.{calls_of, worker_of, is_retirement, used_in, engine_used_in}
 
 -- what a core may be opened with
@@ -33,6 +33,7 @@ live_count workers = count_by is_live workers
 -- no mark is set
 pub record IsUnmarked (s : State) : Type 0 where
   pub exhausted : s.exhausted ≡ false
+  pub settled : s.settled ≡ false
   pub limited : s.limited ≡ false
   pub stopped : s.stopped ≡ false
 
@@ -46,13 +47,14 @@ pub record IsSound (s : State) : Type 0 where
   pub at_most : length s.records ≤ max s.opening.limit (length s.opening.records)
   -- what each mark says
   pub exhausted : s.exhausted ≡ true → AllExplored s.opening.problem.groups (founds s.records)
+  pub settled : s.settled ≡ true → is_told s.opening.goal s.opening.problem.groups (founds s.records) ≡ true
   pub limited : s.limited ≡ true → is_full s.opening s.records ≡ true
   pub stopped : s.stopped ≡ list_any (λ (e : Entry). is_retirement e.reply) s.history
   -- the budget
   pub ended : (w : ℕ) → (worker_at s.workers w).ended ≡ true → (worker_at s.workers w).purse ≡ 0
   pub budget : (s.available + sum_by purse_of s.workers) + s.spent ≡ s.opening.budget
   pub spent : s.spent ≡ used_in s.history + engine_used_in s.history
-  pub live : 0 < s.available → (list_any is_live s.workers || (s.exhausted || (s.limited || s.stopped))) ≡ true
+  pub live : 0 < s.available → (list_any is_live s.workers || (s.exhausted || (s.settled || (s.limited || s.stopped)))) ≡ true
   -- a worker that ends where nothing is marked has found the budget spent
   pub last : (before : List Entry) (e : Entry) → s.history ≡ before ++ e ∷ [] → IsUnmarked s → (worker_at s.workers e.worker).ended ≡ true → e.reply ≡ Dry
   -- each worker's part follows from its own entries, and each entry is a worker's

@@ -2,17 +2,19 @@
 ghost use Rattle.std.specs.Prelude.{◌≡◌, ◌+◌, ◌<◌, ◌≤◌, ◌^◌, ◌++◌, ◌∷◌, [], ℕ, List, Bool, false, vec_len, vec_capacity, OnOk, OnErr};
 ghost use Rattle.gm_base.specs.Sets.{IsSubset, all_groups};
 ghost use Rattle.gm_base.specs.Problem.{Problem};
-ghost use Rattle.gm_base.specs.Explored.{block_of};
+ghost use Rattle.gm_base.specs.Explored.{Found, block_of};
 ghost use Rattle.lrat_steps.specs.Log.{learned_count};
 ghost use Rattle.evidence_rec.specs.Records.{kind_of, set_of, found_of, founds, IsAcceptedAlone};
 ghost use Rattle.evidence_rec.specs.Seeding.{IsHonestMap, blocked};
 ghost use Rattle.map_core.specs.Core.{Posts};
 ghost use Rattle.evidence_rec.specs.Index.{holds, Gains, IsSameHeld, IsIndex};
+ghost use Rattle.map_core.specs.Tallies.{Tallies, CanAdd};
 ghost use Rattle.map_core.specs.Replies.{post_reply};
 ghost use Rattle.map_core.specs.declared.replies.Posted.TheVariants.{New};
 
-use crate::entry::{Entry, Reply};
+use crate::entry::{Entry, Goal, Reply};
 use crate::replies::Posted;
+use crate::tally::Tally;
 use crate::turn::Turn;
 use evidence_rec::{Held, MapEngine, Record};
 use gm_base::{GroupSet, Kind, Side};
@@ -55,20 +57,28 @@ fn hold<M: MapEngine>(
     alloc: Global,
     engine: &mut M,
     held: &mut Held,
+    goal: Goal,
+    tally: &mut Tally,
     records: &mut Vec<Record>,
     finding: Record,
 ) -> Result<(), Record>
     requires fresh { holds held.old (kind_of finding) (set_of finding) ≡ false }
     requires within { IsSubset (set_of finding) (all_groups (M.state engine.old).groups) }
+    requires may { CanAdd goal (set_of finding) tally.old }
     ensures record_ok { OnOk result (records.new.items ≡ records.old.items ++ finding ∷ []) }
     ensures block_ok { OnOk result (M.state engine.new ≡ blocked (M.state engine.old) (found_of finding)) }
     ensures honest_ok { OnOk result (IsHonestMap (M.state engine.new).blocks (M.state engine.new).log) }
     ensures learned { learned_count (M.state engine.new).log ≡ learned_count (M.state engine.old).log }
     ensures held_ok { OnOk result (Gains (kind_of finding) (set_of finding) held.old held.new) }
+    ensures tallies_ok { OnOk result ((groups : ℕ) (sets : List Found) → Tallies goal groups sets tally.old → Tallies goal groups (sets ++ found_of finding ∷ []) tally.new) }
     ensures record_err { OnErr result (records.new.items ≡ records.old.items) }
     ensures block_err { OnErr result (M.state engine.new ≡ M.state engine.old) }
     ensures held_err { OnErr result (IsSameHeld held.old held.new) }
+    ensures tally_err { OnErr result (tally.new ≡ tally.old) }
 {
+    if !tally.has_room() {
+        return Err(finding);
+    }
     let kind = finding.kind();
     if let Err(AllocError) = records.reserve(1) {
         return Err(finding);
@@ -83,6 +93,7 @@ fn hold<M: MapEngine>(
         held.remove(kind, finding.set());
         return Err(finding);
     }
+    tally.add(goal, kind, finding.set());
     records.push_reserved(finding);
     Ok(())
 }
@@ -92,6 +103,8 @@ pub fn admit<M: MapEngine>(
     alloc: Global,
     engine: &mut M,
     held: &mut Held,
+    goal: Goal,
+    tally: &mut Tally,
     records: &mut Vec<Record>,
     history: &mut Vec<Entry>,
     workers: usize,
@@ -104,11 +117,13 @@ pub fn admit<M: MapEngine>(
     requires index { IsIndex held.old records.old.items }
     requires blocked { (M.state engine.old).blocks ≡ founds records.old.items }
     requires within { IsSubset (set_of finding) (all_groups (M.state engine.old).groups) }
+    requires may { CanAdd goal (set_of finding) tally.old }
     ensures posts { (p : Problem) → IsAcceptedAlone p finding → Posts p full records.old.items turn (kind_of finding) (set_of finding) (post_reply result.reply) result.turn records.new.items }
     ensures handed_in { result.reply ≡ New → records.new.items ≡ records.old.items ++ finding ∷ [] }
     ensures set { result.set ≡ set_of finding }
     ensures exhausted { result.turn.common.exhausted ≡ turn.common.exhausted }
     ensures index { IsIndex held.new records.new.items }
+    ensures tallies { (groups : ℕ) → Tallies goal groups (founds records.old.items) tally.old → Tallies goal groups (founds records.new.items) tally.new }
     ensures blocked { (M.state engine.new).blocks ≡ founds records.new.items }
     ensures groups { (M.state engine.new).groups ≡ (M.state engine.old).groups }
     ensures learned { learned_count (M.state engine.new).log ≡ learned_count (M.state engine.old).log }
@@ -139,7 +154,7 @@ pub fn admit<M: MapEngine>(
             reply: Posted::Already,
         };
     }
-    keep(alloc, engine, held, records, turn, finding)
+    keep(alloc, engine, held, goal, tally, records, turn, finding)
 }
 
 // Takes in a record whose set is not held. Where there is no memory for it, the worker retires.
@@ -147,6 +162,8 @@ fn keep<M: MapEngine>(
     alloc: Global,
     engine: &mut M,
     held: &mut Held,
+    goal: Goal,
+    tally: &mut Tally,
     records: &mut Vec<Record>,
     turn: Turn,
     finding: Record,
@@ -156,11 +173,13 @@ fn keep<M: MapEngine>(
     requires index { IsIndex held.old records.old.items }
     requires blocked { (M.state engine.old).blocks ≡ founds records.old.items }
     requires within { IsSubset (set_of finding) (all_groups (M.state engine.old).groups) }
+    requires may { CanAdd goal (set_of finding) tally.old }
     ensures posts { (p : Problem) (full : Bool) → full ≡ false → IsAcceptedAlone p finding → Posts p full records.old.items turn (kind_of finding) (set_of finding) (post_reply result.reply) result.turn records.new.items }
     ensures handed_in { result.reply ≡ New → records.new.items ≡ records.old.items ++ finding ∷ [] }
     ensures set { result.set ≡ set_of finding }
     ensures exhausted { result.turn.common.exhausted ≡ turn.common.exhausted }
     ensures index { IsIndex held.new records.new.items }
+    ensures tallies { (groups : ℕ) → Tallies goal groups (founds records.old.items) tally.old → Tallies goal groups (founds records.new.items) tally.new }
     ensures blocked { (M.state engine.new).blocks ≡ founds records.new.items }
     ensures groups { (M.state engine.new).groups ≡ (M.state engine.old).groups }
     ensures learned { learned_count (M.state engine.new).log ≡ learned_count (M.state engine.old).log }
@@ -173,7 +192,7 @@ fn keep<M: MapEngine>(
             reply: Posted::Memory,
         };
     };
-    if let Err(_) = hold(alloc, engine, held, records, finding) {
+    if let Err(_) = hold(alloc, engine, held, goal, tally, records, finding) {
         return PostAnswer {
             turn: turn.retire(),
             set: copy,

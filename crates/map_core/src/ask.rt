@@ -102,7 +102,7 @@ fn find<M: MapEngine>(alloc: Global, engine: &mut M, number: u64, turn: Turn) ->
     requires settled { IsSettled turn }
     requires not_stopped { turn.common.stopped ≡ false }
     requires not_exhausted { turn.common.exhausted ≡ false }
-    ensures answered { IsAnswered M.TOPS (M.state engine.old) false number turn result }
+    ensures answered { IsAnswered M.TOPS (M.state engine.old) false false number turn result }
     ensures groups { (M.state engine.new).groups ≡ (M.state engine.old).groups }
     ensures same_blocks { (M.state engine.new).blocks ≡ (M.state engine.old).blocks }
     ensures learned { learned_count (M.state engine.new).log ≡ learned_count (M.state engine.old).log + engine_part result.engine }
@@ -133,13 +133,14 @@ pub fn ask<M: MapEngine>(
     engine: &mut M,
     history: &mut Vec<Entry>,
     workers: usize,
+    told: bool,
     full: bool,
     turn: Turn,
 ) -> TakeAnswer
     requires settled { IsSettled turn }
     requires few { workers < 2 ^ 32 }
     requires short { length history.old.items < 2 ^ 63 }
-    ensures answered { IsAnswered M.TOPS (M.state engine.old) full (length history.old.items + 1) turn result }
+    ensures answered { IsAnswered M.TOPS (M.state engine.old) told full (length history.old.items + 1) turn result }
     ensures groups { (M.state engine.new).groups ≡ (M.state engine.old).groups }
     ensures same_blocks { (M.state engine.new).blocks ≡ (M.state engine.old).blocks }
     ensures learned { learned_count (M.state engine.new).log ≡ learned_count (M.state engine.old).log + engine_part result.engine }
@@ -154,6 +155,14 @@ pub fn ask<M: MapEngine>(
     }
     if turn.common.exhausted {
         return answer(turn.end(), None, Taken::Exhausted, Reply::Exhausted);
+    }
+    if told {
+        return answer(
+            turn.mark_settled().end(),
+            None,
+            Taken::Settled,
+            Reply::Settled,
+        );
     }
     if full {
         return answer(turn.mark_limited().end(), None, Taken::Limit, Reply::Limit);

@@ -21,10 +21,11 @@ use crate::admit::{admit, kept_post};
 use crate::ask::ask;
 use crate::closing::{Closing, History, verdict_of};
 use crate::common::{Common, all_ended, begin, finish};
-use crate::entry::{Call, Entry, Reply};
+use crate::entry::{Call, Entry, Goal, Reply};
 use crate::open::{enter_all, new_workers};
 use crate::regrant::{kept_refill, regrant};
 use crate::replies::{Posted, Refilled, Taken};
+use crate::tally::{Tally, is_told};
 use crate::turn::{Turn, Worker};
 use evidence_rec::{Held, MapEngine, Record, Records};
 use gm_base::{CompactSet, Derivation, GroupSet, Problem};
@@ -41,9 +42,11 @@ pub struct MapCore<M: MapEngine> {
     first: usize,
     budget: u64,
     limit: u64,
+    goal: Goal,
     common: Common,
     records: Vec<Record>,
     held: Held,
+    tally: Tally,
     workers: Vec<Worker>,
     history: Vec<Entry>,
     proof: Option<Derivation>,
@@ -58,9 +61,9 @@ impl<M: MapEngine> Model for MapCore<M> {
 
     ghost use Rattle.map_core.specs.Kept.{state_of, IsKept};
 
-    ghost view = { λ a. state_of M.TOPS a.problem a.first a.budget a.limit a.common a.records.items a.workers.items a.history.items };
+    ghost view = { λ a. state_of M.TOPS a.goal a.problem a.first a.budget a.limit a.common a.records.items a.workers.items a.history.items };
 
-    ghost invariant = { λ a. IsKept (state_of M.TOPS a.problem a.first a.budget a.limit a.common a.records.items a.workers.items a.history.items) a.first (vec_capacity a.history) a.held (M.state a.engine) a.proof };
+    ghost invariant = { λ a. IsKept (state_of M.TOPS a.goal a.problem a.first a.budget a.limit a.common a.records.items a.workers.items a.history.items) a.first (vec_capacity a.history) a.held a.tally (M.state a.engine) a.proof };
 }
 
 impl<M: MapEngine> MapCore<M> {
@@ -134,12 +137,14 @@ impl<M: MapEngine> MapCore<M> {
         ensures short { length self.new.history < 2 ^ 63 }
     {
         let turn = self.settled(w, used).give_back();
+        let told = is_told(self.goal, &self.tally);
         let full = self.records.len() as u64 >= self.limit;
         let given = ask(
             self.alloc,
             &mut self.engine,
             &mut self.history,
             self.workers.len(),
+            told,
             full,
             turn,
         );
@@ -171,6 +176,8 @@ impl<M: MapEngine> MapCore<M> {
             self.alloc,
             &mut self.engine,
             &mut self.held,
+            self.goal,
+            &mut self.tally,
             &mut self.records,
             &mut self.history,
             self.workers.len(),
@@ -200,9 +207,11 @@ impl<M: MapEngine> MapCore<M> {
             first: _,
             budget: _,
             limit: _,
+            goal: _,
             common,
             records,
             held: _,
+            tally: _,
             workers: _,
             history,
             proof,
@@ -227,18 +236,20 @@ impl<M: MapEngine + Drop> MapCore<M> {
         workers: u32,
         budget: u64,
         limit: u64,
+        goal: Goal,
         engine: M,
     ) -> Result<MapCore<M>, AllocError>
-        requires opening { IsOpening (opening_of problem.now records workers budget limit M.TOPS) }
+        requires opening { IsOpening (opening_of problem.now records workers budget limit goal M.TOPS) }
         requires groups { (M.state engine).groups ≡ problem.now.groups }
         requires blocks { (M.state engine).blocks ≡ [] }
         requires log { (M.state engine).log ≡ [] }
-        ensures { IfOk result (λ core. core ≡ opened (opening_of problem.now records workers budget limit M.TOPS)) }
+        ensures { IfOk result (λ core. core ≡ opened (opening_of problem.now records workers budget limit goal M.TOPS)) }
     {
         let mut engine = engine;
         let problem = problem.copy()?;
         let records = records.into_vec();
-        let held = enter_all(alloc, &mut engine, records.as_slice())?;
+        let mut tally = Tally::new(alloc, goal, problem.groups())?;
+        let held = enter_all(alloc, &mut engine, goal, &mut tally, records.as_slice())?;
         let seats = new_workers(alloc, workers)?;
         let history = Vec::with_capacity(alloc, workers as usize)?;
         Ok(MapCore {
@@ -247,15 +258,18 @@ impl<M: MapEngine + Drop> MapCore<M> {
             first: records.len(),
             budget,
             limit,
+            goal,
             common: Common {
                 available: budget,
                 spent: 0,
                 exhausted: false,
+                settled: false,
                 limited: false,
                 stopped: false,
             },
             records,
             held,
+            tally,
             workers: seats,
             history,
             proof: None,

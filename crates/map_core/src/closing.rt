@@ -12,6 +12,7 @@ use sat_base::Row;
 #[derive(Clone, Copy, Debug, PartialEq, Eq)]
 pub enum Verdict {
     Complete,
+    Settled,
     Memory,
     Limit,
     Budget,
@@ -29,10 +30,12 @@ pub struct Closing {
 }
 
 pub fn verdict_of(common: Common) -> Verdict
-    ensures { result ≡ verdict_by common.exhausted common.stopped common.limited }
+    ensures { result ≡ verdict_by common.exhausted common.settled common.stopped common.limited }
 {
     if common.exhausted {
         Verdict::Complete
+    } else if common.settled {
+        Verdict::Settled
     } else if common.stopped {
         Verdict::Memory
     } else if common.limited {

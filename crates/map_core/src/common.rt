@@ -11,6 +11,7 @@ pub struct Common {
     pub available: u64,
     pub spent: u64,
     pub exhausted: bool,
+    pub settled: bool,
     pub limited: bool,
     pub stopped: bool,
 }

@@ -24,6 +24,7 @@ pub enum Reply {
     },
     Grant(u64),
     Exhausted,
+    Settled,
     Limit,
     Dry,
     Stopped,
@@ -45,6 +46,15 @@ pub struct Entry {
     pub reply: Reply,
 }
 
+/// What is wanted.
+#[derive(Clone, Copy, Debug, PartialEq, Eq)]
+pub enum Goal {
+    /// All minimal conflicts and all minimal corrections.
+    All,
+    /// So many of them that each group's role is told.
+    Roles,
+}
+
 /// What a core is opened with.
 #[derive(Drop)]
 pub struct Opening {
@@ -53,6 +63,7 @@ pub struct Opening {
     pub workers: u32,
     pub budget: u64,
     pub limit: u64,
+    pub goal: Goal,
     /// Whether no set that is left properly holds a seed.
     pub tops: bool,
 }

@@ -2,7 +2,7 @@
 //! it, and which records are kept. It has no threads and no solver of its own.
 //!
 //! ```text
-//! let mut core = MapCore::start(alloc, &problem, records, 1, budget, limit, engine)?;
+//! let mut core = MapCore::start(alloc, &problem, records, 1, budget, limit, goal, engine)?;
 //! match core.take(0, 0) {
 //!     Taken::Job { turn, seed, grant } => .., // then core.refill(..), core.post(..)
 //!     _ => .., // the worker has ended
@@ -14,6 +14,9 @@
 //! entry to the history. `specs/Sound.antt` says what holds of every state that steps lead to, and the module `laws` what
 //! is proved of all of them: each record is accepted and no set is kept twice, what is explored stays so and is decided
 //! rightly, and nothing of the budget is lost.
+//!
+//! With the goal [`Goal::Roles`] a take is answered [`Taken::Settled`] once the records tell each group's role; `tally.rt`
+//! says how that is known at once.
 //!
 //! A [`MapEngine`](evidence_rec::MapEngine) finds the sets. What a call costs beside it does not grow with the number of
 //! records but by a logarithm. Nothing is promised of which set is found, nor of fairness among workers.
@@ -29,9 +32,10 @@ pub mod laws;
 mod open;
 mod regrant;
 mod replies;
+mod tally;
 mod turn;
 
 pub use calls::MapCore;
 pub use closing::{Closing, History, Verdict};
-pub use entry::{Call, Entry, Opening, Reply};
+pub use entry::{Call, Entry, Goal, Opening, Reply};
 pub use replies::{Posted, Refilled, Taken};

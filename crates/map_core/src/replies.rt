@@ -12,6 +12,8 @@ pub enum Taken {
     },
     /// Each set is explored.
     Exhausted,
+    /// Roles alone are wanted, and each group's is told.
+    Settled,
     /// There are as many records as are wanted.
     Limit,
     /// The budget is spent.

@@ -8,7 +8,7 @@ use Rattle.map_core.specs.Core.{State}
 use Rattle.map_core.specs.Kept.{state_of, StandsDry}
 use Rattle.map_core.specs.Closings.{HaveEnded, IsClosing, verdict_by}
 use Rattle.map_core.proofs.Kept.{kept_sound}
-use Rattle.map_core.proofs.Ended.{spent_all, closing_all, closing_dry, closing_proof}
+use Rattle.map_core.proofs.Ended.{spent_all, closing_all, closing_told, closing_dry, closing_proof}
 use Rattle.map_core.proofs.calls.MapCore.closing.Goals as goal
 
 -- what a core keeps, where every worker has ended
@@ -18,7 +18,7 @@ returns g c =
     let k = c.self.invariant in
     let d = k.driven in
     let s : State =
-    state_of g.M.MapEngine.TOPS i.problem i.first i.budget i.limit i.common i.records.items i.workers.items i.history.items in
+    state_of g.M.MapEngine.TOPS i.goal i.problem i.first i.budget i.limit i.common i.records.items i.workers.items i.history.items in
     let ok = kept_sound k in
     let over = subst (λ (x : State). HaveEnded x.opening x.history) (sym c.self.view_is) c.requires in
     let log : (g.M.MapEngine.state i.engine).log ≡ c.into_log.result = sym c.into_log.ensures.log in
@@ -32,10 +32,11 @@ returns g c =
       history = c.from_vec-2.ensures;
       verdict = c.verdict_of.ensures;
       all = closing_all s c.verdict_of.result ok c.verdict_of.ensures;
-      spent = λ e. spent_all s ok over (subst (λ v. v ≡ Budget) {y = verdict_by i.common.exhausted i.common.stopped i.common.limited} c.verdict_of.ensures e);
-      dry = λ e. closing_dry s c.into_log.result ok over (subst (StandsDry i.history.items) log d.dry) (subst (λ v. v ≡ Budget) {y = verdict_by i.common.exhausted i.common.stopped i.common.limited} c.verdict_of.ensures e);
+      told = closing_told s c.verdict_of.result ok c.verdict_of.ensures;
+      spent = λ e. spent_all s ok over (subst (λ v. v ≡ Budget) {y = verdict_by i.common.exhausted i.common.settled i.common.stopped i.common.limited} c.verdict_of.ensures e);
+      dry = λ e. closing_dry s c.into_log.result ok over (subst (StandsDry i.history.items) log d.dry) (subst (λ v. v ≡ Budget) {y = verdict_by i.common.exhausted i.common.settled i.common.stopped i.common.limited} c.verdict_of.ensures e);
       proof =
-          closing_proof i.problem.groups (founds i.records.items) i.common.exhausted i.common.stopped i.common.limited
+          closing_proof i.problem.groups (founds i.records.items) i.common.exhausted i.common.settled i.common.stopped i.common.limited
           c.verdict_of.result i.proof c.verdict_of.ensures k.keeps;
       honest =
           subst (λ (l : List LogStep). IsHonestMap (founds i.records.items) l) log

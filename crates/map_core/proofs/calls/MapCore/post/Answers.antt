@@ -1,6 +1,6 @@
 use Rattle.std.proofs.Common.{◌≡◌, length, List, ℕ, [], ◌∷◌, ◌++◌, sym, ap, ◌∙◌, subst, refl, arith, None}
 use Rattle.gm_base.specs.declared.kind.Kind.{Kind}
-use Rattle.evidence_rec.specs.Records.{kind_of, set_of, IsAcceptedAlone}
+use Rattle.evidence_rec.specs.Records.{kind_of, set_of, founds, IsAcceptedAlone}
 use Rattle.map_core.specs.Core.{State, CoreStep, turn_at, settle}
 use Rattle.map_core.specs.Kept.{IsReady, state_of}
 use Rattle.map_core.specs.Replies.{post_reply}
@@ -24,6 +24,14 @@ written who used kind kind' set set' reply reply' old mid new k s r same is =
     ∙ ap (λ x. old ++ made who used x set' reply' ∷ []) k
     ∙ ap (λ x. old ++ made who used kind x reply' ∷ []) s
     ∙ ap (λ x. old ++ made who used kind set x ∷ []) r
+
+-- the tally is of the records, and an accepted set is of the problem's groups
+pub admit-given-requires-clause-may : goal.admit-given-requires-clause-may
+admit-given-requires-clause-may g c =
+    let i = c.self.inside in
+    let accepted =
+    subst (λ (s : State). IsAcceptedAlone s.opening.problem c.args.finding) (sym c.self.view_is) c.requires.accepted in
+    record { groups = i.problem.groups; sets = founds i.records.items; tallies = c.self.invariant.tallies; within = accepted.within }
 
 -- the record that is posted is the one that is answered about
 pub invariant_of-self : goal.invariant_of-self
@@ -50,11 +58,12 @@ invariant_of-self g c =
     let size = ap length given.ensures.history in
     let longer = f.ensures.capacity in
     let more = given.ensures.capacity in
-    call_kept f.result given.new.records.items f.new.workers.items f.new.history.items _ given.new.held
+    call_kept f.result given.new.records.items f.new.workers.items f.new.history.items _ given.new.held given.new.tally
     (g.M.MapEngine.state given.new.engine) i.proof e u k r (refl, posts) f.ensures.common f.ensures.workers history
     (omega arith)
     (λ on. let room = given.ensures.room on in omega (arith, room, size, longer, c.len-2.ensures, i.workers.ok.0, given.new.history.ok.0))
     given.ensures.index
+    (given.ensures.tallies i.problem.groups k.tallies)
     (proof_kept e u given.new.records.items k (refl, posts) same)
     (record {
       same_groups = given.ensures.groups;
@@ -84,10 +93,10 @@ returns-clause-step g c =
     written c.args.w c.args.used _ _ _ _ _ _ _ _ _ c.kind-kind.ensures given.ensures.set c.kept_post.ensures
     given.ensures.history f.ensures.history in
     let t =
-    state_of g.M.MapEngine.TOPS i.problem i.first i.budget i.limit f.result given.new.records.items f.new.workers.items
+    state_of g.M.MapEngine.TOPS i.goal i.problem i.first i.budget i.limit f.result given.new.records.items f.new.workers.items
     f.new.history.items in
     let step =
-    step_made g.M.MapEngine.TOPS i.problem i.first i.budget i.limit i.common f.result i.records.items given.new.records.items
+    step_made g.M.MapEngine.TOPS i.goal i.problem i.first i.budget i.limit i.common f.result i.records.items given.new.records.items
     i.workers.items f.new.workers.items i.history.items f.new.history.items e u c.self.invariant.begins r (refl, posts)
     f.ensures.common f.ensures.workers history in
     record { engine = None; step = subst (λ s. CoreStep s e t) c.self.view_is step }

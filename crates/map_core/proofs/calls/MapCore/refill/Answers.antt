@@ -42,11 +42,12 @@ invariant_of-self g c =
     let size = ap length given.ensures.history in
     let longer = f.ensures.capacity in
     let more = given.ensures.capacity in
-    call_kept f.result i.records.items f.new.workers.items f.new.history.items _ i.held (g.M.MapEngine.state i.engine)
+    call_kept f.result i.records.items f.new.workers.items f.new.history.items _ i.held i.tally (g.M.MapEngine.state i.engine)
     i.proof e u k r (refl, refills, refl) f.ensures.common f.ensures.workers history
     (omega arith)
     (λ on. let room = given.ensures.room on in omega (arith, room, size, longer, c.len.ensures, i.workers.ok.0, given.new.history.ok.0))
     k.index
+    k.tallies
     (proof_kept e u i.records.items k (refl, refills, refl) same) (idle e k.driven refl (no_take e.call refl))
 
 -- one entry more, with what was answered
@@ -65,10 +66,10 @@ returns-clause-step g c =
     let history =
     written c.args.w c.args.used _ _ _ _ _ _ _ c.from_set.ensures c.kept_refill.ensures given.ensures.history f.ensures.history in
     let t =
-    state_of g.M.MapEngine.TOPS i.problem i.first i.budget i.limit f.result i.records.items f.new.workers.items
+    state_of g.M.MapEngine.TOPS i.goal i.problem i.first i.budget i.limit f.result i.records.items f.new.workers.items
     f.new.history.items in
     let step =
-    step_made g.M.MapEngine.TOPS i.problem i.first i.budget i.limit i.common f.result i.records.items i.records.items
+    step_made g.M.MapEngine.TOPS i.goal i.problem i.first i.budget i.limit i.common f.result i.records.items i.records.items
     i.workers.items f.new.workers.items i.history.items f.new.history.items e u c.self.invariant.begins r
     (refl, refills, refl) f.ensures.common f.ensures.workers history in
     record { engine = None; step = subst (λ s. CoreStep s e t) c.self.view_is step }

@@ -24,9 +24,9 @@ invariant_of-self g c =
     let same = ap (λ (t : Turn). t.common.exhausted) is in
     let over = ap (λ (t : Turn). t.worker.ended) is in
     let longer = f.ensures.capacity in
-    call_kept f.result i.records.items f.new.workers.items f.new.history.items _ i.held (g.M.MapEngine.state i.engine)
+    call_kept f.result i.records.items f.new.workers.items f.new.history.items _ i.held i.tally (g.M.MapEngine.state i.engine)
     i.proof e u k r (refl, refl, is, refl) f.ensures.common f.ensures.workers f.ensures.history
-    (omega arith) (λ on. absurd (false≢true (sym on ∙ over))) k.index
+    (omega arith) (λ on. absurd (false≢true (sym on ∙ over))) k.index k.tallies
     (proof_kept e u i.records.items k (refl, refl, is, refl) same) (idle e k.driven refl (no_take e.call refl))
 
 -- one entry more, with the worker's end
@@ -40,10 +40,10 @@ returns-clause-step g c =
     c.retire-turn.ensures ∙ ap retire
     (c.settled.ensures.turn ∙ ap (λ s. settle c.args.used (turn_at s c.args.w)) (sym c.self.view_is)) in
     let t =
-    state_of g.M.MapEngine.TOPS i.problem i.first i.budget i.limit f.result i.records.items f.new.workers.items
+    state_of g.M.MapEngine.TOPS i.goal i.problem i.first i.budget i.limit f.result i.records.items f.new.workers.items
     f.new.history.items in
     let step =
-    step_made g.M.MapEngine.TOPS i.problem i.first i.budget i.limit i.common f.result i.records.items i.records.items
+    step_made g.M.MapEngine.TOPS i.goal i.problem i.first i.budget i.limit i.common f.result i.records.items i.records.items
     i.workers.items f.new.workers.items i.history.items f.new.history.items e c.retire-turn.result c.self.invariant.begins r
     (refl, refl, is, refl) f.ensures.common f.ensures.workers f.ensures.history in
     record { engine = None; step = subst (λ s. CoreStep s e t) c.self.view_is step }

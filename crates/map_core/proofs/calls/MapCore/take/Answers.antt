@@ -27,9 +27,10 @@ invariant_of-self g c =
     c.give_back-turn.ensures ∙ ap give_back
     (c.settled.ensures.turn ∙ ap (λ s. settle c.args.used (turn_at s c.args.w)) (sym c.self.view_is)) in
     let records : c.len.result ≡ length i.records.items = omega (arith, c.len.ensures, i.records.ok.0) in
+    let told = c.is_told-told.ensures i.problem.groups (founds i.records.items) c.self.invariant.tallies in
     let takes =
     takes_here g.M.MapEngine.TOPS i.limit (length i.history.items + 1) given.result.engine given.result.kept u d.same_groups
-    d.same_blocks records is asked.takes in
+    d.same_blocks told records is asked.takes in
     let marked = ap (λ (t : Turn). t.common.exhausted) is in
     let before =
     subst (λ b. KeepsProof i.problem.groups (founds i.records.items) b c.take-old.result) (sym marked)
@@ -41,12 +42,13 @@ invariant_of-self g c =
     let size = ap length given.ensures.history in
     let longer = f.ensures.capacity in
     let more = given.ensures.capacity in
-    call_kept f.result i.records.items f.new.workers.items f.new.history.items _ i.held
+    call_kept f.result i.records.items f.new.workers.items f.new.history.items _ i.held i.tally
     (g.M.MapEngine.state given.new.engine) c.or.result e u k r (takes, refl) f.ensures.common f.ensures.workers
     history
     (omega arith)
     (λ on. let room = given.ensures.room on in omega (arith, room, size, longer, c.len-2.ensures, i.workers.ok.0, given.new.history.ok.0))
     k.index
+    k.tallies
     (subst (KeepsProof i.problem.groups (founds i.records.items) u.common.exhausted) (sym c.or.ensures) proof)
     (record {
       same_groups = given.ensures.groups;
@@ -74,15 +76,16 @@ returns-clause-step g c =
     c.give_back-turn.ensures ∙ ap give_back
     (c.settled.ensures.turn ∙ ap (λ s. settle c.args.used (turn_at s c.args.w)) (sym c.self.view_is)) in
     let records : c.len.result ≡ length i.records.items = omega (arith, c.len.ensures, i.records.ok.0) in
+    let told = c.is_told-told.ensures i.problem.groups (founds i.records.items) c.self.invariant.tallies in
     let takes =
     takes_here g.M.MapEngine.TOPS i.limit (length i.history.items + 1) given.result.engine given.result.kept u d.same_groups
-    d.same_blocks records is asked.takes in
+    d.same_blocks told records is asked.takes in
     let history = f.ensures.history ∙ ap (λ h. h ++ e ∷ []) given.ensures.history in
     let t =
-    state_of g.M.MapEngine.TOPS i.problem i.first i.budget i.limit f.result i.records.items f.new.workers.items
+    state_of g.M.MapEngine.TOPS i.goal i.problem i.first i.budget i.limit f.result i.records.items f.new.workers.items
     f.new.history.items in
     let step =
-    step_made g.M.MapEngine.TOPS i.problem i.first i.budget i.limit i.common f.result i.records.items i.records.items
+    step_made g.M.MapEngine.TOPS i.goal i.problem i.first i.budget i.limit i.common f.result i.records.items i.records.items
     i.workers.items f.new.workers.items i.history.items f.new.history.items e u c.self.invariant.begins r (takes, refl)
     f.ensures.common f.ensures.workers history in
     record {
