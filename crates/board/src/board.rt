@@ -18,7 +18,7 @@ use crate::book::{Answer, CoreBook, Op};
 use evidence_rec::{MapEngine, Record, Records};
 use gm_base::{GroupSet, Problem};
 use lrat_steps::Log;
-use map_core::{Closing, Entry, MapCore, Opening, Posted, Refilled, Taken};
+use map_core::{Closing, Entry, Goal, MapCore, Opening, Posted, Refilled, Taken};
 use std::alloc::{AllocError, Global};
 use std::marker::Model;
 use std::sync::Wait;
@@ -129,16 +129,19 @@ impl<M: MapEngine + Drop> Board<M> {
         workers: u32,
         budget: u64,
         limit: u64,
+        goal: Goal,
         engine: M,
     ) -> Result<(Board<M>, Vec<Seat>), AllocError>
-        requires opening { IsOpening (opening_of problem.now records workers budget limit M.TOPS) }
+        requires opening { IsOpening (opening_of problem.now records workers budget limit goal M.TOPS) }
         requires groups { (M.state engine).groups ≡ problem.now.groups }
         requires blocks { (M.state engine).blocks ≡ [] }
         requires log { (M.state engine).log ≡ [] }
-        ensures opening { IfOk result (λ r. r.0.opening ≡ opening_of problem.now records workers budget limit M.TOPS) }
+        ensures opening { IfOk result (λ r. r.0.opening ≡ opening_of problem.now records workers budget limit goal M.TOPS) }
         ensures seats { IfOk result (λ r. AreNew r.0 workers r.1.items) }
     {
-        let core = MapCore::start(alloc, problem, records, workers, budget, limit, engine)?;
+        let core = MapCore::start(
+            alloc, problem, records, workers, budget, limit, goal, engine,
+        )?;
         match TurnLock::start(alloc, CoreBook::new(core), workers) {
             Ok((lock, seats)) => Ok((Board { lock }, seats)),
             Err(_) => Err(AllocError),

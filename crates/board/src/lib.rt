@@ -1,7 +1,7 @@
 //! The core of an enumeration behind a turn lock: what workers in several threads share.
 //!
 //! ```text
-//! let (board, mut seats) = Board::start(alloc, &problem, records, 2, budget, limit, engine)?;
+//! let (board, mut seats) = Board::start(alloc, &problem, records, 2, budget, limit, goal, engine)?;
 //! match board.take(rt, &mut seats[0], 0) {              // in any thread; it may wait
 //!     Taken::Job { turn, seed, grant } => .., // then board.refill(..), board.post(..)
 //!     _ => .., // the seat's worker has ended
