@@ -12,7 +12,7 @@ use gm_ports::Gate;
 use group_oracle::GroupOracle;
 use known_sets::KnownSets;
 use lrat_steps::Logs;
-use map_core::Closing;
+use map_core::{Closing, Goal};
 use power_map::PowerMap;
 use std::alloc::{AllocError, Global};
 use std::sync::Wait;
@@ -63,6 +63,7 @@ pub fn list_sets<G: Gate, R: Threads + Wait + Sync>(
         map,
         bounds.conflicts,
         bounds.limit,
+        Goal::All,
         gate,
     );
     let Outcome {

@@ -9,7 +9,7 @@ use gm_base::{Kind, Problem};
 use gm_ports::OpenGate;
 use lawful_fakes::example::{derivation, four_clauses, set_of, table_of};
 use lawful_fakes::{Lacking, ScriptedMap};
-use map_core::{Closing, Verdict};
+use map_core::{Closing, Goal, Verdict};
 use sat_base::Row;
 use std::alloc::Global;
 use std::process::Abort;
@@ -65,7 +65,18 @@ fn list_in_meeting<R: Threads + Wait + Sync>(
     let pair = pair_of(alloc, &problem, meeting)?;
     let map = map_of(alloc, &problem)?;
     let records = Records::new(alloc);
-    Ok(enumerate(rt, alloc, &problem, records, pair, map, 100, 9, &OpenGate))
+    Ok(enumerate(
+        rt,
+        alloc,
+        &problem,
+        records,
+        pair,
+        map,
+        100,
+        9,
+        Goal::All,
+        &OpenGate,
+    ))
 }
 
 fn holds(records: &Records, kind: Kind, groups: &[u32]) -> bool {

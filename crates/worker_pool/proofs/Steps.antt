@@ -136,6 +136,7 @@ pub ended-take : (w : Worker) (used : ℕ) (here : Place) (r : Taken) → ((turn
     → ((worker_after w used (take_reply r)).ended ≡ true) × (place_after here (take_reply r) ≡ Over)
 ended-take w used here (taken.Job turn seed grant) other = absurd (other turn seed grant refl)
 ended-take w used here taken.Exhausted other = (refl, refl)
+ended-take w used here taken.Settled other = (refl, refl)
 ended-take w used here taken.Limit other = (refl, refl)
 ended-take w used here taken.Dry other = (refl, refl)
 ended-take w used here taken.Stopped other = (refl, refl)

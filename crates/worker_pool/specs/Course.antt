@@ -15,7 +15,7 @@ use Rattle.evidence_rec.specs.Asking.{selectors}
 use Rattle.map_core.specs.declared.entry.Call.{Call}
 use Rattle.map_core.specs.declared.entry.Call.TheVariants.{Take, Refill, Post, Retire}
 use Rattle.map_core.specs.declared.entry.Reply.{Reply}
-use Rattle.map_core.specs.declared.entry.Reply.TheVariants.{Job, Grant, Exhausted, Limit, Dry, Stopped, New, Already, Retired, Memory}
+use Rattle.map_core.specs.declared.entry.Reply.TheVariants.{Job, Grant, Exhausted, Settled, Limit, Dry, Stopped, New, Already, Retired, Memory}
 use Rattle.map_core.specs.declared.entry.Entry.{Entry}
 
 -- where a worker stands: without a job, at a job with this seed, or at its end
@@ -32,6 +32,7 @@ place_after here (Grant n) = here
 place_after here New = Free
 place_after here Already = Free
 place_after here Exhausted = Over
+place_after here Settled = Over
 place_after here Limit = Over
 place_after here Dry = Over
 place_after here Stopped = Over

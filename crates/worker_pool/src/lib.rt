@@ -1,7 +1,7 @@
 //! Workers that enumerate the minimal conflicts and minimal corrections of a problem, at once, over one map.
 //!
 //! ```text
-//! let outcome = enumerate(rt, alloc, &problem, records, oracles, engine, budget, limit, &OpenGate);
+//! let outcome = enumerate(rt, alloc, &problem, records, oracles, engine, budget, limit, Goal::All, &OpenGate);
 //! match outcome.closing {
 //!     Some(closing) => .., // closing.verdict says why it ended; outcome.logs are the oracles', in their order, and last the map's
 //!     None => ..,          // there was no memory

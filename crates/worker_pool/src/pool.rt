@@ -13,7 +13,7 @@ use evidence_rec::{MapEngine, Oracle, Records};
 use gm_base::Problem;
 use gm_ports::Gate;
 use lrat_steps::{Log, Logs};
-use map_core::{Closing, Verdict};
+use map_core::{Closing, Goal, Verdict};
 use std::alloc::{AllocError, Global};
 use std::sync::Wait;
 use std::thread::Threads;
@@ -32,7 +32,8 @@ pub struct Outcome {
 
 /// Enumerates the minimal conflicts and minimal corrections of a problem, with a worker for each oracle.
 ///
-/// All lists that it needs at its end are made before the workers begin.
+/// Where roles alone are wanted it ends once the records tell each group's. All lists that it needs at its end are made
+/// before the workers begin.
 pub fn enumerate<
     O: Oracle + Send + Drop,
     M: MapEngine + Send + Drop,
@@ -47,17 +48,18 @@ pub fn enumerate<
     engine: M,
     budget: u64,
     limit: u64,
+    goal: Goal,
     gate: &G,
 ) -> Outcome
-    requires opening { IsOpening (opening_of problem.now records (length oracles.items) budget limit M.TOPS) }
+    requires opening { IsOpening (opening_of problem.now records (length oracles.items) budget limit goal M.TOPS) }
     requires oracles { All (λ o. IsFresh problem.now (O.state o)) oracles.items }
     requires groups { (M.state engine).groups ≡ problem.now.groups }
     requires blocks { (M.state engine).blocks ≡ [] }
     requires log { (M.state engine).log ≡ [] }
-    ensures { IsOutcome (opening_of problem.now records (length oracles.items) budget limit M.TOPS) result }
+    ensures { IsOutcome (opening_of problem.now records (length oracles.items) budget limit goal M.TOPS) result }
 {
     match share(
-        rt, alloc, problem, records, oracles, engine, budget, limit, gate,
+        rt, alloc, problem, records, oracles, engine, budget, limit, goal, gate,
     ) {
         Ok(outcome) => outcome,
         Err(AllocError) => Outcome {
@@ -78,14 +80,15 @@ fn share<O: Oracle + Send + Drop, M: MapEngine + Send + Drop, G: Gate, R: Thread
     engine: M,
     budget: u64,
     limit: u64,
+    goal: Goal,
     gate: &G,
 ) -> Result<Outcome, AllocError>
-    requires opening { IsOpening (opening_of problem.now records (length oracles.items) budget limit M.TOPS) }
+    requires opening { IsOpening (opening_of problem.now records (length oracles.items) budget limit goal M.TOPS) }
     requires oracles { All (λ o. IsFresh problem.now (O.state o)) oracles.items }
     requires groups { (M.state engine).groups ≡ problem.now.groups }
     requires blocks { (M.state engine).blocks ≡ [] }
     requires log { (M.state engine).log ≡ [] }
-    ensures { IfOk result (IsOutcome (opening_of problem.now records (length oracles.items) budget limit M.TOPS)) }
+    ensures { IfOk result (IsOutcome (opening_of problem.now records (length oracles.items) budget limit goal M.TOPS)) }
 {
     let count = oracles.len();
     let (board, mut seats) = Board::start(
@@ -95,6 +98,7 @@ fn share<O: Oracle + Send + Drop, M: MapEngine + Send + Drop, G: Gate, R: Thread
         count as u32,
         budget,
         limit,
+        goal,
         engine,
     )?;
     let mut logs = Vec::with_capacity(alloc, count + 1)?;
