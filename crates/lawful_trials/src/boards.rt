@@ -15,7 +15,7 @@ use board::{Board, BoardClosing, Seat};
 use evidence_rec::Records;
 use gm_base::Problem;
 use lawful_fakes::{Lacking, ScriptedMap};
-use map_core::{Posted, Taken};
+use map_core::{Goal, Posted, Taken};
 use std::alloc::{AllocError, Global};
 use std::sync::Wait;
 use trial_script::Step;
@@ -71,7 +71,7 @@ fn board_of(
     let _groups = problem.groups(); // The problem is well-formed.
     let engine = scripted_map(alloc, problem, lines)?;
     let records = Records::new(alloc);
-    let started = Board::start(alloc, problem, records, 2, budget, limit, engine)?;
+    let started = Board::start(alloc, problem, records, 2, budget, limit, Goal::All, engine)?;
     Ok(started)
 }
 
@@ -180,6 +180,7 @@ fn take<R: Wait>(
     place.may_call = match &taken {
         Taken::Job { .. } => true,
         Taken::Exhausted => false,
+        Taken::Settled => false,
         Taken::Limit => false,
         Taken::Dry => false,
         Taken::Stopped => false,

@@ -1,5 +1,5 @@
 //! The core of an enumeration over a map with a script: `core 2 10 1` opens one for so many workers, with a budget and a
-//! limit. Its text describes the map (see `scripted.rt`) and has the calls of workers, who are numbered from 0 and learn
+//! limit, and `core 2 10 1 roles` one that ends once each group's role is told. Its text describes the map (see `scripted.rt`) and has the calls of workers, who are numbered from 0 and learn
 //! nothing:
 //!
 //! | move | what it does, and what is printed |
@@ -18,12 +18,12 @@ ghost use Rattle.map_core.specs.Own.{CanCall, calls_of};
 use crate::moves::{Mover, Played, make_moves, played};
 use crate::scripted::{record_in, scripted_map};
 use crate::telling::{say, say_count, say_numbers};
-use crate::words::{lines_of, number_at};
+use crate::words::{has_word, lines_of, number_at};
 use evidence_rec::Records;
 use gm_base::{GroupSet, Problem};
 use lawful_fakes::{Lacking, ScriptedMap};
 use lrat_steps::Log;
-use map_core::{Closing, MapCore, Posted, Refilled, Taken, Verdict};
+use map_core::{Closing, Goal, MapCore, Posted, Refilled, Taken, Verdict};
 use std::alloc::{AllocError, Global};
 use trial_script::Step;
 
@@ -41,7 +41,12 @@ pub fn play_core(alloc: Global, problem: &Problem, step: &Step<'_>, out: &mut St
     if workers == 0 || workers > 64 {
         return Err(Lacking::Evidence);
     }
-    let core = core_of(alloc, problem, workers, budget, limit, lines_of(step))?;
+    let goal = if has_word(step, "roles") {
+        Goal::Roles
+    } else {
+        Goal::All
+    };
+    let core = core_of(alloc, problem, workers, budget, limit, goal, lines_of(step))?;
     let mut desk = Desk { core, problem };
     let made = make_moves(alloc, &mut desk, step, out);
     let Desk { core, problem: _ } = desk;
@@ -57,6 +62,7 @@ fn core_of(
     workers: u32,
     budget: u64,
     limit: u64,
+    goal: Goal,
     lines: &str,
 ) -> Result<MapCore<ScriptedMap>, Lacking>
     requires some { 0 < workers }
@@ -66,7 +72,9 @@ fn core_of(
     let _groups = problem.groups(); // The problem is well-formed.
     let engine = scripted_map(alloc, problem, lines)?;
     let records = Records::new(alloc);
-    let core = MapCore::start(alloc, problem, records, workers, budget, limit, engine)?;
+    let core = MapCore::start(
+        alloc, problem, records, workers, budget, limit, goal, engine,
+    )?;
     Ok(core)
 }
 
@@ -119,6 +127,7 @@ pub fn say_taken(out: &mut String, taken: &Taken) -> Result<(), AllocError> {
             say_numbers(out, "", seed.as_slice())
         }
         Taken::Exhausted => say(out, "exhausted"),
+        Taken::Settled => say(out, "settled"),
         Taken::Limit => say(out, "limit"),
         Taken::Dry => say(out, "dry"),
         Taken::Stopped => say(out, "stopped"),
@@ -181,6 +190,7 @@ pub fn say_closing(out: &mut String, closing: &Closing, log: &Log) -> Result<(),
 pub fn verdict_word(verdict: Verdict) -> &'static str {
     match verdict {
         Verdict::Complete => "complete",
+        Verdict::Settled => "settled",
         Verdict::Memory => "memory",
         Verdict::Limit => "limit",
         Verdict::Budget => "budget",

@@ -22,7 +22,7 @@ use gm_base::{GroupSet, Kind, Problem};
 use gm_ports::OpenGate;
 use lawful_fakes::example::table_of;
 use lawful_fakes::{Lacking, ShyMap, ShyOracle};
-use map_core::{Call, Closing, Entry, Reply, Verdict};
+use map_core::{Call, Closing, Entry, Goal, Reply, Verdict};
 use std::alloc::{AllocError, Global};
 use std::sync::Wait;
 use std::thread::Threads;
@@ -101,7 +101,18 @@ fn enumerated<R: Threads + Wait + Sync>(
     let map = map_of(alloc, problem, step)?;
     let oracles = oracles_of(alloc, problem, step)?;
     let records = Records::new(alloc);
-    Ok(enumerate(rt, alloc, problem, records, oracles, map, 100, 9, &OpenGate))
+    Ok(enumerate(
+        rt,
+        alloc,
+        problem,
+        records,
+        oracles,
+        map,
+        100,
+        9,
+        Goal::All,
+        &OpenGate,
+    ))
 }
 
 /// The map, which is shy from the block on that the call names.
@@ -221,6 +232,7 @@ fn reply_word(entry: &Entry) -> &'static str {
         Reply::Job { .. } => "job",
         Reply::Grant(_) => "granted",
         Reply::Exhausted => "exhausted",
+        Reply::Settled => "settled",
         Reply::Limit => "limit",
         Reply::Dry => "dry",
         Reply::Stopped => "stopped",
@@ -243,7 +255,7 @@ fn ends_as_it_may(alloc: Global, outcome: &Outcome, logs: usize) -> Result<bool,
     match outcome.verdict {
         Verdict::Complete => are_all_five(alloc, &closing.records),
         Verdict::Memory => Ok(closing.records.len() <= 5),
-        Verdict::Limit | Verdict::Budget => Ok(false),
+        Verdict::Settled | Verdict::Limit | Verdict::Budget => Ok(false),
     }
 }
 
