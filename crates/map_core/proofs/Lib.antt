@@ -8,3 +8,4 @@ pub mod Kept
 pub mod Told
 pub mod Ended
 pub mod Marks
+pub mod Roles

@@ -1,5 +1,5 @@
 -- What an engine's calls do to the number of learnt clauses.
-use Rattle.std.proofs.Common.{◌≡◌, ℕ, ◌+◌, ◌-◌, ◌≤◌, List, [], ◌∷◌, ◌++◌, refl, ap, arith}
+use Rattle.std.proofs.Common.{◌≡◌, ℕ, ◌+◌, ◌-◌, ◌≤◌, List, [], ◌∷◌, ◌++◌, refl, ap}
 use Rattle.lrat_steps.specs.Log.{LogStep, Input, Learned, Core, Forgot, learned_count}
 use Rattle.lrat_steps.proofs.PaidLemmas.{left-within, learned-used}
 use Rattle.gm_base.specs.Explored.{Found, block_clause}

@@ -1,7 +1,7 @@
 -- What is told stays so, and what a tally counts.
-use Rattle.std.proofs.Common.{◌≡◌, ℕ, zero, suc, ◌+◌, ◌<◌, ◌≤◌, Bool, true, false, not, ◌&&◌, ◌||◌, cond, List, [], ◌∷◌, ◌++◌, length, get_or, set, refl, sym, ◌∙◌, ap, subst, inl, inr, arith, eqb}
+use Rattle.std.proofs.Common.{◌≡◌, ℕ, zero, suc, ◌+◌, ◌<◌, ◌≤◌, Bool, true, false, not, ◌&&◌, ◌||◌, cond, List, [], ◌∷◌, ◌++◌, length, get_or, refl, sym, ◌∙◌, ap, subst, inl, inr, arith, eqb}
 use Rattle.std.specs.List.{list_any, list_all, count_by, range_with_len}
-use Rattle.std.proofs.lemmas.Bool.{false≢true, true≢false, or_cases, or_left, or_right, and_parts, and_from, cases_Bool, true_from_ne_false, false_from_ne_true, not-false, eqb-true, eq-eqb}
+use Rattle.std.proofs.lemmas.Bool.{false≢true, true≢false, or_cases, or_left, or_right, and_parts, and_from, true_from_ne_false, false_from_ne_true, not-false, eqb-true, eq-eqb}
 use Rattle.std.proofs.lemmas.List.Folds.{list_any-append, list_all-append, list_all_at}
 use Rattle.std.proofs.lemmas.List.FromFn.{get_or-range_with_len, length-range_with_len}
 use Rattle.std.proofs.lemmas.List.Sums.{sum_by-cons, get_or-le-sum_by}
@@ -13,7 +13,7 @@ use Rattle.map_core.specs.declared.entry.Goal.{Goal}
 use Rattle.map_core.specs.declared.entry.Goal.TheVariants.{All, Roles}
 use Rattle.map_core.specs.declared.tally.Tally.{Tally}
 use Rattle.map_core.specs.Core.{is_told}
-use Rattle.map_core.specs.Tallies.{is_open, IsTally, Tallies}
+use Rattle.map_core.specs.Tallies.{IsTally}
 
 any-append : {X : Type 0} (p : X → Bool) (xs more : List X) → list_any p xs ≡ true → list_any p (xs ++ more) ≡ true
 any-append p xs more h = list_any-append p xs more ∙ or_left (list_any p xs) (list_any p more) h

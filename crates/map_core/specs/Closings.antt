@@ -1,12 +1,7 @@
 -- What is left when every worker has ended.
 use Rattle.std.specs.Prelude.{◌≡◌, ◌≢◌, ℕ, ◌<◌, Bool, true, false, List, [], ◌∷◌, ◌++◌, MatchOption}
-use Rattle.gm_base.specs.Sets.{IsGroupSet, IsSubset, all_groups}
-use Rattle.gm_base.specs.Problem.{Problem}
-use Rattle.gm_base.specs.Minimal.{IsConflict, IsCorrection}
-use Rattle.gm_base.specs.declared.kind.Kind.TheVariants.{Conflict, Correction}
 use Rattle.lrat_steps.specs.Log.{LogStep, db_of, learned_count}
 use Rattle.lrat_steps.specs.Undecided.{Undecided}
-use Rattle.evidence_rec.specs.declared.record.Record.{Record}
 use Rattle.evidence_rec.specs.Records.{founds}
 use Rattle.evidence_rec.specs.Seeding.{IsHonestMap, shows_all_explored}
 pub use Rattle.evidence_rec.specs.Held.{HoldsAll}
@@ -17,7 +12,7 @@ use Rattle.map_core.specs.declared.entry.Opening.{Opening}
 use Rattle.map_core.specs.declared.closing.Verdict.{Verdict}
 use Rattle.map_core.specs.declared.closing.Verdict.TheVariants.{Complete, Settled, Memory, Limit, Budget}
 use Rattle.map_core.specs.declared.closing.Closing.{Closing}
-use Rattle.map_core.specs.Core.{State, IsReached, is_held, is_told}
+use Rattle.map_core.specs.Core.{State, IsReached, is_told}
 use Rattle.map_core.specs.Own.{calls_of, worker_of, engine_used_in}
 use Rattle.map_core.specs.Sound.{IsSound}
 

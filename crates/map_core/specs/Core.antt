@@ -3,14 +3,10 @@
 -- A worker takes a job, a set of groups that no record explores, and a purse of clauses that it may learn. It refills the
 -- purse, posts the record that it made of the set, or retires. Budget that is in no purse and was not spent is available.
 use Rattle.std.specs.Prelude.{◌≡◌, ℕ, ◌+◌, ◌-◌, ◌*◌, ◌<◌, ◌≤◌, ◌^◌, min, max, Bool, true, false, nat_le, List, [], ◌∷◌, ◌++◌, length, slice_index_or, slice_set, Option, Some, None, replicate}
-use Rattle.std.specs.List.{list_any}
-use Rattle.std.specs.Cmp.Lexicographic.{pointwise}
-use Rattle.std.specs.Bool.{nat_eq}
 use Rattle.gm_base.specs.Problem.{Problem}
 use Rattle.gm_base.specs.Explored.{Found}
 use Rattle.gm_base.specs.Roles.{are_settled}
 use Rattle.gm_base.specs.declared.kind.Kind.{Kind}
-use Rattle.gm_base.specs.declared.kind.Kind.TheVariants.{Conflict, Correction}
 use Rattle.evidence_rec.specs.declared.record.Record.{Record}
 use Rattle.evidence_rec.specs.Records.{kind_of, set_of, founds, IsAcceptedAlone}
 pub use Rattle.evidence_rec.specs.Held.{same_kind, same_set, and_also, is_held}

@@ -1,11 +1,12 @@
 -- Laws of the core, over every list of entries.
-use Rattle.std.specs.Prelude.{◌≡◌, ◌≢◌, ◌||◌, ℕ, true, false, List}
+use Rattle.std.specs.Prelude.{◌≡◌, ◌≢◌, ◌||◌, ℕ, true, false, if◌then◌else◌, List}
 use Rattle.std.specs.List.{AllByRecursion}
-use Rattle.gm_base.specs.Sets.{IsGroupSet, IsSubset, all_groups}
-use Rattle.gm_base.specs.Problem.{Problem, Sat}
+use Rattle.gm_base.specs.Sets.{has, IsGroupSet, IsSubset, all_groups}
 use Rattle.gm_base.specs.Minimal.{IsConflict, IsCorrection}
-use Rattle.gm_base.specs.Explored.{explores, is_explored, IsUnexplored}
-use Rattle.gm_base.specs.declared.kind.Kind.{Kind}
+use Rattle.gm_base.specs.Explored.{Found, explores, is_explored, IsUnexplored}
+use Rattle.gm_base.specs.Roles.{role, is_met, stands_alone}
+use Rattle.gm_base.specs.declared.role.Role.{Role}
+use Rattle.gm_base.specs.declared.role.Role.TheVariants.{InEvery, InSome, InNone}
 use Rattle.gm_base.specs.declared.kind.Kind.TheVariants.{Conflict, Correction}
 use Rattle.evidence_rec.specs.declared.record.Record.{Record}
 use Rattle.evidence_rec.specs.Records.{kind_of, found_of, founds}
@@ -79,6 +80,19 @@ ExhaustedHoldsAll =
     → IsSubset set (all_groups s.opening.problem.groups)
     → (IsConflict s.opening.problem set → is_held s.records Conflict set ≡ true)
     × (IsCorrection s.opening.problem set → is_held s.records Correction set ≡ true)
+
+-- the role of a group that records tell: one has it, and it is alone a correction, or else missing in a conflict
+abbrev pub told_role : List Found → ℕ → Role
+told_role found g = if is_met found g then (if stands_alone found g then InEvery else InSome) else InNone
+
+-- once settled is marked, the records tell each group's role
+abbrev pub SettledTells : Type 0
+SettledTells =
+    (s : State) (g : ℕ)
+    → IsSound s
+    → s.settled ≡ true
+    → has (all_groups s.opening.problem.groups) g ≡ true
+    → role s.opening.problem g ≡ told_role (founds s.records) g
 
 -- a mark of the one state is a mark of the other
 pub record KeepsMarks (s t : State) : Type 0 where

@@ -10,7 +10,7 @@ use Rattle.map_core.specs.declared.entry.Entry.{Entry}
 use Rattle.map_core.specs.declared.entry.Reply.TheVariants.{Dry}
 use Rattle.map_core.specs.declared.entry.Opening.{Opening}
 use Rattle.map_core.specs.declared.turn.Worker.{Worker}
-use Rattle.map_core.specs.Core.{State, worker_at, is_held, is_full, is_told}
+use Rattle.map_core.specs.Core.{State, worker_at, is_full, is_told}
 use Rattle.map_core.specs.Own.{calls_of, worker_of, is_retirement, used_in, engine_used_in}
 
 -- what a core may be opened with

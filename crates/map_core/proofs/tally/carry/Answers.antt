@@ -1,4 +1,4 @@
-use Rattle.std.proofs.Common.{◌≡◌, ◌<◌, ◌-◌, ◌+◌, ℕ, cond, eqb, get_or, length, set, sym, ap, ◌∙◌, subst, arith}
+use Rattle.std.proofs.Common.{ℕ, length, sym, arith}
 use Rattle.map_core.proofs.TallySteps.{within-at, count-next, IsCarried-start, IsCarried-more}
 use Rattle.map_core.proofs.tally.carry.Goals as goal
 

@@ -1,4 +1,4 @@
-use Rattle.std.proofs.Common.{◌≡◌, ◌&&◌, sym, ap, ◌∙◌, subst, eqb}
+use Rattle.std.proofs.Common.{◌&&◌, sym, ap, ◌∙◌, subst, eqb}
 use Rattle.std.proofs.lemmas.Bool.{eq-eqb, ne_eqb}
 use Rattle.map_core.specs.Core.{is_told}
 use Rattle.map_core.specs.Tallies.{Tallies}

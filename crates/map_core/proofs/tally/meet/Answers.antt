@@ -1,4 +1,4 @@
-use Rattle.std.proofs.Common.{◌≡◌, ◌<◌, ◌-◌, true, length, set, sym, ap, ◌∙◌, subst, arith}
+use Rattle.std.proofs.Common.{length, arith}
 use Rattle.map_core.proofs.TallySteps.{within-at, IsMet-start, IsMet-more}
 use Rattle.map_core.proofs.tally.meet.Goals as goal
 

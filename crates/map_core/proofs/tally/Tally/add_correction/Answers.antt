@@ -1,4 +1,4 @@
-use Rattle.std.proofs.Common.{◌≡◌, ◌<◌, ◌≤◌, ℕ, List, length, get_or, refl, sym, ap, ◌∙◌, subst}
+use Rattle.std.proofs.Common.{length, refl, sym, subst}
 use Rattle.gm_base.specs.Sets.{IsSubset, all_groups}
 use Rattle.map_core.specs.Tallies.{IsMet, IsFreed}
 use Rattle.map_core.proofs.TallySteps.{tally-correction}
