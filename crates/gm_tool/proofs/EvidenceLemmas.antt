@@ -24,6 +24,7 @@ use Rattle.gm_tool.proofs.ReportLemmas.{of-problem, accepted-in, distinct-in}
 complete-by : (v : Verdict) (o : Option Derivation) (P : Derivation → Type 0)
     → MatchOption o (v ≢ verdict.Complete) (λ d. (v ≡ verdict.Complete) × P d) → is_complete v ≡ is_some o
 complete-by verdict.Complete None P m = absurd (m refl)
+complete-by verdict.Settled None P m = refl
 complete-by verdict.Memory None P m = refl
 complete-by verdict.Limit None P m = refl
 complete-by verdict.Budget None P m = refl

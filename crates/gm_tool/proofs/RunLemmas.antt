@@ -334,7 +334,7 @@ module _ (l : Listing) (old : FilesState) (mid new : Outside) (begun : Beginning
         valid = where-asked l.evidence (IsValid begun.problem c) (λ wanted. valid-from c h.0.left.closed (h.2.ids wanted));
         verdict = λ _. refl;
         evidence = λ _. h.2.written;
-        whole = λ zero. subst (ToldAppends mid.got new.got) (whole-text begun.problem c zero) h.3;
+        whole = λ zero. subst (ToldAppends mid.got new.got) (whole-text h.0.left.closed zero) h.3;
         partial = λ partial. subst (ToldAppends mid.got new.got) (partial-text begun.problem c partial) h.3;
         cut_off = λ e. absurd (seven e);
         memory = λ e. absurd (eight e);
@@ -509,7 +509,7 @@ module _ (d : Drilling) (old new : Outside) (untouched : new.files ≡ old.files
         left = refl;
         enumerated = enumerated h.0.left.closed h.0.enough_memory;
         verdict = λ _. refl;
-        whole = λ zero. subst (ToldAppends old.got new.got) (full_counts-from h.0.left.closed (complete_by c.verdict zero)) h.2;
+        whole = λ zero. subst (ToldAppends old.got new.got) (full_counts-from h.0.left.closed (complete_by h.0.left.closed zero)) h.2;
         partial = λ _. h.2;
         cut_off = λ seven. absurd (false≢true (subst IsReported seven reported));
       })

@@ -14,6 +14,7 @@ use Rattle.map_core.specs.declared.entry.Call.TheVariants.{Take}
 use Rattle.map_core.specs.declared.entry.Reply.TheVariants.{Dry}
 use Rattle.map_core.specs.declared.entry.Entry.{Entry}
 use Rattle.map_core.specs.declared.entry.Opening.{Opening}
+use Rattle.map_core.specs.declared.entry.Goal.TheVariants.{All}
 use Rattle.map_core.specs.declared.closing.Verdict.{Verdict}
 use Rattle.map_core.specs.declared.closing.Verdict.TheVariants as verdict
 use Rattle.map_core.specs.declared.closing.Closing.{Closing}
@@ -27,9 +28,9 @@ use Rattle.worker_pool.specs.Course.{EndsUndecided}
 pub use Rattle.worker_pool.specs.Outcomes.{learned_in}
 use Rattle.worker_pool.specs.Outcomes as pool
 
--- these records first, as many workers as are wanted, and a map that gives tops alone
+-- these records first, as many workers as are wanted, all sets, and a map that gives tops alone
 abbrev pub opening_for : Problem → List Record → Bounds → Opening
-opening_for p first b = record { problem = p; records = first; workers = b.jobs; budget = b.conflicts; limit = b.limit; tops = true }
+opening_for p first b = record { problem = p; records = first; workers = b.jobs; budget = b.conflicts; limit = b.limit; goal = All; tops = true }
 
 -- what is left of a board that its history makes of this opening: an honest log of each worker, in their order, and last the
 -- map's, in which as much was learnt as the history says that was used
@@ -57,6 +58,7 @@ pub record AreDistinctMinimal (p : Problem) (records : List Record) : Type 0 whe
 
 abbrev pub is_complete : Verdict → Bool
 is_complete verdict.Complete = true
+is_complete verdict.Settled = false
 is_complete verdict.Memory = false
 is_complete verdict.Limit = false
 is_complete verdict.Budget = false
@@ -87,6 +89,8 @@ pub record IsEnumerated (p : Problem) (first : List Record) (b : Bounds) (logs :
   -- the records are of minimal conflicts and minimal corrections, no two the same
   pub minimal : AreDistinctMinimal p closing.records
   pub enough_memory : closing.verdict ≢ verdict.Memory
+  -- all sets were wanted
+  pub not_settled : closing.verdict ≢ verdict.Settled
   -- nothing is missing, the budget is spent, or there are as many as were wanted
   pub all : closing.verdict ≡ verdict.Complete → HoldsAll p closing.records
   pub budget : closing.verdict ≡ verdict.Budget → IsBudgetSpent p b logs closing

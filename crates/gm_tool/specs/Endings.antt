@@ -13,9 +13,10 @@ use Rattle.gm_tool.specs.declared.ending.Ending.TheVariants.{BadWords, Refused, 
 use Rattle.gm_tool.specs.declared.ending.Finish.{Finish}
 use Rattle.gm_tool.specs.Lines.{budget_line, limit_line}
 
--- the status of an enumeration's verdict
+-- the status of an enumeration's verdict; that roles are settled comes only where roles alone are wanted
 abbrev pub status_by : Verdict → ℕ
 status_by verdict.Complete = 0
+status_by verdict.Settled = 0
 status_by verdict.Budget = 3
 status_by verdict.Limit = 4
 status_by verdict.Memory = 8
