@@ -25,12 +25,12 @@ use Rattle.gm_tool.proofs.StatusLemmas.{among-by}
 
 -- what stopped it where it began
 pub exporting-stopped : (x : Exporting) (old new : FilesState) (got : Option (List ℕ)) (faults : ℕ) (e : Ending)
-    → Stops x.file (Some x.evidence) old new e → ReadingLeaves old new → EndsAs (Some (exporting x)) (outside old got faults) (outside new got faults) e
+    → Stops x.file None (Some x.evidence) old new e → ReadingLeaves old new → EndsAs (Some (exporting x)) (outside old got faults) (outside new got faults) e
 exporting-stopped x old new got faults e stops leaves =
-    let h = stopped no_bounds x.file (Some x.evidence) old new e stops in
+    let h = stopped no_bounds x.file None (Some x.evidence) old new e stops in
     let status = (finish_of e).status in
     record {
-      every = run-stopped no_bounds (export_outputs x.cnf x.lrat) x.file (Some x.evidence) old new got faults e h leaves;
+      every = run-stopped no_bounds (export_outputs x.cnf x.lrat) x.file None (Some x.evidence) old new got faults e h leaves;
       done =
           record {
             statuses = among-by (IsAmong (0 ∷ 5 ∷ 6 ∷ 7 ∷ 8 ∷ 9 ∷ 11 ∷ [])) (5 ∷ 6 ∷ 8 ∷ 9 ∷ []) status h.statuses (refl, (refl, (refl, (refl, tt))));
@@ -48,11 +48,11 @@ exporting-stopped x old new got faults e stops leaves =
             accepted =
                 λ none ok.
                 subst (IsAmong (0 ∷ 8 ∷ 11 ∷ []))
-                (sym (left-of x.file (Some x.evidence) (outside old got faults) (outside new got faults) (λ told. line_of e ≡ told) status h.statuses h.judged none ok)) refl;
+                (sym (left-of x.file None (Some x.evidence) (outside old got faults) (outside new got faults) (λ told. line_of e ≡ told) status h.statuses h.judged none ok)) refl;
             within =
                 λ none ok has.
                 subst (IsAmong (0 ∷ 8 ∷ []))
-                (sym (left-of x.file (Some x.evidence) (outside old got faults) (outside new got faults) (λ told. line_of e ≡ told) status h.statuses h.judged none ok)) refl;
+                (sym (left-of x.file None (Some x.evidence) (outside old got faults) (outside new got faults) (λ told. line_of e ≡ told) status h.statuses h.judged none ok)) refl;
           };
     }
 
@@ -72,7 +72,7 @@ cut-behind cnf clauses refutation old mid new reads quiet (inl h) =
 cut-behind cnf clauses refutation old mid new reads quiet (inr h) = inr h
 
 module _ (x : Exporting) (old mid new : FilesState) (got : Option (List ℕ)) (faults : ℕ) (begun : Beginning) (reads : ReadingLeaves old mid)
-    (is : IsBegun x.file (Some x.evidence) old mid begun) where
+    (is : IsBegun x.file None (Some x.evidence) old mid begun) where
   run-exported : (Gets : List ℕ → Type 0) (status : ℕ) (found : Record) → IsAmong (0 ∷ 7 ∷ []) status → IsNumberedRecord begun.problem begun.records x.number found
       → IsRefuted begun.problem found → WritingLeaves (λ name. In name (x.cnf ∷ x.lrat ∷ [])) mid new
       → (status ≡ 0 → (new.write_faults ≡ mid.write_faults) × AreWritten x.cnf (clauses_text begun.problem found) x.lrat (refutation_text begun.problem found) new)
@@ -93,7 +93,7 @@ module _ (x : Exporting) (old mid new : FilesState) (got : Option (List ℕ)) (f
               λ _.
               record {
                 problem = begun.problem;
-                reads = read-alone (old.held x.file) begun.problem None (Some x.evidence) mid.unread is.reads;
+                reads = read-alone (old.held x.file) begun.problem None None (Some x.evidence) mid.unread is.reads;
                 complete = begun.complete;
                 records = begun.records;
                 shown = is.goes_on;
@@ -107,7 +107,7 @@ module _ (x : Exporting) (old mid new : FilesState) (got : Option (List ℕ)) (f
               };
           missing = λ eleven. absurd (false≢true (subst (IsAmong (0 ∷ 7 ∷ [])) eleven among));
           judged =
-              unjudged x.file (Some x.evidence) old new Gets status (λ e. false≢true (subst (IsAmong (0 ∷ 7 ∷ [])) e among))
+              unjudged x.file None (Some x.evidence) old new Gets status (λ e. false≢true (subst (IsAmong (0 ∷ 7 ∷ [])) e among))
               (λ e. false≢true (subst (IsAmong (0 ∷ 7 ∷ [])) e among)) (λ e. false≢true (subst (IsAmong (0 ∷ 7 ∷ [])) e among));
           unopened =
               λ early. absurd (among-by (λ s. IsAmong (5 ∷ 6 ∷ 8 ∷ 9 ∷ 11 ∷ []) s → ⊥) (0 ∷ 7 ∷ []) status among (false≢true, (false≢true, tt)) early);
@@ -148,14 +148,14 @@ module _ (x : Exporting) (old mid new : FilesState) (got : Option (List ℕ)) (f
                   λ _.
                   record {
                     problem = begun.problem;
-                    reads = read-alone (old.held x.file) begun.problem None (Some x.evidence) mid.unread is.reads;
+                    reads = read-alone (old.held x.file) begun.problem None None (Some x.evidence) mid.unread is.reads;
                     complete = begun.complete;
                     records = begun.records;
                     shown = is.goes_on;
                     fewer = h.0;
                     line = h.1;
                   };
-              judged = unjudged x.file (Some x.evidence) old mid (λ told. line.items ≡ told) 11 (omega arith) (omega arith) (omega arith);
+              judged = unjudged x.file None (Some x.evidence) old mid (λ told. line.items ≡ told) 11 (omega arith) (omega arith) (omega arith);
               unopened = λ _. reads;
               silent = refl;
               untouched = refl;
@@ -163,7 +163,7 @@ module _ (x : Exporting) (old mid new : FilesState) (got : Option (List ℕ)) (f
               within =
                   λ none ok has.
                   absurd
-                  (let enough = has begun.problem begun.complete begun.records (read-alone (old.held x.file) begun.problem None (Some x.evidence) mid.unread is.reads) is.goes_on in
+                  (let enough = has begun.problem begun.complete begun.records (read-alone (old.held x.file) begun.problem None None (Some x.evidence) mid.unread is.reads) is.goes_on in
                   let fewer = h.0 in
                   omega arith);
             };

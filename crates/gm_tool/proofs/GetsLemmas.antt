@@ -41,9 +41,9 @@ module _ (Gets Has : List ℕ → Type 0) (f : (line : List ℕ) → Gets line �
   refusal : (held : Option (Option (List ℕ))) → IsRefusal held Gets → IsRefusal held Has
   refusal held h = record { offence = h.offence; first = h.first; line = f (refusal_line h.offence) h.line }
 
-  judged-gets : (file : List ℕ) (evidence : Option (List ℕ)) (old new : FilesState) (status : ℕ) → IsJudged file evidence old new Gets status
-      → IsJudged file evidence old new Has status
-  judged-gets file evidence old new status h = record {
+  judged-gets : (file : List ℕ) (focus evidence : Option (List ℕ)) (old new : FilesState) (status : ℕ) → IsJudged file focus evidence old new Gets status
+      → IsJudged file focus evidence old new Has status
+  judged-gets file focus evidence old new status h = record {
     refused = λ e. refusal (old.held file) (h.refused e);
     read_fault = h.read_fault;
     fault_line =
@@ -102,7 +102,7 @@ module _ (Gets Has : List ℕ → Type 0) (f : (line : List ℕ) → Gets line �
     statuses = h.statuses;
     listed = λ e. from-gets l old new finish (h.listed e);
     memory = λ e. elim (h.memory e) [ inl alone ↦ inl alone | inr listed ↦ inr (from-gets l old new finish listed) ];
-    judged = judged-gets l.file l.resume old.files new.files finish.status h.judged;
+    judged = judged-gets l.file l.focus l.resume old.files new.files finish.status h.judged;
     accepted = h.accepted;
   }
   done-gets (Some (checking c)) old new finish h = record {
@@ -120,7 +120,7 @@ module _ (Gets Has : List ℕ → Type 0) (f : (line : List ℕ) → Gets line �
           whole = k.whole;
           cut_off = λ seven. let cut = k.cut_off seven in (report-fault old new cut.0, cut.1);
         };
-    judged = judged-gets c.file (Some c.evidence) old.files new.files finish.status h.judged;
+    judged = judged-gets c.file c.focus (Some c.evidence) old.files new.files finish.status h.judged;
     accepted = h.accepted;
   }
   done-gets (Some (drilling d)) old new finish h = record {
@@ -172,7 +172,7 @@ module _ (Gets Has : List ℕ → Type 0) (f : (line : List ℕ) → Gets line �
           fewer = k.fewer;
           line = f (no_conflict_line x.number) k.line;
         };
-    judged = judged-gets x.file (Some x.evidence) old.files new.files finish.status h.judged;
+    judged = judged-gets x.file None (Some x.evidence) old.files new.files finish.status h.judged;
     unopened = h.unopened;
     silent = h.silent;
     untouched = h.untouched;

@@ -1,12 +1,14 @@
 -- What a command begins with, and what stops it before.
 use Rattle.std.proofs.Common.{◌≡◌, ◌≢◌, ℕ, Bool, List, [], ◌∷◌, Option, Some, None, inl, inr, refl, sym, ◌∙◌, ap, subst, arith}
+use Rattle.std.specs.Prelude.{Result, Ok, Err, IfOk, IfErr}
 use Rattle.std.proofs.lemmas.Bool.{false≢true}
 use Rattle.gm_base.specs.Problem.{Problem}
 use Rattle.gm_ports.specs.Faults.{Rose}
 use Rattle.gm_ports.specs.FilesState.{FilesState, ReadingLeaves}
-use Rattle.gcnf_text.specs.Grammar.{Reads}
 use Rattle.gcnf_text.specs.Read.{IsRefused}
 use Rattle.gcnf_text.specs.declared.offence.Offence.{Offence}
+use Rattle.gcnf_text.specs.declared.reader.Read.{Read}
+use Rattle.gcnf_text.specs.declared.reader.Read.TheVariants as read
 use Rattle.evidence_rec.specs.declared.record.Record.{Record}
 use Rattle.evidence_text.specs.declared.offence.Offence.{Offence as Refusal}
 use Rattle.gm_audit.specs.Refusals.{first_refusal}
@@ -15,7 +17,7 @@ use Rattle.gm_tool.specs.declared.enumeration.Bounds.{Bounds}
 use Rattle.gm_tool.specs.declared.ending.Ending.{Ending}
 use Rattle.gm_tool.specs.declared.ending.Ending.TheVariants.{Refused, ReadFault, EvidenceFault, EvidenceRefused, Memory}
 use Rattle.gm_tool.specs.Endings.{bare, error_line, evidence_fault_line, finish_of, line_of}
-use Rattle.gm_tool.specs.Input.{OfFile, IsReadAs, IsReadFor}
+use Rattle.gm_tool.specs.Input.{OfFile, ReadsIn, IsReadAs, IsReadFor, TellsInput}
 use Rattle.gm_tool.specs.Judging.{IsJudged, IsRefusal, IsEvidenceRefusal, IsEvidenceUnread}
 use Rattle.gm_tool.specs.Resuming.{AreGoodFirst, AreShown, GoesOnFrom}
 use Rattle.gm_tool.specs.Statuses.{IsAmong, IsToldByStatus}
@@ -37,37 +39,37 @@ file-by (Some None) P Q f h = h
 file-by (Some (Some text)) P Q f h = f text h
 
 -- what is left unread is told still where no other file was opened
-pub read-for : (held : Option (Option (List ℕ))) (p : Problem) (evidence resume : Option (List ℕ)) (mid new : FilesState)
-    → OfFile held (IsReadFor None resume p mid.unread) → (evidence ≡ None → new ≡ mid) → OfFile held (IsReadFor evidence resume p new.unread)
-read-for held p evidence resume mid new h same =
-    file-by held (IsReadFor None resume p mid.unread) (IsReadFor evidence resume p new.unread)
+pub read-for : (held : Option (Option (List ℕ))) (p : Problem) (focus evidence resume : Option (List ℕ)) (mid new : FilesState)
+    → OfFile held (IsReadFor focus None resume p mid.unread) → (evidence ≡ None → new ≡ mid) → OfFile held (IsReadFor focus evidence resume p new.unread)
+read-for held p focus evidence resume mid new h same =
+    file-by held (IsReadFor focus None resume p mid.unread) (IsReadFor focus evidence resume p new.unread)
     (λ text r. (r.0, λ none nowhere. ap (λ (f : FilesState). f.unread) (same none) ∙ r.1 refl nowhere)) h
 
-pub read-alone : (held : Option (Option (List ℕ))) (p : Problem) (evidence resume unread : Option (List ℕ)) → OfFile held (IsReadFor evidence resume p unread)
-    → OfFile held (λ text. Reads text p)
-read-alone held p evidence resume unread h = file-by held (IsReadFor evidence resume p unread) (λ text. Reads text p) (λ text r. r.0) h
+pub read-alone : (held : Option (Option (List ℕ))) (p : Problem) (focus evidence resume unread : Option (List ℕ)) → OfFile held (IsReadFor focus evidence resume p unread)
+    → OfFile held (λ text. ReadsIn focus text p)
+read-alone held p focus evidence resume unread h = file-by held (IsReadFor focus evidence resume p unread) (λ text. ReadsIn focus text p) (λ text r. r.0) h
 
 -- ---- the evidence that is named
 
-module _ (p : Problem) (evidence : Option (List ℕ)) (old new : FilesState) (file : List ℕ) where
+module _ (p : Problem) (focus evidence : Option (List ℕ)) (old new : FilesState) (file : List ℕ) where
   -- none is
-  pub begun-alone : (begun : Beginning) → begun.problem ≡ p → evidence ≡ None → begun.records ≡ [] → OfFile (old.held file) (IsReadAs p old.unread)
-      → IsBegun file evidence old old begun
+  pub begun-alone : (begun : Beginning) → begun.problem ≡ p → evidence ≡ None → begun.records ≡ [] → OfFile (old.held file) (IsReadAs focus p old.unread)
+      → IsBegun file focus evidence old old begun
   begun-alone begun same none empty reads = record {
     reads =
-        subst (λ q. OfFile (old.held file) (IsReadFor None evidence q old.unread)) (sym same)
-        (file-by (old.held file) (IsReadAs p old.unread) (IsReadFor None evidence p old.unread) (λ text r. (r.0, λ _ _. r.1)) reads);
+        subst (λ q. OfFile (old.held file) (IsReadFor focus None evidence q old.unread)) (sym same)
+        (file-by (old.held file) (IsReadAs focus p old.unread) (IsReadFor focus None evidence p old.unread) (λ text r. (r.0, λ _ _. r.1)) reads);
     goes_on = subst (λ e. GoesOnFrom begun.problem e old.held begun.complete begun.records) (sym none) empty;
     quiet = refl;
   }
 
   -- it shows these records
   pub begun-shown : (begun : Beginning) (name : List ℕ) → begun.problem ≡ p → evidence ≡ Some name → AreShown p (old.held name) begun.complete begun.records
-      → new.read_faults ≡ old.read_faults → OfFile (old.held file) (IsReadAs p old.unread) → IsBegun file evidence old new begun
+      → new.read_faults ≡ old.read_faults → OfFile (old.held file) (IsReadAs focus p old.unread) → IsBegun file focus evidence old new begun
   begun-shown begun name same named shows quiet reads = record {
     reads =
-        subst (λ q. OfFile (old.held file) (IsReadFor None evidence q new.unread)) (sym same)
-        (file-by (old.held file) (IsReadAs p old.unread) (IsReadFor None evidence p new.unread)
+        subst (λ q. OfFile (old.held file) (IsReadFor focus None evidence q new.unread)) (sym same)
+        (file-by (old.held file) (IsReadAs focus p old.unread) (IsReadFor focus None evidence p new.unread)
         (λ text r. (r.0, λ _ none. let never : Some name ≡ None = sym named ∙ none in cc)) reads);
     goes_on =
         subst (λ e. GoesOnFrom begun.problem e old.held begun.complete begun.records) (sym named)
@@ -77,14 +79,14 @@ module _ (p : Problem) (evidence : Option (List ℕ)) (old new : FilesState) (fi
 
   -- it is refused, unless memory is wanting for the line
   pub stops-refused : (name : List ℕ) (refusal : Refusal) (e : Ending) → evidence ≡ Some name → OfFile (old.held name) (λ text. first_refusal p text ≡ Some refusal)
-      → new.read_faults ≡ old.read_faults → RefusesEvidence refusal e → OfFile (old.held file) (IsReadAs p old.unread) → Stops file evidence old new e
+      → new.read_faults ≡ old.read_faults → RefusesEvidence refusal e → OfFile (old.held file) (IsReadAs focus p old.unread) → Stops file focus evidence old new e
   stops-refused name refusal (EvidenceRefused line) named first quiet told reads = (
     quiet,
     record {
       name = name;
       named = named;
       problem = p;
-      reads = file-by (old.held file) (IsReadAs p old.unread) (λ text. Reads text p) (λ text r. r.0) reads;
+      reads = file-by (old.held file) (IsReadAs focus p old.unread) (λ text. ReadsIn focus text p) (λ text r. r.0) reads;
       refusal = refusal;
       first = first;
       line = told;
@@ -94,68 +96,83 @@ module _ (p : Problem) (evidence : Option (List ℕ)) (old new : FilesState) (fi
   stops-refused name refusal _ named first quiet told reads = absurd told
 
   -- it could not be read
-  pub stops-unread : (name : List ℕ) → evidence ≡ Some name → Rose old.read_faults new.read_faults → OfFile (old.held file) (IsReadAs p old.unread)
-      → Stops file evidence old new EvidenceFault
+  pub stops-unread : (name : List ℕ) → evidence ≡ Some name → Rose old.read_faults new.read_faults → OfFile (old.held file) (IsReadAs focus p old.unread)
+      → Stops file focus evidence old new EvidenceFault
   stops-unread name named rose reads = (
     rose,
     record {
       named = λ none. let never : Some name ≡ None = sym named ∙ none in cc;
       problem = p;
-      reads = file-by (old.held file) (IsReadAs p old.unread) (λ text. Reads text p) (λ text r. r.0) reads;
+      reads = file-by (old.held file) (IsReadAs focus p old.unread) (λ text. ReadsIn focus text p) (λ text r. r.0) reads;
       line = refl;
     },
   )
 
 -- ---- behind the file that is read
 
-module _ (file : List ℕ) (evidence : Option (List ℕ)) (old mid new : FilesState) (leaves : ReadingLeaves old mid) (quiet : mid.read_faults ≡ old.read_faults) where
-  pub begun-behind : (begun : Beginning) → IsBegun file evidence mid new begun → IsBegun file evidence old new begun
+module _ (file : List ℕ) (focus evidence : Option (List ℕ)) (old mid new : FilesState) (leaves : ReadingLeaves old mid) (quiet : mid.read_faults ≡ old.read_faults) where
+  pub begun-behind : (begun : Beginning) → IsBegun file focus evidence mid new begun → IsBegun file focus evidence old new begun
   begun-behind begun h = record {
-    reads = subst (λ held. OfFile (held file) (IsReadFor None evidence begun.problem new.unread)) leaves.names h.reads;
+    reads = subst (λ held. OfFile (held file) (IsReadFor focus None evidence begun.problem new.unread)) leaves.names h.reads;
     goes_on = subst (λ held. GoesOnFrom begun.problem evidence held begun.complete begun.records) leaves.names h.goes_on;
     quiet = h.quiet ∙ quiet;
   }
 
-  pub stops-behind : (e : Ending) → Stops file evidence mid new e → Stops file evidence old new e
+  pub stops-behind : (e : Ending) → Stops file focus evidence mid new e → Stops file focus evidence old new e
   stops-behind (Refused line) h = (h.0 ∙ quiet, subst (λ held. IsRefusal (held file) (λ told. line.items ≡ told)) leaves.names h.1)
   stops-behind ReadFault h = subst (λ n. Rose n new.read_faults) quiet h
   stops-behind EvidenceFault h = (
     subst (λ n. Rose n new.read_faults) quiet h.0,
-    subst (λ held. IsEvidenceUnread held file evidence (λ told. evidence_fault_line ≡ told)) leaves.names h.1,
+    subst (λ held. IsEvidenceUnread held file focus evidence (λ told. evidence_fault_line ≡ told)) leaves.names h.1,
   )
   stops-behind (EvidenceRefused line) h =
-      (h.0 ∙ quiet, subst (λ held. IsEvidenceRefusal held file evidence (λ told. line.items ≡ told)) leaves.names h.1)
+      (h.0 ∙ quiet, subst (λ held. IsEvidenceRefusal held file focus evidence (λ told. line.items ≡ told)) leaves.names h.1)
   stops-behind Memory h = h ∙ quiet
   stops-behind _ h = absurd h
 
+  pub begun-result : (r : Result Beginning Ending) → IfOk r (IsBegun file focus evidence mid new) → IfOk r (IsBegun file focus evidence old new)
+  begun-result (Ok begun) h = begun-behind begun h
+  begun-result (Err e) h = tt
+
+  pub stops-result : (r : Result Beginning Ending) → IfErr r (Stops file focus evidence mid new) → IfErr r (Stops file focus evidence old new)
+  stops-result (Ok begun) h = tt
+  stops-result (Err e) h = stops-behind e h
+
+  -- what was read of the file is told of it still
+  pub reads-behind : (p : Problem) (r : Read) → r ≡ read.Problem p → OfFile (old.held file) (λ text. TellsInput focus text mid.unread r)
+      → OfFile (mid.held file) (IsReadAs focus p mid.unread)
+  reads-behind p r is told =
+      subst (λ held. OfFile (held file) (IsReadAs focus p mid.unread)) (sym leaves.names)
+      (subst (λ answer. OfFile (old.held file) (λ text. TellsInput focus text mid.unread answer)) is told)
+
 -- the file itself is refused, unless memory is wanting for the line
-pub stops-offence : (file : List ℕ) (evidence : Option (List ℕ)) (old new : FilesState) (offence : Offence) (e : Ending)
-    → OfFile (old.held file) (λ text. IsRefused text offence) → new.read_faults ≡ old.read_faults → Refuses offence e → Stops file evidence old new e
-stops-offence file evidence old new offence (Refused line) first quiet told = (quiet, record { offence = offence; first = first; line = told })
-stops-offence file evidence old new offence Memory first quiet told = quiet
-stops-offence file evidence old new offence _ first quiet told = absurd told
+pub stops-offence : (file : List ℕ) (focus evidence : Option (List ℕ)) (old new : FilesState) (offence : Offence) (e : Ending)
+    → OfFile (old.held file) (λ text. IsRefused text offence) → new.read_faults ≡ old.read_faults → Refuses offence e → Stops file focus evidence old new e
+stops-offence file focus evidence old new offence (Refused line) first quiet told = (quiet, record { offence = offence; first = first; line = told })
+stops-offence file focus evidence old new offence Memory first quiet told = quiet
+stops-offence file focus evidence old new offence _ first quiet told = absurd told
 
 -- ---- what stopped a command, said by its status
 
-pub record IsStopped (b : Bounds) (file : List ℕ) (evidence : Option (List ℕ)) (old new : FilesState) (e : Ending) : Type 0 where
+pub record IsStopped (b : Bounds) (file : List ℕ) (focus evidence : Option (List ℕ)) (old new : FilesState) (e : Ending) : Type 0 where
   pub statuses : IsAmong (5 ∷ 6 ∷ 8 ∷ 9 ∷ []) (finish_of e).status
   pub bare : finish_of e ≡ bare (finish_of e).status
   pub quiet : (finish_of e).status ≢ 6 → new.read_faults ≡ old.read_faults
   pub line : IsToldByStatus (finish_of e).status → line_of e ≡ error_line b (finish_of e).status
-  pub judged : IsJudged file evidence old new (λ told. line_of e ≡ told) (finish_of e).status
+  pub judged : IsJudged file focus evidence old new (λ told. line_of e ≡ told) (finish_of e).status
 
 -- none of the statuses that have a cause in what is read
-pub unjudged : (file : List ℕ) (evidence : Option (List ℕ)) (old new : FilesState) (Gets : List ℕ → Type 0) (status : ℕ)
-    → status ≢ 5 → status ≢ 6 → status ≢ 9 → IsJudged file evidence old new Gets status
-unjudged file evidence old new Gets status five six nine = record {
+pub unjudged : (file : List ℕ) (focus evidence : Option (List ℕ)) (old new : FilesState) (Gets : List ℕ → Type 0) (status : ℕ)
+    → status ≢ 5 → status ≢ 6 → status ≢ 9 → IsJudged file focus evidence old new Gets status
+unjudged file focus evidence old new Gets status five six nine = record {
   refused = λ e. absurd (five e);
   read_fault = λ e. absurd (six e);
   fault_line = λ e. absurd (six e);
   evidence_refused = λ e. absurd (nine e);
 }
 
-module _ (b : Bounds) (file : List ℕ) (evidence : Option (List ℕ)) (old new : FilesState) where
-  pub stopped : (e : Ending) → Stops file evidence old new e → IsStopped b file evidence old new e
+module _ (b : Bounds) (file : List ℕ) (focus evidence : Option (List ℕ)) (old new : FilesState) where
+  pub stopped : (e : Ending) → Stops file focus evidence old new e → IsStopped b file focus evidence old new e
   stopped (Refused line) h = record {
     statuses = refl;
     bare = refl;
@@ -189,6 +206,6 @@ module _ (b : Bounds) (file : List ℕ) (evidence : Option (List ℕ)) (old new 
     bare = refl;
     quiet = λ _. h;
     line = λ _. refl;
-    judged = unjudged file evidence old new (λ told. line_of Memory ≡ told) 8 (omega arith) (omega arith) (omega arith);
+    judged = unjudged file focus evidence old new (λ told. line_of Memory ≡ told) 8 (omega arith) (omega arith) (omega arith);
   }
   stopped _ h = absurd h

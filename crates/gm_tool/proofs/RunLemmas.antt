@@ -58,30 +58,30 @@ run-bare b outputs old new got faults Gets status silent leaves quiet line = rec
 }
 
 -- what stopped a command where it began
-pub run-stopped : (b : Bounds) (outputs : Outputs) (file : List ℕ) (named : Option (List ℕ)) (old new : FilesState) (got : Option (List ℕ)) (faults : ℕ) (e : Ending)
-    → IsStopped b file named old new e → ReadingLeaves old new
+pub run-stopped : (b : Bounds) (outputs : Outputs) (file : List ℕ) (focus named : Option (List ℕ)) (old new : FilesState) (got : Option (List ℕ)) (faults : ℕ) (e : Ending)
+    → IsStopped b file focus named old new e → ReadingLeaves old new
     → IsRun b outputs (outside old got faults) (outside new got faults) (λ told. line_of e ≡ told) (finish_of e)
-run-stopped b outputs file named old new got faults e h leaves =
+run-stopped b outputs file focus named old new got faults e h leaves =
     subst (IsRun b outputs (outside old got faults) (outside new got faults) (λ told. line_of e ≡ told)) (sym h.bare)
     (run-bare b outputs old new got faults (λ told. line_of e ≡ told) (finish_of e).status
     (among-by IsSilent (5 ∷ 6 ∷ 8 ∷ 9 ∷ []) (finish_of e).status h.statuses (refl, (refl, (refl, (refl, tt))))) leaves h.quiet h.line)
 
 -- of statuses that come where a command begins, an accepted file leaves 8 alone
-pub left-of : (file : List ℕ) (evidence : Option (List ℕ)) (old new : Outside) (Gets : List ℕ → Type 0) (status : ℕ) → IsAmong (5 ∷ 6 ∷ 8 ∷ 9 ∷ []) status
-    → IsJudged file evidence old.files new.files Gets status → NoneRose old new → AreAccepted old.files.held file evidence → status ≡ 8
-left-of file evidence old new Gets status among judged none accepted =
+pub left-of : (file : List ℕ) (focus evidence : Option (List ℕ)) (old new : Outside) (Gets : List ℕ → Type 0) (status : ℕ) → IsAmong (5 ∷ 6 ∷ 8 ∷ 9 ∷ []) status
+    → IsJudged file focus evidence old.files new.files Gets status → NoneRose old new → AreAccepted old.files.held file focus evidence → status ≡ 8
+left-of file focus evidence old new Gets status among judged none accepted =
     among-by (λ s. s ≢ 5 → s ≢ 6 → s ≢ 9 → s ≡ 8) (5 ∷ 6 ∷ 8 ∷ 9 ∷ []) status among
     ((λ five six nine. absurd (five refl)), ((λ five six nine. absurd (six refl)), ((λ five six nine. refl), ((λ five six nine. absurd (nine refl)), tt))))
-    (λ five. let h = judged.refused five in not_refused old.files.held file evidence h.offence accepted h.first) (λ six. none.0 (judged.read_fault six))
-    (λ nine. not_refused-evidence old.files.held file evidence Gets accepted (judged.evidence_refused nine))
+    (λ five. let h = judged.refused five in not_refused old.files.held file focus evidence h.offence accepted h.first) (λ six. none.0 (judged.read_fault six))
+    (λ nine. not_refused-evidence old.files.held file focus evidence Gets accepted (judged.evidence_refused nine))
 
-pub listing-stopped : (l : Listing) (old new : FilesState) (got : Option (List ℕ)) (faults : ℕ) (e : Ending) → Stops l.file l.resume old new e → ReadingLeaves old new
+pub listing-stopped : (l : Listing) (old new : FilesState) (got : Option (List ℕ)) (faults : ℕ) (e : Ending) → Stops l.file l.focus l.resume old new e → ReadingLeaves old new
     → EndsAs (Some (listing l)) (outside old got faults) (outside new got faults) e
 listing-stopped l old new got faults e stops leaves =
-    let h = stopped (bounds_for l) l.file l.resume old new e stops in
+    let h = stopped (bounds_for l) l.file l.focus l.resume old new e stops in
     let status = (finish_of e).status in
     record {
-      every = run-stopped (bounds_for l) (evidence_output l.evidence) l.file l.resume old new got faults e h leaves;
+      every = run-stopped (bounds_for l) (evidence_output l.evidence) l.file l.focus l.resume old new got faults e h leaves;
       done =
           record {
             statuses = among-by (IsAmong (0 ∷ 3 ∷ 4 ∷ 5 ∷ 6 ∷ 7 ∷ 8 ∷ 9 ∷ [])) (5 ∷ 6 ∷ 8 ∷ 9 ∷ []) status h.statuses (refl, (refl, (refl, (refl, tt))));
@@ -94,17 +94,17 @@ listing-stopped l old new got faults e stops leaves =
             accepted =
                 λ none ok.
                 subst (IsAmong (0 ∷ 3 ∷ 4 ∷ 8 ∷ []))
-                (sym (left-of l.file l.resume (outside old got faults) (outside new got faults) (λ told. line_of e ≡ told) status h.statuses h.judged none ok)) refl;
+                (sym (left-of l.file l.focus l.resume (outside old got faults) (outside new got faults) (λ told. line_of e ≡ told) status h.statuses h.judged none ok)) refl;
           };
     }
 
-pub checking-stopped : (c : Checking) (old new : FilesState) (got : Option (List ℕ)) (faults : ℕ) (e : Ending) → Stops c.file (Some c.evidence) old new e → ReadingLeaves old new
+pub checking-stopped : (c : Checking) (old new : FilesState) (got : Option (List ℕ)) (faults : ℕ) (e : Ending) → Stops c.file c.focus (Some c.evidence) old new e → ReadingLeaves old new
     → EndsAs (Some (checking c)) (outside old got faults) (outside new got faults) e
 checking-stopped c old new got faults e stops leaves =
-    let h = stopped no_bounds c.file (Some c.evidence) old new e stops in
+    let h = stopped no_bounds c.file c.focus (Some c.evidence) old new e stops in
     let status = (finish_of e).status in
     record {
-      every = run-stopped no_bounds no_outputs c.file (Some c.evidence) old new got faults e h leaves;
+      every = run-stopped no_bounds no_outputs c.file c.focus (Some c.evidence) old new got faults e h leaves;
       done =
           record {
             statuses = among-by (IsAmong (0 ∷ 5 ∷ 6 ∷ 7 ∷ 8 ∷ 9 ∷ [])) (5 ∷ 6 ∷ 8 ∷ 9 ∷ []) status h.statuses (refl, (refl, (refl, (refl, tt))));
@@ -117,7 +117,7 @@ checking-stopped c old new got faults e stops leaves =
             accepted =
                 λ none ok.
                 subst (IsAmong (0 ∷ 8 ∷ []))
-                (sym (left-of c.file (Some c.evidence) (outside old got faults) (outside new got faults) (λ told. line_of e ≡ told) status h.statuses h.judged none ok)) refl;
+                (sym (left-of c.file c.focus (Some c.evidence) (outside old got faults) (outside new got faults) (λ told. line_of e ≡ told) status h.statuses h.judged none ok)) refl;
           };
     }
 
@@ -128,7 +128,7 @@ listing-memory l old new Gets leaves = record {
   statuses = refl;
   listed = λ after. absurd (false≢true after);
   memory = λ _. inl (leaves, refl);
-  judged = unjudged l.file l.resume old.files new.files Gets 8 (omega arith) (omega arith) (omega arith);
+  judged = unjudged l.file l.focus l.resume old.files new.files Gets 8 (omega arith) (omega arith) (omega arith);
   accepted = λ _ _. refl;
 }
 
@@ -137,7 +137,7 @@ checking-memory c old new Gets = record {
   statuses = refl;
   nothing_listed = refl;
   checked = λ after. absurd (false≢true after);
-  judged = unjudged c.file (Some c.evidence) old.files new.files Gets 8 (omega arith) (omega arith) (omega arith);
+  judged = unjudged c.file c.focus (Some c.evidence) old.files new.files Gets 8 (omega arith) (omega arith) (omega arith);
   accepted = λ _ _. refl;
 }
 
@@ -157,7 +157,7 @@ exporting-memory x old new got faults Gets leaves = record {
   nothing_listed = refl;
   exported = λ after. absurd (false≢true after);
   missing = λ e. absurd (omega arith);
-  judged = unjudged x.file (Some x.evidence) old new Gets 8 (omega arith) (omega arith) (omega arith);
+  judged = unjudged x.file None (Some x.evidence) old new Gets 8 (omega arith) (omega arith) (omega arith);
   unopened = λ _. leaves;
   silent = refl;
   untouched = refl;
@@ -277,7 +277,7 @@ leaves-asked (Some output) old new h = record {
     same name is = cc
 
 module _ (l : Listing) (old : FilesState) (mid new : Outside) (begun : Beginning) (reads : ReadingLeaves old mid.files)
-    (is : IsBegun l.file l.resume old mid.files begun) where
+    (is : IsBegun l.file l.focus l.resume old mid.files begun) where
   run-listed : (Gets : List ℕ → Type 0) (finish : Finish)
       → IsAmong (0 ∷ 3 ∷ 4 ∷ 7 ∷ 8 ∷ []) finish.status → (l.evidence ≡ None → new.files ≡ mid.files)
       → IsRun (bounds_for l) (evidence_output l.evidence) (outside old mid.got mid.faults) new Gets finish
@@ -292,7 +292,7 @@ module _ (l : Listing) (old : FilesState) (mid new : Outside) (begun : Beginning
           listed = λ _. from;
           memory = λ _. inr from;
           judged =
-              unjudged l.file l.resume old new.files Gets finish.status
+              unjudged l.file l.focus l.resume old new.files Gets finish.status
               (λ e. false≢true (subst (IsAmong (0 ∷ 3 ∷ 4 ∷ 7 ∷ 8 ∷ [])) e among))
               (λ e. false≢true (subst (IsAmong (0 ∷ 3 ∷ 4 ∷ 7 ∷ 8 ∷ [])) e among))
               (λ e. false≢true (subst (IsAmong (0 ∷ 3 ∷ 4 ∷ 7 ∷ 8 ∷ [])) e among));
@@ -307,7 +307,7 @@ module _ (l : Listing) (old : FilesState) (mid new : Outside) (begun : Beginning
       from : IsListedFrom l (outside old mid.got mid.faults) new Gets finish
       from = record {
         problem = begun.problem;
-        reads = read-for (old.held l.file) begun.problem l.evidence l.resume mid.files new.files is.reads same;
+        reads = read-for (old.held l.file) begun.problem l.focus l.evidence l.resume mid.files new.files is.reads same;
         first = begun.records;
         complete = begun.complete;
         goes_on = is.goes_on;
@@ -408,7 +408,7 @@ module _ (l : Listing) (old : FilesState) (mid new : Outside) (begun : Beginning
 -- ---- a checking
 
 module _ (c : Checking) (old : FilesState) (mid new : Outside) (begun : Beginning) (reads : ReadingLeaves old mid.files)
-    (is : IsBegun c.file (Some c.evidence) old mid.files begun) (untouched : new.files ≡ mid.files) where
+    (is : IsBegun c.file c.focus (Some c.evidence) old mid.files begun) (untouched : new.files ≡ mid.files) where
   abbrev report : List ℕ
   report = shown_report begun.problem begun.complete begun.records
 
@@ -434,7 +434,7 @@ module _ (c : Checking) (old : FilesState) (mid new : Outside) (begun : Beginnin
               λ _.
               record {
                 problem = begun.problem;
-                reads = read-alone (old.held c.file) begun.problem None (Some c.evidence) mid.files.unread is.reads;
+                reads = read-alone (old.held c.file) begun.problem c.focus None (Some c.evidence) mid.files.unread is.reads;
                 complete = begun.complete;
                 records = begun.records;
                 shown = is.goes_on;
@@ -442,7 +442,7 @@ module _ (c : Checking) (old : FilesState) (mid new : Outside) (begun : Beginnin
                 cut_off = cut;
               };
           judged =
-              unjudged c.file (Some c.evidence) old new.files Gets status (λ e. false≢true (subst (IsAmong (0 ∷ 7 ∷ [])) e among))
+              unjudged c.file c.focus (Some c.evidence) old new.files Gets status (λ e. false≢true (subst (IsAmong (0 ∷ 7 ∷ [])) e among))
               (λ e. false≢true (subst (IsAmong (0 ∷ 7 ∷ [])) e among))
               (λ e. false≢true (subst (IsAmong (0 ∷ 7 ∷ [])) e among));
           accepted = λ none ok. subst (IsAmong (0 ∷ 8 ∷ [])) (sym (zero (λ seven. none.2 (cut seven).0.rose))) refl;

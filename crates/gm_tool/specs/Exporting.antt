@@ -1,5 +1,5 @@
 -- What an export tells: what each status says, its cause, and what has to come.
-use Rattle.std.specs.Prelude.{◌≡◌, ◌<◌, ◌≤◌, ◌+◌, ℕ, Bool, List, [], ◌∷◌, ◌++◌, length, Some}
+use Rattle.std.specs.Prelude.{◌≡◌, ◌<◌, ◌≤◌, ◌+◌, ℕ, Bool, List, [], ◌∷◌, ◌++◌, length, Some, None}
 use Rattle.std.specs.List.{filter}
 use Rattle.sat_base.specs.Members.{In}
 use Rattle.gm_base.specs.Problem.{Problem}
@@ -94,13 +94,13 @@ pub record IsExporting (x : Exporting) (old new : Outside) (Gets : List ℕ → 
   pub exported : IsAmong (0 ∷ 7 ∷ []) finish.status → IsExported x old new Gets finish.status
   pub missing : finish.status ≡ 11 → IsMissing x old Gets
   -- 5, 6 and 9 have their causes
-  pub judged : IsJudged x.file (Some x.evidence) old.files new.files Gets finish.status
+  pub judged : IsJudged x.file None (Some x.evidence) old.files new.files Gets finish.status
   -- with these no output was opened
   pub unopened : IsAmong (5 ∷ 6 ∷ 8 ∷ 9 ∷ 11 ∷ []) finish.status → ReadingLeaves old.files new.files
   -- the report's sink is not touched
   pub silent : new.got ≡ old.got
   pub untouched : new.faults ≡ old.faults
   -- where file and evidence are accepted, and no fault was met
-  pub accepted : NoneRose old new → AreAccepted old.files.held x.file (Some x.evidence) → IsAmong (0 ∷ 8 ∷ 11 ∷ []) finish.status
+  pub accepted : NoneRose old new → AreAccepted old.files.held x.file None (Some x.evidence) → IsAmong (0 ∷ 8 ∷ 11 ∷ []) finish.status
   -- and there is a conflict with the number
-  pub within : NoneRose old new → AreAccepted old.files.held x.file (Some x.evidence) → HasNumber x old → IsAmong (0 ∷ 8 ∷ []) finish.status
+  pub within : NoneRose old new → AreAccepted old.files.held x.file None (Some x.evidence) → HasNumber x old → IsAmong (0 ∷ 8 ∷ []) finish.status

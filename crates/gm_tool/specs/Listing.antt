@@ -52,10 +52,10 @@ pub record IsListed (p : Problem) (first : List Record) (b : Bounds) (asked : Op
   pub cut_off : finish.status ≡ 7 → IsReportCut p asked closing old new Gets ⊎ IsEvidenceCut p asked closing old new Gets
   pub memory : finish.status ≡ 8 → (asked ≢ None) × IsFront (evidence_of p closing) new.files
 
--- the file is a text of this problem, which was listed from the records that it goes on from
+-- the file is a text of this problem, narrowed where some groups are in focus, which was listed from the records that it goes on from
 pub record IsListedFrom (l : Listing) (old new : Outside) (Gets : List ℕ → Type 0) (finish : Finish) : Type 0 where
   pub problem : Problem
-  pub reads : OfFile (old.files.held l.file) (IsReadFor l.evidence l.resume problem new.files.unread)
+  pub reads : OfFile (old.files.held l.file) (IsReadFor l.focus l.evidence l.resume problem new.files.unread)
   pub first : List Record
   -- whether the evidence that it goes on from, if any, is complete
   pub complete : Bool
@@ -68,6 +68,6 @@ pub record IsListing (l : Listing) (old new : Outside) (Gets : List ℕ → Type
   -- memory was wanting before any output was opened, and nothing is told of an enumeration; or for the evidence
   pub memory : finish.status ≡ 8 → (ReadingLeaves old.files new.files × (finish ≡ bare 8)) ⊎ IsListedFrom l old new Gets finish
   -- 5, 6 and 9 have their causes
-  pub judged : IsJudged l.file l.resume old.files new.files Gets finish.status
+  pub judged : IsJudged l.file l.focus l.resume old.files new.files Gets finish.status
   -- where file and evidence are accepted, and no fault was met, no refusal and no fault is told
-  pub accepted : NoneRose old new → AreAccepted old.files.held l.file l.resume → IsAmong (0 ∷ 3 ∷ 4 ∷ 8 ∷ []) finish.status
+  pub accepted : NoneRose old new → AreAccepted old.files.held l.file l.focus l.resume → IsAmong (0 ∷ 3 ∷ 4 ∷ 8 ∷ []) finish.status

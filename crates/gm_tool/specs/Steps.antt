@@ -58,22 +58,22 @@ RefusesEvidence refusal (EvidenceRefused line) = line.items ≡ evidence_line re
 RefusesEvidence refusal Memory = Unit {0}
 RefusesEvidence refusal _ = ⊥
 
--- a command begins with a problem that the file is a text of, and with what the evidence, where some is named, shows of it
-pub record IsBegun (file : List ℕ) (evidence : Option (List ℕ)) (old new : FilesState) (begun : Beginning) : Type 0 where
-  pub reads : OfFile (old.held file) (IsReadFor None evidence begun.problem new.unread)
+-- a command begins with a problem that the file is a text of, narrowed where some groups are in focus, and with what the evidence, where some is named, shows of it
+pub record IsBegun (file : List ℕ) (focus evidence : Option (List ℕ)) (old new : FilesState) (begun : Beginning) : Type 0 where
+  pub reads : OfFile (old.held file) (IsReadFor focus None evidence begun.problem new.unread)
   pub goes_on : GoesOnFrom begun.problem evidence old.held begun.complete begun.records
   pub quiet : new.read_faults ≡ old.read_faults
 
 -- or it ends there
-abbrev pub Stops : List ℕ → Option (List ℕ) → FilesState → FilesState → Ending → Type 0
-Stops file evidence old new (Refused line) = (new.read_faults ≡ old.read_faults) × IsRefusal (old.held file) (λ told. line.items ≡ told)
-Stops file evidence old new ReadFault = Rose old.read_faults new.read_faults
-Stops file evidence old new EvidenceFault =
-    Rose old.read_faults new.read_faults × IsEvidenceUnread old.held file evidence (λ told. evidence_fault_line ≡ told)
-Stops file evidence old new (EvidenceRefused line) =
-    (new.read_faults ≡ old.read_faults) × IsEvidenceRefusal old.held file evidence (λ told. line.items ≡ told)
-Stops file evidence old new Memory = new.read_faults ≡ old.read_faults
-Stops file evidence old new _ = ⊥
+abbrev pub Stops : List ℕ → Option (List ℕ) → Option (List ℕ) → FilesState → FilesState → Ending → Type 0
+Stops file focus evidence old new (Refused line) = (new.read_faults ≡ old.read_faults) × IsRefusal (old.held file) (λ told. line.items ≡ told)
+Stops file focus evidence old new ReadFault = Rose old.read_faults new.read_faults
+Stops file focus evidence old new EvidenceFault =
+    Rose old.read_faults new.read_faults × IsEvidenceUnread old.held file focus evidence (λ told. evidence_fault_line ≡ told)
+Stops file focus evidence old new (EvidenceRefused line) =
+    (new.read_faults ≡ old.read_faults) × IsEvidenceRefusal old.held file focus evidence (λ told. line.items ≡ told)
+Stops file focus evidence old new Memory = new.read_faults ≡ old.read_faults
+Stops file focus evidence old new _ = ⊥
 
 -- ---- what is found
 

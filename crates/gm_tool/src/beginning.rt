@@ -1,6 +1,6 @@
 //! What a command over a named file begins with: the problem of the file, and what evidence about it shows, where some is
 //! named.
-ghost use Rattle.std.specs.Prelude.{◌≡◌, ℕ, List, IfOk, IfErr};
+ghost use Rattle.std.specs.Prelude.{ℕ, List, Option, IfOk, IfErr};
 ghost use Rattle.gm_ports.specs.FilesState.{ReadingLeaves};
 ghost use Rattle.gm_words.specs.Requests.{text_of};
 ghost use Rattle.gm_tool.specs.Input.{OfFile, IsReadAs};
@@ -13,12 +13,12 @@ use crate::refusal::{line_of_evidence, line_of_refusal};
 use evidence_rec::Records;
 use gcnf_text::{Offence, Read};
 use gm_audit::Audited;
-use gm_base::Problem;
+use gm_base::{GroupSet, Problem};
 use gm_ports::{Failed, Files};
 use lrat_check::Why;
 use std::alloc::{AllocError, Global};
 
-/// A problem, and the records that evidence shows of it; none where no evidence is named.
+/// A problem, narrowed where some groups are in focus, and the records that evidence shows of it; none where no evidence is named.
 #[derive(Drop)]
 pub struct Beginning {
     pub problem: Problem,
@@ -27,18 +27,20 @@ pub struct Beginning {
     pub records: Records,
 }
 
-/// Reads the file of this name, and judges the evidence that is named. Or ends with what stopped it.
+/// Reads the file of this name, narrows its problem to the groups in focus, where some are given, and judges the evidence that
+/// is named. Or ends with what stopped it.
 pub fn begin<F: Files>(
     alloc: Global,
     name: &str,
+    focus: Option<GroupSet>,
     evidence: Option<&str>,
     files: &mut F,
 ) -> Result<Beginning, Ending>
-    ensures begun { IfOk result (IsBegun name.now (text_of evidence.entry) (F.state files.old) (F.state files.new)) }
-    ensures stopped { IfErr result (Stops name.now (text_of evidence.entry) (F.state files.old) (F.state files.new)) }
+    ensures begun { IfOk result (IsBegun name.now focus (text_of evidence.entry) (F.state files.old) (F.state files.new)) }
+    ensures stopped { IfErr result (Stops name.now focus (text_of evidence.entry) (F.state files.old) (F.state files.new)) }
     ensures leaves { ReadingLeaves (F.state files.old) (F.state files.new) }
 {
-    match read_file(alloc, name, files) {
+    match read_file(alloc, name, focus, files) {
         Ok(Read::Problem(problem)) => judge_named(alloc, problem, evidence, files),
         Ok(Read::Refused(offence)) => Err(refuse(alloc, offence)),
         Ok(Read::Memory) => Err(Ending::Memory),
@@ -53,10 +55,10 @@ fn judge_named<F: Files>(
     evidence: Option<&str>,
     files: &mut F,
 ) -> Result<Beginning, Ending>
-    ensures begun { (file : List ℕ) → OfFile ((F.state files.old).held file) (IsReadAs problem (F.state files.old).unread) →
-        IfOk result (IsBegun file (text_of evidence.entry) (F.state files.old) (F.state files.new)) }
-    ensures stopped { (file : List ℕ) → OfFile ((F.state files.old).held file) (IsReadAs problem (F.state files.old).unread) →
-        IfErr result (Stops file (text_of evidence.entry) (F.state files.old) (F.state files.new)) }
+    ensures begun { (file : List ℕ) (focus : Option (List ℕ)) → OfFile ((F.state files.old).held file) (IsReadAs focus problem (F.state files.old).unread) →
+        IfOk result (IsBegun file focus (text_of evidence.entry) (F.state files.old) (F.state files.new)) }
+    ensures stopped { (file : List ℕ) (focus : Option (List ℕ)) → OfFile ((F.state files.old).held file) (IsReadAs focus problem (F.state files.old).unread) →
+        IfErr result (Stops file focus (text_of evidence.entry) (F.state files.old) (F.state files.new)) }
     ensures leaves { ReadingLeaves (F.state files.old) (F.state files.new) }
 {
     let Some(name) = evidence else {

@@ -27,7 +27,12 @@ pub fn check_file<F: Files, O: Sink>(
     ensures { EndsAs (Some (asked_by (Request.Check checking.entry))) (outside (F.state files.old) (O.got out.old) (O.faults out.old))
         (outside (F.state files.new) (O.got out.new) (O.faults out.new)) result }
 {
-    match begin(alloc, checking.file, Some(checking.evidence), files) {
+    let Checking {
+        file,
+        evidence,
+        focus,
+    } = checking;
+    match begin(alloc, file, focus, Some(evidence), files) {
         Ok(
             Beginning {
                 problem,

@@ -36,7 +36,7 @@ pub fn export_conflict<F: Files>(alloc: Global, exporting: Exporting<'_>, files:
     ensures { (got : Option (List ℕ)) (faults : ℕ) → EndsAs (Some (asked_by (Request.Export exporting.entry)))
         (outside (F.state files.old) got faults) (outside (F.state files.new) got faults) result }
 {
-    match begin(alloc, exporting.file, Some(exporting.evidence), files) {
+    match begin(alloc, exporting.file, None, Some(exporting.evidence), files) {
         Ok(
             Beginning {
                 problem,

@@ -8,7 +8,7 @@ ghost use Rattle.gm_tool.specs.Outside.{outside};
 ghost use Rattle.gm_tool.specs.Prepared.{IsPrepared};
 ghost use Rattle.gm_tool.specs.Resuming.{AreGoodFirst};
 ghost use Rattle.gm_tool.specs.Steps.{IsEvidenceFront, IsEvidenceWhole, Lists};
-ghost use Rattle.gm_tool.specs.Words.{EndsAs, bounds_of};
+ghost use Rattle.gm_tool.specs.Words.{EndsAs};
 ghost use Rattle.gm_tool.specs.Writing.{CutHasCause};
 
 use crate::beginning::{Beginning, begin};
@@ -40,32 +40,31 @@ pub fn list_file<F: Files, O: Sink, G: Gate, R: Threads + Wait + Sync>(
     ensures { EndsAs (Some (asked_by (Request.List listing.entry))) (outside (F.state files.old) (O.got out.old) (O.faults out.old))
         (outside (F.state files.new) (O.got out.new) (O.faults out.new)) result }
 {
-    match begin(alloc, listing.file, listing.resume, files) {
+    let Listing {
+        file,
+        jobs,
+        conflicts,
+        limit,
+        evidence,
+        resume,
+        focus,
+    } = listing;
+    let bounds = Bounds {
+        jobs,
+        conflicts,
+        limit,
+    };
+    match begin(alloc, file, focus, resume, files) {
         Ok(
             Beginning {
                 problem,
                 complete: _,
                 records,
             },
-        ) => {
-            let bounds = bounds_for(listing);
-            let evidence = listing.evidence;
-            list_problem(
-                rt, alloc, &problem, records, bounds, evidence, files, out, gate,
-            )
-        }
+        ) => list_problem(
+            rt, alloc, &problem, records, bounds, evidence, files, out, gate,
+        ),
         Err(ending) => ending,
-    }
-}
-
-/// The bounds of the listing.
-fn bounds_for(listing: Listing<'_>) -> Bounds
-    ensures { result ≡ bounds_of (Some (asked_by (Request.List listing.entry))) }
-{
-    Bounds {
-        jobs: listing.jobs,
-        conflicts: listing.conflicts,
-        limit: listing.limit,
     }
 }
 

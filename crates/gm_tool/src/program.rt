@@ -34,7 +34,8 @@ use std::thread::Threads;
 /// is complete. A listing may go on from such evidence: then its sets come first, `--limit` counts them, and the report with
 /// status 0 is the same. Status 0 of `drill` says that `out` got one line, with the numbers of groups, of all minimal conflicts and of
 /// all minimal corrections of the case. Status 0 of `export` says that file and evidence are accepted, and that two files got
-/// the clauses of the conflict with the number in the report's order, and a refutation of them.
+/// the clauses of the conflict with the number in the report's order, and a refutation of them. Where `list` or `check` is given
+/// groups in focus, the problem of all this is the file's without the clauses of other groups but the background's.
 pub fn run<R: Threads + Wait + Sync, F: Files, O: Sink, E: Sink, G: Gate>(
     rt: &R,
     alloc: Global,

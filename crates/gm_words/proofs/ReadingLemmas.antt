@@ -1,5 +1,5 @@
 -- What the words ask for, by what clap says of them.
-use Rattle.std.proofs.Common.{◌≡◌, ◌∙◌, ap, sym, refl, Bool, true, false, List, [], ◌∷◌, Option, None, Result, Ok, Err, inl, inr, rules}
+use Rattle.std.proofs.Common.{◌≡◌, ◌∙◌, ap, sym, subst, refl, ℕ, Bool, true, false, List, [], ◌∷◌, Option, Some, None, Result, Ok, Err, inl, inr, rules}
 use Rattle.std.specs.Prelude.{IfOk, option_map, option_and_then, if◌then◌else◌}
 use Rattle.std.specs.declared.alloc.AllocError.{AllocError}
 use Rattle.clap.specs.Values.{kind_of}
@@ -10,7 +10,7 @@ use Rattle.clap.specs.Faults.{fault_of, is_simple_and_free}
 use Rattle.clap.specs.declared.Error.{Error}
 use Rattle.clap.specs.declared.ArgMatches.{ArgMatches}
 use Rattle.clap.specs.declared.error.ErrorKind.TheVariants.{OutOfMemory}
-use Rattle.gm_words.specs.Reading.{asked_of, gmus_app, words_read}
+use Rattle.gm_words.specs.Reading.{asked_of, gmus_app, listing_with, words_read}
 use Rattle.gm_words.specs.Requests.{asked_by}
 use Rattle.gm_words.specs.declared.request.Request.{Request}
 
@@ -25,7 +25,7 @@ free : (a : App) → a ≡ gmus_app → is_simple_and_free a ≡ true
 free a is = ap is_simple_and_free is ∙ gmus_free
 
 -- where clap has read the words
-pub read_of_matches : (a : App) (words : List Text) (m : ArgMatches) (r : Option Request) → a ≡ gmus_app
+read_of_matches : (a : App) (words : List Text) (m : ArgMatches) (r : Option Request) → a ≡ gmus_app
     → (is_simple_and_free a ≡ true → fault_of a words ≡ []) → HasMatchesOf a words m
     → option_map asked_by r ≡ option_and_then (λ p. asked_of p.0 p.1) (subcommand_rows_of m)
     → option_map asked_by r ≡ words_read words
@@ -36,6 +36,14 @@ read_of_matches a words m r is kinds has read =
     read ∙ ap (option_and_then (λ p. asked_of p.0 p.1)) sub
     ∙ sym (ap (λ (ks : Kinds). if is_empty ks
     then option_and_then (λ p. asked_of p.0 p.1) (subcommand_of gmus_app words) else None) none)
+
+-- and a request is made of them, if there is memory
+pub read_of_request : (a : App) (words : List Text) (m : ArgMatches) (r : Result (Option Request) AllocError) → a ≡ gmus_app
+    → (is_simple_and_free a ≡ true → fault_of a words ≡ []) → HasMatchesOf a words m
+    → IfOk r (λ x. option_map asked_by x ≡ option_and_then (λ p. asked_of p.0 p.1) (subcommand_rows_of m))
+    → IfOk r (λ x. option_map asked_by x ≡ words_read words)
+read_of_request a words m (Ok x) is kinds has read = read_of_matches a words m x is kinds has read
+read_of_request a words m (Err _) is kinds has read = tt
 
 has_one : (ks : Kinds) (e : Error) → HasKind ks e → (kind_of e ≡ OutOfMemory → ⊥) → is_empty ks ≡ false
 has_one [] e (inl memory) other = absurd (other memory)
@@ -58,3 +66,16 @@ pub read_of_refusal : (a : App) (words : List Text) (e : Error) (r : Result (Opt
     → IfOk r (λ _. kind_of e ≡ OutOfMemory → ⊥) → IfOk r (λ x. option_map asked_by x ≡ words_read words)
 read_of_refusal a words e (Ok x) is kinds none other = ap (option_map asked_by) none ∙ read_of_error a words e is kinds other
 read_of_refusal a words e (Err _) is kinds none other = tt
+
+-- where the focus is no LIST
+pub listing_without : (file : Option Text) (jobs conflicts limit : Option ℕ) (evidence resume : Option Text) (focus : Option (Option (List ℕ))) → focus ≡ None
+    → None ≡ listing_with file jobs conflicts limit evidence resume focus
+listing_without file jobs conflicts limit evidence resume focus none =
+    subst (λ f. None ≡ listing_with file jobs conflicts limit evidence resume f) (sym none) (by file jobs conflicts limit)
+  where
+    by : (f : Option Text) (j c l : Option ℕ) → None ≡ listing_with f j c l evidence resume None
+    by None j c l = refl
+    by (Some f) None c l = refl
+    by (Some f) (Some j) None l = refl
+    by (Some f) (Some j) (Some c) None = refl
+    by (Some f) (Some j) (Some c) (Some l) = refl

@@ -1,7 +1,8 @@
 -- The words of the command line: the command as a value of clap's specification, and what it reads of any words.
 -- clap (docs.rs/clap): a subcommand's name comes first; an option stands before or after the other words, as
 -- `--name VALUE` or `--name=VALUE`, and at most once; `--` ends the options; `-` alone is a word.
-use Rattle.std.specs.Prelude.{◌-◌, ◌^◌, ℕ, List, Option, Some, None, codes, if◌then◌else◌, option_and_then, true}
+use Rattle.std.specs.Prelude.{◌-◌, ◌^◌, ◌==◌, ℕ, List, [], ◌∷◌, Option, Some, None, codes, if◌then◌else◌, option_and_then, option_map, true}
+use Rattle.std.specs.List.{slice_split}
 use Rattle.std.specs.Option.{option_map_or}
 use Rattle.std.specs.Str.{bytes_eq}
 use Rattle.std.specs.Str.Parse.{digits_value, without_leading_plus}
@@ -10,6 +11,7 @@ use Rattle.clap.specs.Simple.{App, new_app, new_rule, subcommand_of, with_rule, 
 use Rattle.clap.specs.Takes.{value_passes}
 use Rattle.clap.specs.Faults.{fault_of}
 use Rattle.clap.specs.declared.builder.value_parser.ValueParser.TheVariants.{Unsigned}
+use Rattle.gm_base.specs.Sets.{with_group}
 
 -- ---- the command
 
@@ -51,6 +53,10 @@ greatest_size = 1000
 abbrev pub greatest_number : ℕ
 greatest_number = 1000000000
 
+-- the greatest number of a group in focus
+abbrev pub greatest_group : ℕ
+greatest_group = 2 ^ 32 - 1
+
 -- `--jobs J`
 abbrev pub jobs_rule : Rule
 jobs_rule = number_rule (codes "jobs") 1 greatest_jobs
@@ -71,6 +77,14 @@ evidence_rule = text_rule (codes "evidence")
 abbrev pub resume_rule : Rule
 resume_rule = text_rule (codes "resume")
 
+-- `--focus LIST`, whose text is read below
+abbrev pub focus_rule : Rule
+focus_rule = text_rule (codes "focus")
+
+-- a number of a LIST
+abbrev pub group_rule : Rule
+group_rule = number_rule (codes "focus") 1 greatest_group
+
 -- `SEED`
 abbrev pub seed_rule : Rule
 seed_rule = placed_rule (codes "seed") 0 greatest_seed
@@ -88,14 +102,14 @@ abbrev pub numbered_list_app : App
 numbered_list_app = with_rule (with_rule (with_rule (with_rule (new_app (codes "list"))
     (place_rule (codes "file"))) jobs_rule) conflicts_rule) limit_rule
 
--- `list FILE [--jobs J] [--conflicts B] [--limit L] [--evidence FILE] [--resume FILE]`
+-- `list FILE [--jobs J] [--conflicts B] [--limit L] [--evidence FILE] [--resume FILE] [--focus LIST]`
 abbrev pub list_app : App
-list_app = with_rule (with_rule numbered_list_app evidence_rule) resume_rule
+list_app = with_rule (with_rule (with_rule numbered_list_app evidence_rule) resume_rule) focus_rule
 
--- `check FILE EVIDENCE`
+-- `check FILE EVIDENCE [--focus LIST]`
 abbrev pub check_app : App
-check_app = with_rule (with_rule (new_app (codes "check"))
-    (place_rule (codes "file"))) (place_rule (codes "evidence"))
+check_app = with_rule (with_rule (with_rule (new_app (codes "check"))
+    (place_rule (codes "file"))) (place_rule (codes "evidence"))) focus_rule
 
 -- `drill SEED SIZE [--jobs J]`
 abbrev pub drill_app : App
@@ -128,11 +142,14 @@ pub record Listing : Type 0 where
   pub limit : ℕ
   pub evidence : Option Text
   pub resume : Option Text
+  -- the groups in focus, ascending, where some are named
+  pub focus : Option (List ℕ)
 
 -- what `check` is asked for
 pub record Checking : Type 0 where
   pub file : Text
   pub evidence : Text
+  pub focus : Option (List ℕ)
 
 -- what `drill` is asked for
 pub record Drilling : Type 0 where
@@ -167,26 +184,49 @@ number_or other rule rows = option_map_or (number_by rule) (first_of rule.id row
 abbrev pub number_at : Rule → List Row → Option ℕ
 number_at rule rows = option_and_then (number_by rule) (first_of rule.id rows)
 
+-- a number before others, where all can be had
+abbrev pub in_front : Option ℕ → Option (List ℕ) → Option (List ℕ)
+in_front (Some number) (Some numbers) = Some (number ∷ numbers)
+in_front _ _ = None
+
+-- the numbers that these texts say, where each says one
+abbrev pub numbers_in : List Text → Option (List ℕ)
+numbers_in [] = Some []
+numbers_in (text ∷ texts) = in_front (number_by group_rule text) (numbers_in texts)
+
+-- the set of these numbers: ascending, each once
+abbrev pub set_of : List ℕ → List ℕ
+set_of [] = []
+set_of (number ∷ numbers) = with_group (set_of numbers) number
+
+-- the set that a LIST says: numbers with single commas between them, in any order, also more than once
+abbrev pub set_in : Text → Option (List ℕ)
+set_in text = option_map set_of (numbers_in (slice_split (λ letter. letter == 44) text))
+
+-- the groups in focus, which need not be named; none where the text is no LIST
+abbrev pub focus_in : List Row → Option (Option (List ℕ))
+focus_in rows = option_map_or (λ text. option_map Some (set_in text)) (first_of focus_rule.id rows) (Some None)
+
 -- a listing, where each of its parts can be had; evidence need not be named
-abbrev pub listing_with : Option Text → Option ℕ → Option ℕ → Option ℕ → Option Text → Option Text → Option Asked
-listing_with (Some file) (Some jobs) (Some conflicts) (Some limit) evidence resume =
-    Some (listing (record { file = file; jobs = jobs; conflicts = conflicts; limit = limit; evidence = evidence; resume = resume }))
-listing_with _ _ _ _ _ _ = None
+abbrev pub listing_with : Option Text → Option ℕ → Option ℕ → Option ℕ → Option Text → Option Text → Option (Option (List ℕ)) → Option Asked
+listing_with (Some file) (Some jobs) (Some conflicts) (Some limit) evidence resume (Some focus) =
+    Some (listing (record { file = file; jobs = jobs; conflicts = conflicts; limit = limit; evidence = evidence; resume = resume; focus = focus }))
+listing_with _ _ _ _ _ _ _ = None
 
 -- what the values of `list` ask for
 abbrev pub listing_of : List Row → Option Asked
 listing_of rows = listing_with (first_of (codes "file") rows) (number_or 1 jobs_rule rows)
     (number_or greatest_conflicts conflicts_rule rows) (number_or greatest_limit limit_rule rows)
-    (first_of (codes "evidence") rows) (first_of (codes "resume") rows)
+    (first_of (codes "evidence") rows) (first_of (codes "resume") rows) (focus_in rows)
 
--- a checking, where both names can be had
-abbrev pub checking_with : Option Text → Option Text → Option Asked
-checking_with (Some file) (Some evidence) = Some (checking (record { file = file; evidence = evidence }))
-checking_with _ _ = None
+-- a checking, where each of its parts can be had
+abbrev pub checking_with : Option Text → Option Text → Option (Option (List ℕ)) → Option Asked
+checking_with (Some file) (Some evidence) (Some focus) = Some (checking (record { file = file; evidence = evidence; focus = focus }))
+checking_with _ _ _ = None
 
 -- what the values of `check` ask for
 abbrev pub checking_of : List Row → Option Asked
-checking_of rows = checking_with (first_of (codes "file") rows) (first_of (codes "evidence") rows)
+checking_of rows = checking_with (first_of (codes "file") rows) (first_of (codes "evidence") rows) (focus_in rows)
 
 -- a drilling, where its three numbers can be had
 abbrev pub drilling_with : Option ℕ → Option ℕ → Option ℕ → Option Asked

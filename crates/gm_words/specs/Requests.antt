@@ -13,8 +13,8 @@ text_of = option_map (λ s. s.now)
 -- what the request asks for, in the words of the definition
 abbrev pub asked_by : Request → Asked
 asked_by (request.List l) =
-    listing (record { file = l.file.now; jobs = l.jobs; conflicts = l.conflicts; limit = l.limit; evidence = text_of l.evidence; resume = text_of l.resume })
-asked_by (request.Check c) = checking (record { file = c.file.now; evidence = c.evidence.now })
+    listing (record { file = l.file.now; jobs = l.jobs; conflicts = l.conflicts; limit = l.limit; evidence = text_of l.evidence; resume = text_of l.resume; focus = l.focus })
+asked_by (request.Check c) = checking (record { file = c.file.now; evidence = c.evidence.now; focus = c.focus })
 asked_by (request.Drill d) = drilling (record { seed = d.seed; size = d.size; jobs = d.jobs })
 asked_by (request.Export x) =
     exporting (record { file = x.file.now; evidence = x.evidence.now; number = x.number; cnf = x.cnf.now; lrat = x.lrat.now })

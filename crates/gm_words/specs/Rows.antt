@@ -1,5 +1,5 @@
 -- Worked rows: what command lines ask for, computed from the definition.
-use Rattle.std.specs.Prelude.{◌≡◌, ℕ, [], ◌∷◌, Option, Some, None, codes}
+use Rattle.std.specs.Prelude.{◌≡◌, ℕ, List, [], ◌∷◌, Option, Some, None, codes}
 use Rattle.std.proofs.Common.{refl}
 use Rattle.clap.proofs.OnLiterals.{clap_on_literals}
 use Rattle.clap.specs.Walk.{Text}
@@ -8,7 +8,7 @@ use Rattle.gm_words.specs.Reading.{Asked, Listing, greatest_conflicts, greatest_
 -- `list` of a file, with no option
 abbrev pub plain_listing : Text → Listing
 plain_listing file =
-    record { file = file; jobs = 1; conflicts = greatest_conflicts; limit = greatest_limit; evidence = None; resume = None }
+    record { file = file; jobs = 1; conflicts = greatest_conflicts; limit = greatest_limit; evidence = None; resume = None; focus = None }
 
 abbrev pub list_of : Text → Option Asked
 list_of file = Some (listing (plain_listing file))
@@ -90,9 +90,40 @@ pub read_resume :
 unfolding clap_on_literals
 read_resume = (refl, refl, refl, refl, refl, refl, refl, refl)
 
+-- groups in focus: in any order, also more than once, and read as other numbers are
+abbrev pub list_about : List ℕ → Option Asked
+list_about focus = Some (listing (record (plain_listing (codes "f")) { focus = Some focus }))
+
+pub read_focus :
+    (words_read (codes "list" ∷ codes "f" ∷ codes "--focus" ∷ codes "1,2" ∷ []) ≡ list_about (1 ∷ 2 ∷ []))
+    × (words_read (codes "list" ∷ codes "--focus=3,2,2" ∷ codes "f" ∷ []) ≡ list_about (2 ∷ 3 ∷ []))
+    × (words_read (codes "list" ∷ codes "f" ∷ codes "--focus" ∷ codes "+01" ∷ []) ≡ list_about (1 ∷ []))
+    × (words_read (codes "list" ∷ codes "f" ∷ codes "--focus" ∷ codes "4294967295,9" ∷ []) ≡ list_about (9 ∷ 4294967295 ∷ []))
+    × (words_read (codes "check" ∷ codes "f" ∷ codes "e" ∷ codes "--focus" ∷ codes "2,1,2" ∷ [])
+    ≡ Some (checking (record { file = codes "f"; evidence = codes "e"; focus = Some (1 ∷ 2 ∷ []) })))
+unfolding clap_on_literals
+read_focus = (refl, refl, refl, refl, refl)
+
+-- an empty piece, a blank, a number out of range or none, no value, and the option twice or where it does not belong
+pub refused_focus :
+    (words_read (codes "list" ∷ codes "f" ∷ codes "--focus" ∷ codes "1,,2" ∷ []) ≡ None)
+    × (words_read (codes "list" ∷ codes "f" ∷ codes "--focus" ∷ codes "1," ∷ []) ≡ None)
+    × (words_read (codes "list" ∷ codes "f" ∷ codes "--focus" ∷ codes ",1" ∷ []) ≡ None)
+    × (words_read (codes "list" ∷ codes "f" ∷ codes "--focus" ∷ [] ∷ []) ≡ None)
+    × (words_read (codes "list" ∷ codes "f" ∷ codes "--focus" ∷ codes "1, 2" ∷ []) ≡ None)
+    × (words_read (codes "list" ∷ codes "f" ∷ codes "--focus" ∷ codes "0" ∷ []) ≡ None)
+    × (words_read (codes "list" ∷ codes "f" ∷ codes "--focus" ∷ codes "4294967296" ∷ []) ≡ None)
+    × (words_read (codes "list" ∷ codes "f" ∷ codes "--focus" ∷ codes "x" ∷ []) ≡ None)
+    × (words_read (codes "list" ∷ codes "f" ∷ codes "--focus" ∷ []) ≡ None)
+    × (words_read (codes "list" ∷ codes "f" ∷ codes "--focus=1" ∷ codes "--focus=1" ∷ []) ≡ None)
+    × (words_read (codes "check" ∷ codes "f" ∷ codes "e" ∷ codes "--focus=" ∷ []) ≡ None)
+    × (words_read (codes "drill" ∷ codes "7" ∷ codes "12" ∷ codes "--focus" ∷ codes "1" ∷ []) ≡ None)
+unfolding clap_on_literals
+refused_focus = (refl, refl, refl, refl, refl, refl, refl, refl, refl, refl, refl, refl)
+
 -- `check` of two files, each under any name
 abbrev pub check_of : Text → Text → Option Asked
-check_of file evidence = Some (checking (record { file = file; evidence = evidence }))
+check_of file evidence = Some (checking (record { file = file; evidence = evidence; focus = None }))
 
 pub read_check :
     (words_read (codes "check" ∷ codes "f" ∷ codes "e" ∷ []) ≡ check_of (codes "f") (codes "e"))

@@ -1,7 +1,7 @@
 -- Wrong lines: clap itself finds a fault in each of them, computed from its specification.
 --
 -- The reading of the words is none also where clap finds no fault and yet a part of the request can't be had. Known are those of
--- an export alone whose two outputs have one name.
+-- an export whose two outputs have one name, and those with a focus that is no list of groups.
 -- What these lines and others are read as is tried by the script `words` of text_trials, which has the same lines.
 use Rattle.std.specs.Prelude.{◌≡◌, ◌++◌, ◌==◌, ℕ, List, [], ◌∷◌, codes, filter, if◌then◌else◌}
 use Rattle.std.proofs.Common.{refl}
@@ -109,6 +109,9 @@ pub unknown_options :
     codes "drill|7|12|--seed|7|" ∷
     codes "export|f|e|1|a|b|--jobs|2|" ∷
     codes "export|f|e|1|a|b|--number|1|" ∷
+    codes "export|f|e|1|a|b|--focus|1|" ∷
+    codes "drill|7|12|--focus|1|" ∷
+    codes "list|f|--focu|1|" ∷
     []) ≡ []
 unfolding clap_on_literals
 unknown_options = refl
@@ -190,6 +193,10 @@ pub missing_values :
     codes "list|f|--resume=a|--resume=a|" ∷
     codes "drill|7|12|--jobs|" ∷
     codes "drill|7|12|--jobs|2|--jobs|2|" ∷
+    codes "list|f|--focus|" ∷
+    codes "list|f|--focus|-1|" ∷
+    codes "list|f|--focus=1|--focus=1|" ∷
+    codes "check|f|e|--focus|1|2|" ∷
     []) ≡ []
 unfolding clap_on_literals
 missing_values = refl

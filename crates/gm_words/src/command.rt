@@ -27,12 +27,13 @@ fn gmus_top_command<'a>(alloc: Global) -> Command<'a>
         .subcommand_required(true)
 }
 
-/// `list FILE [--jobs J] [--conflicts B] [--limit L] [--evidence FILE] [--resume FILE]`
+/// `list FILE [--jobs J] [--conflicts B] [--limit L] [--evidence FILE] [--resume FILE] [--focus LIST]`
 fn list_command<'a>(alloc: Global) -> Result<Command<'a>, AllocError>
     ensures { IfOk result (IsLocal list_app) }
 {
     let command = with_text(numbered_list_command(alloc), alloc, "evidence");
-    with_text(command, alloc, "resume")
+    let command = with_text(command, alloc, "resume");
+    with_text(command, alloc, "focus")
 }
 
 /// `list FILE [--jobs J] [--conflicts B] [--limit L]`
@@ -45,12 +46,13 @@ fn numbered_list_command<'a>(alloc: Global) -> Result<Command<'a>, AllocError>
     with_number(command, alloc, LIMIT)
 }
 
-/// `check FILE EVIDENCE`
+/// `check FILE EVIDENCE [--focus LIST]`
 fn check_command<'a>(alloc: Global) -> Result<Command<'a>, AllocError>
     ensures { IfOk result (IsLocal check_app) }
 {
     let command = with_place(Ok(Command::new(alloc, "check")), alloc, "file");
-    with_place(command, alloc, "evidence")
+    let command = with_place(command, alloc, "evidence");
+    with_text(command, alloc, "focus")
 }
 
 /// `drill SEED SIZE [--jobs J]`

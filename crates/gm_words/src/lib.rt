@@ -19,6 +19,7 @@
 #![tactic(auto)]
 
 mod command;
+mod focus;
 mod options;
 mod read;
 mod request;

@@ -4,14 +4,16 @@ ghost use Rattle.clap.specs.Walk.{first_of, rows_of};
 ghost use Rattle.clap.specs.Words.{found_of, kind_of, subcommand_rows_of};
 ghost use Rattle.clap.specs.declared.error.ErrorKind.TheVariants.{OutOfMemory};
 ghost use Rattle.gm_words.specs.Options.{option_rule, word_rule};
-ghost use Rattle.gm_words.specs.Reading.{asked_of, checking_of, conflicts_rule, drilling_of, exporting_of, exporting_with, greatest_conflicts, greatest_limit, greatest_number, limit_rule, listing_of, listing_with, number_at, number_or, words_read};
+ghost use Rattle.gm_words.specs.Reading.{asked_of, checking_of, checking_with, conflicts_rule, drilling_of, exporting_of, exporting_with, focus_in, greatest_conflicts, greatest_limit, greatest_number, jobs_rule, limit_rule, listing_of, listing_with, number_at, number_or, words_read};
 ghost use Rattle.gm_words.specs.Requests.{AreGoodJobs, HasGoodValues, asked_by, text_of};
 
 use crate::command::gmus_command;
+use crate::focus::set_in;
 use crate::options::{CONFLICTS, JOBS, LIMIT, NUMBER, NumberOption, SEED, SIZE};
 use crate::request::{Checking, Drilling, Exporting, Listing, Request};
 use clap::error::ErrorKind;
 use clap::{ArgMatches, Error};
+use gm_base::GroupSet;
 use std::alloc::{AllocError, Global};
 
 /// Reads the words after the program's name. `None` is a wrong command line.
@@ -20,7 +22,7 @@ pub fn read_words<'a>(alloc: Global, words: &'a [String]) -> Result<Option<Reque
     ensures values { IfOk result (λ r. IfSome r HasGoodValues) }
 {
     match gmus_command(alloc)?.try_get_matches_from(words) {
-        Ok(matches) => Ok(request_of(&matches)),
+        Ok(matches) => request_of(alloc, &matches),
         Err(error) => refused(error),
     }
 }
@@ -38,49 +40,76 @@ fn refused<'a>(error: Error) -> Result<Option<Request<'a>>, AllocError>
 }
 
 /// What the matches of the whole command ask for.
-fn request_of<'a>(matches: &ArgMatches<'a>) -> Option<Request<'a>>
-    ensures asked { option_map asked_by result
-        ≡ option_and_then (λ p. asked_of p.0 p.1) (subcommand_rows_of matches.now) }
-    ensures values { IfSome result HasGoodValues }
+fn request_of<'a>(
+    alloc: Global,
+    matches: &ArgMatches<'a>,
+) -> Result<Option<Request<'a>>, AllocError>
+    ensures asked { IfOk result (λ r. option_map asked_by r
+        ≡ option_and_then (λ p. asked_of p.0 p.1) (subcommand_rows_of matches.now)) }
+    ensures values { IfOk result (λ r. IfSome r HasGoodValues) }
 {
-    let (name, inner) = matches.subcommand()?;
-    request_by(name, inner)
+    match matches.subcommand() {
+        Some((name, inner)) => request_by(alloc, name, inner),
+        None => Ok(None),
+    }
 }
 
 /// What the matches of the subcommand with this name ask for.
-fn request_by<'a>(name: &str, matches: &ArgMatches<'a>) -> Option<Request<'a>>
-    ensures asked { option_map asked_by result ≡ asked_of name.now (rows_of (found_of matches.now)) }
-    ensures values { IfSome result HasGoodValues }
+fn request_by<'a>(
+    alloc: Global,
+    name: &str,
+    matches: &ArgMatches<'a>,
+) -> Result<Option<Request<'a>>, AllocError>
+    ensures asked { IfOk result (λ r. option_map asked_by r ≡ asked_of name.now (rows_of (found_of matches.now))) }
+    ensures values { IfOk result (λ r. IfSome r HasGoodValues) }
 {
     if name == "list" {
-        listing(matches)
+        listing(alloc, matches)
     } else if name == "check" {
-        checking(matches)
+        checking(alloc, matches)
     } else if name == "drill" {
-        drilling(matches)
+        Ok(drilling(matches))
     } else if name == "export" {
-        exporting(matches)
+        Ok(exporting(matches))
     } else {
-        None
+        Ok(None)
     }
 }
 
 /// What the matches of `list` ask for.
-fn listing<'a>(matches: &ArgMatches<'a>) -> Option<Request<'a>>
-    ensures asked { option_map asked_by result ≡ listing_of (rows_of (found_of matches.now)) }
+fn listing<'a>(alloc: Global, matches: &ArgMatches<'a>) -> Result<Option<Request<'a>>, AllocError>
+    ensures asked { IfOk result (λ r. option_map asked_by r ≡ listing_of (rows_of (found_of matches.now))) }
+    ensures values { IfOk result (λ r. IfSome r HasGoodValues) }
+{
+    match focus_given(alloc, matches)? {
+        Some(focus) => Ok(listing_about(matches, focus)),
+        None => Ok(None),
+    }
+}
+
+/// What the matches of `list` ask for, with the groups in focus that are among them.
+fn listing_about<'a>(matches: &ArgMatches<'a>, focus: Option<GroupSet>) -> Option<Request<'a>>
+    ensures asked { let rows = rows_of (found_of matches.now) in option_map asked_by result
+        ≡ listing_with (first_of (codes "file") rows) (number_or 1 jobs_rule rows) (number_or greatest_conflicts conflicts_rule rows)
+        (number_or greatest_limit limit_rule rows) (first_of (codes "evidence") rows) (first_of (codes "resume") rows) (Some focus) }
     ensures values { IfSome result HasGoodValues }
 {
     let file = text_given(matches, "file")?;
     let jobs = number_or(matches, JOBS, JOBS.low)?;
-    listing_by(matches, file, jobs as u32)
+    listing_by(matches, file, jobs as u32, focus)
 }
 
-/// What the matches of `list` ask for, with the file and the workers that are among them.
-fn listing_by<'a>(matches: &ArgMatches<'a>, file: &'a str, jobs: u32) -> Option<Request<'a>>
+/// What the matches of `list` ask for, with the file, the workers and the groups in focus that are among them.
+fn listing_by<'a>(
+    matches: &ArgMatches<'a>,
+    file: &'a str,
+    jobs: u32,
+    focus: Option<GroupSet>,
+) -> Option<Request<'a>>
     requires { AreGoodJobs jobs }
     ensures asked { let rows = rows_of (found_of matches.now) in option_map asked_by result
         ≡ listing_with (Some file.now) (Some jobs) (number_or greatest_conflicts conflicts_rule rows)
-        (number_or greatest_limit limit_rule rows) (first_of (codes "evidence") rows) (first_of (codes "resume") rows) }
+        (number_or greatest_limit limit_rule rows) (first_of (codes "evidence") rows) (first_of (codes "resume") rows) (Some focus) }
     ensures values { IfSome result HasGoodValues }
 {
     let conflicts = number_or(matches, CONFLICTS, CONFLICTS.high)?;
@@ -94,17 +123,50 @@ fn listing_by<'a>(matches: &ArgMatches<'a>, file: &'a str, jobs: u32) -> Option<
         limit,
         evidence,
         resume,
+        focus,
     }))
 }
 
 /// What the matches of `check` ask for.
-fn checking<'a>(matches: &ArgMatches<'a>) -> Option<Request<'a>>
-    ensures asked { option_map asked_by result ≡ checking_of (rows_of (found_of matches.now)) }
+fn checking<'a>(alloc: Global, matches: &ArgMatches<'a>) -> Result<Option<Request<'a>>, AllocError>
+    ensures asked { IfOk result (λ r. option_map asked_by r ≡ checking_of (rows_of (found_of matches.now))) }
+    ensures values { IfOk result (λ r. IfSome r HasGoodValues) }
+{
+    match focus_given(alloc, matches)? {
+        Some(focus) => Ok(checking_about(matches, focus)),
+        None => Ok(None),
+    }
+}
+
+/// What the matches of `check` ask for, with the groups in focus that are among them.
+fn checking_about<'a>(matches: &ArgMatches<'a>, focus: Option<GroupSet>) -> Option<Request<'a>>
+    ensures asked { let rows = rows_of (found_of matches.now) in option_map asked_by result
+        ≡ checking_with (first_of (codes "file") rows) (first_of (codes "evidence") rows) (Some focus) }
     ensures values { IfSome result HasGoodValues }
 {
     let file = text_given(matches, "file")?;
     let evidence = text_given(matches, "evidence")?;
-    Some(Request::Check(Checking { file, evidence }))
+    Some(Request::Check(Checking {
+        file,
+        evidence,
+        focus,
+    }))
+}
+
+/// The groups in focus, if they are given. `None` is a text that is no LIST.
+fn focus_given(
+    alloc: Global,
+    matches: &ArgMatches<'_>,
+) -> Result<Option<Option<GroupSet>>, AllocError>
+    ensures { IfOk result (λ focus. focus ≡ focus_in (rows_of (found_of matches.now))) }
+{
+    let Some(text) = text_given(matches, "focus") else {
+        return Ok(Some(None));
+    };
+    match set_in(alloc, text)? {
+        Some(set) => Ok(Some(Some(set))),
+        None => Ok(None),
+    }
 }
 
 /// What the matches of `drill` ask for.

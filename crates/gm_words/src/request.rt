@@ -1,7 +1,8 @@
 //! What the words of a command line ask for.
+use gm_base::GroupSet;
 
 /// What `list` is asked for.
-#[derive(Clone, Copy)]
+#[derive(Drop)]
 pub struct Listing<'a> {
     /// The name of the input file.
     pub file: &'a str,
@@ -15,15 +16,19 @@ pub struct Listing<'a> {
     pub evidence: Option<&'a str>,
     /// The name of the evidence whose records come first, where it is given.
     pub resume: Option<&'a str>,
+    /// The groups in focus, where they are given. They may be above those of the file.
+    pub focus: Option<GroupSet>,
 }
 
 /// What `check` is asked for.
-#[derive(Clone, Copy)]
+#[derive(Drop)]
 pub struct Checking<'a> {
     /// The name of the input file.
     pub file: &'a str,
     /// The name of the file with the evidence.
     pub evidence: &'a str,
+    /// The groups in focus, where they are given. They may be above those of the file.
+    pub focus: Option<GroupSet>,
 }
 
 /// What `drill` is asked for.
@@ -53,11 +58,11 @@ pub struct Exporting<'a> {
 }
 
 /// What the words ask for.
-#[derive(Clone, Copy)]
+#[derive(Drop)]
 pub enum Request<'a> {
-    /// `list FILE [--jobs J] [--conflicts B] [--limit L] [--evidence FILE] [--resume FILE]`
+    /// `list FILE [--jobs J] [--conflicts B] [--limit L] [--evidence FILE] [--resume FILE] [--focus LIST]`
     List(Listing<'a>),
-    /// `check FILE EVIDENCE`
+    /// `check FILE EVIDENCE [--focus LIST]`
     Check(Checking<'a>),
     /// `drill SEED SIZE [--jobs J]`
     Drill(Drilling),

@@ -5,9 +5,10 @@
 //! = list "f" jobs 2 conflicts 18446744073709551615 limit 1000000000
 //! ```
 //!
-//! A listing is told with each of its numbers, and with `evidence` and `resume` where it has them, a checking as
-//! `check "f" "e"`, a drilling as `drill 7 12 jobs 1`, and an export as `export "f" "e" 1 "a" "b"`. A wrong command line is
+//! A listing is told with each of its numbers, and with `evidence`, `resume` and `focus 1 2` where it has them, a checking as
+//! `check "f" "e"` with the same focus, a drilling as `drill 7 12 jobs 1`, and an export as `export "f" "e" 1 "a" "b"`. A wrong command line is
 //! told as `wrong`.
+use gm_base::GroupSet;
 use gm_words::{Exporting, Listing, Request, read_words};
 use std::alloc::{AllocError, Global};
 use trial_script::{Player, Step};
@@ -46,7 +47,8 @@ fn show_request(alloc: Global, words: &[String], out: &mut String) -> Result<(),
         Some(Request::List(listing)) => show_listing(&listing, out),
         Some(Request::Check(checking)) => {
             let (file, evidence) = (checking.file, checking.evidence);
-            writeln!(out, "check \"{file}\" \"{evidence}\"")
+            write!(out, "check \"{file}\" \"{evidence}\"")?;
+            show_focus(checking.focus.as_ref(), out)
         }
         Some(Request::Drill(drilling)) => {
             let (seed, size, jobs) = (drilling.seed, drilling.size, drilling.jobs);
@@ -87,6 +89,18 @@ fn show_listing(listing: &Listing<'_>, out: &mut String) -> Result<(), AllocErro
     }
     if let Some(resume) = listing.resume {
         write!(out, " resume \"{resume}\"")?;
+    }
+    show_focus(listing.focus.as_ref(), out)
+}
+
+/// Tells the groups in focus, where some are given, and ends the line.
+fn show_focus(focus: Option<&GroupSet>, out: &mut String) -> Result<(), AllocError> {
+    let Some(groups) = focus else {
+        return out.push_str("\n");
+    };
+    out.push_str(" focus")?;
+    for group in groups.as_slice() {
+        write!(out, " {group}")?;
     }
     out.push_str("\n")
 }

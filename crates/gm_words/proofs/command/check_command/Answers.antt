@@ -4,4 +4,6 @@ use Rattle.gm_words.proofs.command.check_command.Goals as goal
 
 -- each step adds its rule
 pub returns : goal.returns
-returns c = c.with_place.ensures _ (c.with_place-command.ensures (new_app (codes "check")) (record { is = c.new.ensures.app; local = c.new.ensures.local }))
+returns c =
+    c.with_text.ensures _ (c.with_place-command-2.ensures _
+    (c.with_place-command.ensures (new_app (codes "check")) (record { is = c.new.ensures.app; local = c.new.ensures.local })))
