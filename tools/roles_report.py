@@ -14,8 +14,8 @@ VERSION = 1
 # Of each role: its heading, and what it means.
 SECTIONS = (
     ("every", "In every conflict", "Giving up any one of these alone mends all."),
-    ("some", "In some conflicts", "Each of these clashes with others, and no one of them alone mends all."),
-    ("none", "In no conflict", "None of these clashes with anything."),
+    ("some", "In some conflicts", "Each of these is part of a clash, and no one of them alone mends all."),
+    ("none", "In no conflict", "No clash needs any of these."),
 )
 
 

@@ -25,7 +25,7 @@ Giving up any one of these alone mends all.
 In some conflicts
 -----------------
 
-Each of these clashes with others, and no one of them alone mends all.
+Each of these is part of a clash, and no one of them alone mends all.
 
     2  group 2
     3  no fan
@@ -33,7 +33,7 @@ Each of these clashes with others, and no one of them alone mends all.
 In no conflict
 --------------
 
-None of these clashes with anything.
+No clash needs any of these.
 
     4  group 4
 """
@@ -51,7 +51,7 @@ class Roles(unittest.TestCase):
     def test_a_list_that_has_none_is_left_out(self):
         self.assertEqual(roles_report.as_text(roles("p roles 2\nr 1 none\nr 2 none\n", "p cnf 1 2\n")).split("\n")[3:], [
             "No rule is in a conflict: all rules fit together, unless the background clashes with itself.", "", "In no conflict",
-            "--------------", "", "None of these clashes with anything.", "", "    1  group 1", "    2  group 2", ""])
+            "--------------", "", "No clash needs any of these.", "", "    1  group 1", "    2  group 2", ""])
         self.assertEqual(roles_report.as_text(roles("p roles 0\n", "p gcnf 0 0 0\n")).count("\n"), 4)
 
     def test_as_json(self):
