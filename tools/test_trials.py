@@ -31,15 +31,18 @@ def tried():
 
 
 def whole_reports(text):
-    """The file `f` and the report that has to be printed, for each run that gives a report in which no set is missing."""
-    problem, printed = None, []
+    """The file `f`, the groups in focus or None, and the report that has to be printed, for each run that gives a report in
+    which no set is missing."""
+    problem, focus, printed = None, None, []
     for line, more, texts in trials.walk(text + "\nend"):
         if more and not line.startswith("== "):
             printed += more
         elif line and line[0] not in "#|":
             report = [text for text in printed if text.startswith("out")]
             if printed[:1] == ["status 0"] and "out s COMPLETE" in report and problem is not None:
-                yield problem, report
+                yield problem, focus, report
+            named = re.search(r" --focus[ =](\S+)", line)
+            focus = {int(number) for number in re.findall(r"\d+", named.group(1))} if named else None
             problem, printed = texts.files.get("f"), []
 
 
@@ -75,12 +78,17 @@ class Trials(unittest.TestCase):
             trials.wanted("== one\nhold f\nchange f 1 1\nrun list f\n=report f\n")
 
     def test_reports_that_people_wrote_are_those_of_brute_force(self):
-        compared = 0
-        for problem, report in whole_reports(trials.script_of("run_trials")):
+        compared = focused = 0
+        for problem, focus, report in whole_reports(trials.script_of("run_trials")):
             if is_small(problem):
-                self.assertEqual(report, trials.behind("out", trials.report_of(problem)), problem)
+                variables, groups, clauses = trials.brute_force.problem_of(problem.split("\n"))
+                kept = [clause for clause in clauses if focus is None or clause[0] in focus | {0}]
+                wanted = trials.brute_force.report(variables, groups, kept)
+                self.assertEqual(report, trials.behind("out", wanted), (problem, focus))
                 compared += 1
+                focused += focus is not None
         self.assertGreater(compared, 30)
+        self.assertGreater(focused, 7)
 
     def test_each_refusal_is_tried(self):
         for listed, names in zip(refusals(), tried()):
