@@ -13,8 +13,8 @@
 //! }
 //! ```
 //!
-//! Of those in memory, `MemFiles`, `MemSink` and `MemDisk` fail at the calls that they were told to fail at, `SureFiles`
-//! never, and `NoDisk` at each call.
+//! Of those in memory, `MemFiles`, `MemSink` and `MemDisk` fail at the calls that they were told to fail at, and
+//! `SureFiles` never. `NoDisk` is for what is run without a disk.
 //!
 //! Begin with `specs/FilesState.antt`, which says what a `Files` tells of itself, and go on with `files.rt`; for disks with
 //! `specs/DiskState.antt` and `disk.rt`.

@@ -4,7 +4,7 @@ ghost use Rattle.gm_ports.specs.Faults.{HasCause};
 
 use crate::{Disk, Failed};
 
-/// Each of its calls fails and is counted, and it tells nothing: for what is to be run without a disk.
+/// It tells nothing, and may fail at each call: for what is to be run without a disk.
 #[derive(Drop)]
 pub struct NoDisk {
     faults: u64,

@@ -33,15 +33,15 @@ use token_text::put_number;
 
 /// The refutation of an accepted conflict's clauses in LRAT, over the clauses that `cnf_of` writes. It takes memory for a
 /// number for each clause and step of the proof, for a mark for each literal, and a byte for each group.
-pub fn lrat_of(alloc: Global, problem: &Problem, record: &Record) -> Result<Vec<u8>, AllocError>
-    requires conflict { kind_of «record».now ≡ Conflict }
-    requires accepted { Accepts problem.now [] «record».now }
-    ensures text { IfOk result (λ text. text.items ≡ lrat_text problem.now (set_of «record».now) (proof_of «record».now)) }
-    ensures refutes { IsRefutation problem.now.vars (clauses_of problem.now (set_of «record».now)) (exported problem.now (set_of «record».now) (proof_of «record».now)) }
+pub fn lrat_of(alloc: Global, problem: &Problem, found: &Record) -> Result<Vec<u8>, AllocError>
+    requires conflict { kind_of found.now ≡ Conflict }
+    requires accepted { Accepts problem.now [] found.now }
+    ensures text { IfOk result (λ text. text.items ≡ lrat_text problem.now (set_of found.now) (proof_of found.now)) }
+    ensures refutes { IsRefutation problem.now.vars (clauses_of problem.now (set_of found.now)) (exported problem.now (set_of found.now) (proof_of found.now)) }
 {
     // The problem is well formed, as this call says.
     let _groups = problem.groups();
-    match record {
+    match found {
         Record::Conflict {
             set,
             proof,
