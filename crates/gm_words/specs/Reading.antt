@@ -121,6 +121,15 @@ export_app = with_rule (with_rule (with_rule (with_rule (with_rule (new_app (cod
     (place_rule (codes "file"))) (place_rule (codes "evidence"))) conflict_number_rule)
     (place_rule (codes "cnf"))) (place_rule (codes "lrat"))
 
+-- `roles FILE [--jobs J] [--focus LIST]`
+abbrev pub roles_app : App
+roles_app = with_rule (with_rule (with_rule (new_app (codes "roles")) (place_rule (codes "file"))) jobs_rule) focus_rule
+
+-- `carry OLD EVIDENCE NEW [--jobs J] [--evidence FILE]`; the evidence of OLD goes by the name `known`
+abbrev pub carry_app : App
+carry_app = with_rule (with_rule (with_rule (with_rule (with_rule (new_app (codes "carry"))
+    (place_rule (codes "old"))) (place_rule (codes "known"))) (place_rule (codes "new"))) jobs_rule) evidence_rule
+
 -- the command without its subcommands: the program's name is not among the words, and a subcommand is due
 abbrev pub gmus_top : App
 gmus_top = record (new_app (codes "gmus")) {
@@ -129,8 +138,8 @@ gmus_top = record (new_app (codes "gmus")) {
 
 -- the command
 abbrev pub gmus_app : App
-gmus_app = with_subcommand (with_subcommand (with_subcommand (with_subcommand gmus_top
-    list_app.top) check_app.top) drill_app.top) export_app.top
+gmus_app = with_subcommand (with_subcommand (with_subcommand (with_subcommand (with_subcommand (with_subcommand gmus_top
+    list_app.top) check_app.top) drill_app.top) export_app.top) roles_app.top) carry_app.top
 
 -- ---- what the words ask for
 
@@ -165,11 +174,28 @@ pub record Exporting : Type 0 where
   pub cnf : Text
   pub lrat : Text
 
+-- what `roles` is asked for
+pub record Asking : Type 0 where
+  pub file : Text
+  pub jobs : ℕ
+  pub focus : Option (List ℕ)
+
+-- what `carry` is asked for
+pub record Carrying : Type 0 where
+  pub old : Text
+  -- the evidence of the old file
+  pub known : Text
+  pub new : Text
+  pub jobs : ℕ
+  pub evidence : Option Text
+
 pub data Asked : Type 0 where
   listing : Listing → Asked
   checking : Checking → Asked
   drilling : Drilling → Asked
   exporting : Exporting → Asked
+  asking : Asking → Asked
+  carrying : Carrying → Asked
 
 -- the number that a text says, where the option takes the text
 abbrev pub number_by : Rule → Text → Option ℕ
@@ -248,12 +274,34 @@ abbrev pub exporting_of : List Row → Option Asked
 exporting_of rows = exporting_with (first_of (codes "file") rows) (first_of (codes "evidence") rows)
     (number_at conflict_number_rule rows) (first_of (codes "cnf") rows) (first_of (codes "lrat") rows)
 
+-- what `roles` is asked for, where each of its parts can be had
+abbrev pub asking_with : Option Text → Option ℕ → Option (Option (List ℕ)) → Option Asked
+asking_with (Some file) (Some jobs) (Some focus) = Some (asking (record { file = file; jobs = jobs; focus = focus }))
+asking_with _ _ _ = None
+
+-- what the values of `roles` ask for
+abbrev pub asking_of : List Row → Option Asked
+asking_of rows = asking_with (first_of (codes "file") rows) (number_or 1 jobs_rule rows) (focus_in rows)
+
+-- a carrying, where each of its parts can be had; evidence of the new file need not be named
+abbrev pub carrying_with : Option Text → Option Text → Option Text → Option ℕ → Option Text → Option Asked
+carrying_with (Some old) (Some known) (Some new) (Some jobs) evidence =
+    Some (carrying (record { old = old; known = known; new = new; jobs = jobs; evidence = evidence }))
+carrying_with _ _ _ _ _ = None
+
+-- what the values of `carry` ask for
+abbrev pub carrying_of : List Row → Option Asked
+carrying_of rows = carrying_with (first_of (codes "old") rows) (first_of (codes "known") rows) (first_of (codes "new") rows)
+    (number_or 1 jobs_rule rows) (first_of (codes "evidence") rows)
+
 -- what a subcommand's values ask for
 abbrev pub asked_of : Text → List Row → Option Asked
 asked_of name rows = if bytes_eq name (codes "list") then listing_of rows
     else (if bytes_eq name (codes "check") then checking_of rows
     else (if bytes_eq name (codes "drill") then drilling_of rows
-    else (if bytes_eq name (codes "export") then exporting_of rows else None)))
+    else (if bytes_eq name (codes "export") then exporting_of rows
+    else (if bytes_eq name (codes "roles") then asking_of rows
+    else (if bytes_eq name (codes "carry") then carrying_of rows else None)))))
 
 -- the subcommand and its values, by clap's reading; none where that refuses the words
 abbrev pub words_read : List Text → Option Asked

@@ -2,7 +2,7 @@
 use Rattle.std.specs.Prelude.{◌≢◌, ℕ, ◌<◌, ◌≤◌, Option, option_map}
 use Rattle.std.specs.Borrow.{Bor}
 use Rattle.clap.specs.Walk.{Text}
-use Rattle.gm_words.specs.Reading.{Asked, greatest_jobs, greatest_limit, greatest_number, greatest_size, listing, checking, drilling, exporting}
+use Rattle.gm_words.specs.Reading.{Asked, greatest_jobs, greatest_limit, greatest_number, greatest_size, listing, checking, drilling, exporting, asking, carrying}
 use Rattle.gm_words.specs.declared.request.Request.{Request}
 use Rattle.gm_words.specs.declared.request.Request.TheVariants as request
 
@@ -18,15 +18,20 @@ asked_by (request.Check c) = checking (record { file = c.file.now; evidence = c.
 asked_by (request.Drill d) = drilling (record { seed = d.seed; size = d.size; jobs = d.jobs })
 asked_by (request.Export x) =
     exporting (record { file = x.file.now; evidence = x.evidence.now; number = x.number; cnf = x.cnf.now; lrat = x.lrat.now })
+asked_by (request.Roles r) = asking (record { file = r.file.now; jobs = r.jobs; focus = r.focus })
+asked_by (request.Carry c) =
+    carrying (record { old = c.old.now; known = c.known.now; new = c.new.now; jobs = c.jobs; evidence = text_of c.evidence })
 
 -- the number of workers is not 0, and at most the greatest that is taken
 abbrev pub AreGoodJobs : ℕ → Type 0
 AreGoodJobs jobs = (0 < jobs) × (jobs ≤ greatest_jobs)
 
--- so are the workers of a listing and its limit, the workers of a drilling and its size, and the number of an export, which
--- writes to two names
+-- so are the workers of a listing and its limit, the workers of a drilling and its size, the number of an export, which
+-- writes to two names, and the workers of what asks for roles or carries
 abbrev pub HasGoodValues : Request → Type 0
 HasGoodValues (request.List l) = AreGoodJobs l.jobs × (0 < l.limit) × (l.limit ≤ greatest_limit)
 HasGoodValues (request.Check c) = Unit {0}
 HasGoodValues (request.Drill d) = AreGoodJobs d.jobs × (0 < d.size) × (d.size ≤ greatest_size)
 HasGoodValues (request.Export x) = (0 < x.number) × (x.number ≤ greatest_number) × (x.cnf.now ≢ x.lrat.now)
+HasGoodValues (request.Roles r) = AreGoodJobs r.jobs
+HasGoodValues (request.Carry c) = AreGoodJobs c.jobs

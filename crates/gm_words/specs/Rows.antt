@@ -3,7 +3,7 @@ use Rattle.std.specs.Prelude.{◌≡◌, ℕ, List, [], ◌∷◌, Option, Some,
 use Rattle.std.proofs.Common.{refl}
 use Rattle.clap.proofs.OnLiterals.{clap_on_literals}
 use Rattle.clap.specs.Walk.{Text}
-use Rattle.gm_words.specs.Reading.{Asked, Listing, greatest_conflicts, greatest_limit, greatest_number, greatest_seed, listing, checking, drilling, exporting, words_read}
+use Rattle.gm_words.specs.Reading.{Asked, Listing, greatest_conflicts, greatest_limit, greatest_number, greatest_seed, listing, checking, drilling, exporting, asking, carrying, words_read}
 
 -- `list` of a file, with no option
 abbrev pub plain_listing : Text → Listing
@@ -256,3 +256,51 @@ pub refused_export :
     × (words_read (codes "export" ∷ codes "f" ∷ codes "e" ∷ codes "1" ∷ codes "a" ∷ codes "b" ∷ codes "--jobs" ∷ codes "2" ∷ []) ≡ None)
 unfolding clap_on_literals
 refused_export = (refl, refl, refl, refl, refl, refl, refl, refl)
+
+-- `roles` of a file, by so many workers, about these groups
+abbrev pub roles_of : Text → ℕ → Option (List ℕ) → Option Asked
+roles_of file jobs focus = Some (asking (record { file = file; jobs = jobs; focus = focus }))
+
+pub read_roles :
+    (words_read (codes "roles" ∷ codes "f" ∷ []) ≡ roles_of (codes "f") 1 None)
+    × (words_read (codes "roles" ∷ codes "--jobs" ∷ codes "+04" ∷ codes "f" ∷ []) ≡ roles_of (codes "f") 4 None)
+    × (words_read (codes "roles" ∷ codes "f" ∷ codes "--focus=3,2,2" ∷ codes "--jobs=64" ∷ []) ≡ roles_of (codes "f") 64 (Some (2 ∷ 3 ∷ [])))
+    × (words_read (codes "roles" ∷ codes "--" ∷ codes "--focus" ∷ []) ≡ roles_of (codes "--focus") 1 None)
+unfolding clap_on_literals
+read_roles = (refl, refl, refl, refl)
+
+-- no name, two, a focus that is no LIST, workers out of range, and options of `list` that have no place here
+pub refused_roles :
+    (words_read (codes "roles" ∷ []) ≡ None)
+    × (words_read (codes "roles" ∷ codes "f" ∷ codes "g" ∷ []) ≡ None)
+    × (words_read (codes "roles" ∷ codes "f" ∷ codes "--focus" ∷ codes "0" ∷ []) ≡ None)
+    × (words_read (codes "roles" ∷ codes "f" ∷ codes "--jobs" ∷ codes "65" ∷ []) ≡ None)
+    × (words_read (codes "roles" ∷ codes "f" ∷ codes "--limit" ∷ codes "3" ∷ []) ≡ None)
+    × (words_read (codes "roles" ∷ codes "f" ∷ codes "--evidence" ∷ codes "e" ∷ []) ≡ None)
+unfolding clap_on_literals
+refused_roles = (refl, refl, refl, refl, refl, refl)
+
+-- `carry` of what is known of one file to another one, by so many workers, with evidence under a name
+abbrev pub carry_of : Text → Text → Text → ℕ → Option Text → Option Asked
+carry_of old known new jobs evidence =
+    Some (carrying (record { old = old; known = known; new = new; jobs = jobs; evidence = evidence }))
+
+pub read_carry :
+    (words_read (codes "carry" ∷ codes "f" ∷ codes "e" ∷ codes "g" ∷ []) ≡ carry_of (codes "f") (codes "e") (codes "g") 1 None)
+    × (words_read (codes "carry" ∷ codes "f" ∷ codes "--jobs" ∷ codes "4" ∷ codes "e" ∷ codes "f" ∷ codes "--evidence" ∷ codes "e" ∷ [])
+    ≡ carry_of (codes "f") (codes "e") (codes "f") 4 (Some (codes "e")))
+    × (words_read (codes "carry" ∷ codes "--evidence=" ∷ codes "--" ∷ codes "-" ∷ [] ∷ codes "--jobs" ∷ [])
+    ≡ carry_of (codes "-") [] (codes "--jobs") 1 (Some []))
+unfolding clap_on_literals
+read_carry = (refl, refl, refl)
+
+-- a name too few or too many, workers out of range, and options that have no place here
+pub refused_carry :
+    (words_read (codes "carry" ∷ codes "f" ∷ codes "e" ∷ []) ≡ None)
+    × (words_read (codes "carry" ∷ codes "f" ∷ codes "e" ∷ codes "g" ∷ codes "h" ∷ []) ≡ None)
+    × (words_read (codes "carry" ∷ codes "f" ∷ codes "e" ∷ codes "g" ∷ codes "--jobs" ∷ codes "0" ∷ []) ≡ None)
+    × (words_read (codes "carry" ∷ codes "f" ∷ codes "e" ∷ codes "g" ∷ codes "--focus" ∷ codes "1" ∷ []) ≡ None)
+    × (words_read (codes "carry" ∷ codes "f" ∷ codes "e" ∷ codes "g" ∷ codes "--resume" ∷ codes "e" ∷ []) ≡ None)
+    × (words_read (codes "carry" ∷ codes "f" ∷ codes "e" ∷ codes "g" ∷ codes "--evidence" ∷ codes "-x" ∷ []) ≡ None)
+unfolding clap_on_literals
+refused_carry = (refl, refl, refl, refl, refl, refl)

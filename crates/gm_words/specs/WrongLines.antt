@@ -74,6 +74,15 @@ pub no_request :
     codes "export|--help|" ∷
     codes "expor|f|e|1|a|b|" ∷
     codes "drill|--help|" ∷
+    codes "roles|" ∷
+    codes "roles|f|g|" ∷
+    codes "role|f|" ∷
+    codes "roles|--help|" ∷
+    codes "carry|" ∷
+    codes "carry|f|e|" ∷
+    codes "carry|f|e|g|h|" ∷
+    codes "carry|f|e|-g|" ∷
+    codes "carr|f|e|g|" ∷
     codes "--jobs|2|list|f|" ∷
     codes "f|list|" ∷
     codes "--limit|5|list|f|" ∷
@@ -112,6 +121,15 @@ pub unknown_options :
     codes "export|f|e|1|a|b|--focus|1|" ∷
     codes "drill|7|12|--focus|1|" ∷
     codes "list|f|--focu|1|" ∷
+    codes "roles|f|--limit|3|" ∷
+    codes "roles|f|--conflicts|1|" ∷
+    codes "roles|f|--evidence|e|" ∷
+    codes "roles|f|--resume|a|" ∷
+    codes "carry|f|e|g|--limit|5|" ∷
+    codes "carry|f|e|g|--conflicts|1|" ∷
+    codes "carry|f|e|g|--resume|e|" ∷
+    codes "carry|f|e|g|--focus|1|" ∷
+    codes "carry|f|e|g|--known|e|" ∷
     []) ≡ []
 unfolding clap_on_literals
 unknown_options = refl
@@ -163,6 +181,9 @@ pub wrong_values :
     codes "export|f|e||a|b|" ∷
     codes "export|f|e|x|a|b|" ∷
     codes "export|f|e|--|-1|a|b|" ∷
+    codes "roles|f|--jobs|0|" ∷
+    codes "roles|f|--jobs|65|" ∷
+    codes "carry|f|e|g|--jobs|65|" ∷
     []) ≡ []
 unfolding clap_on_literals
 wrong_values = refl
@@ -197,6 +218,11 @@ pub missing_values :
     codes "list|f|--focus|-1|" ∷
     codes "list|f|--focus=1|--focus=1|" ∷
     codes "check|f|e|--focus|1|2|" ∷
+    codes "roles|f|--focus|" ∷
+    codes "roles|f|--focus|1|--focus|1|" ∷
+    codes "carry|f|e|g|--evidence|" ∷
+    codes "carry|f|e|g|--evidence|-x|" ∷
+    codes "carry|f|e|g|--evidence=a|--evidence=a|" ∷
     []) ≡ []
 unfolding clap_on_literals
 missing_values = refl

@@ -2,7 +2,7 @@
 ghost use Rattle.std.specs.Prelude.{◌≡◌, IfOk};
 ghost use Rattle.clap.specs.Words.{App, app_of, with_rule, with_subcommand};
 ghost use Rattle.gm_words.specs.Options.{IsLocal, option_rule, word_rule};
-ghost use Rattle.gm_words.specs.Reading.{check_app, drill_app, export_app, gmus_app, gmus_top, list_app, numbered_list_app, place_rule, text_rule};
+ghost use Rattle.gm_words.specs.Reading.{carry_app, check_app, drill_app, export_app, gmus_app, gmus_top, list_app, numbered_list_app, place_rule, roles_app, text_rule};
 
 use crate::options::{CONFLICTS, JOBS, LIMIT, NUMBER, NumberOption, SEED, SIZE};
 use clap::{Arg, Command};
@@ -15,7 +15,9 @@ pub(crate) fn gmus_command<'a>(alloc: Global) -> Result<Command<'a>, AllocError>
     let command = with_subcommand(gmus_top_command(alloc), list_command(alloc))?;
     let command = with_subcommand(command, check_command(alloc))?;
     let command = with_subcommand(command, drill_command(alloc))?;
-    with_subcommand(command, export_command(alloc))
+    let command = with_subcommand(command, export_command(alloc))?;
+    let command = with_subcommand(command, roles_command(alloc))?;
+    with_subcommand(command, carry_command(alloc))
 }
 
 /// The command without its subcommands. The words do not begin with the program's name.
@@ -73,6 +75,26 @@ fn export_command<'a>(alloc: Global) -> Result<Command<'a>, AllocError>
     let command = with_word(command, alloc, NUMBER);
     let command = with_place(command, alloc, "cnf");
     with_place(command, alloc, "lrat")
+}
+
+/// `roles FILE [--jobs J] [--focus LIST]`
+fn roles_command<'a>(alloc: Global) -> Result<Command<'a>, AllocError>
+    ensures { IfOk result (IsLocal roles_app) }
+{
+    let command = with_place(Ok(Command::new(alloc, "roles")), alloc, "file");
+    let command = with_number(command, alloc, JOBS);
+    with_text(command, alloc, "focus")
+}
+
+/// `carry OLD EVIDENCE NEW [--jobs J] [--evidence FILE]`
+fn carry_command<'a>(alloc: Global) -> Result<Command<'a>, AllocError>
+    ensures { IfOk result (IsLocal carry_app) }
+{
+    let command = with_place(Ok(Command::new(alloc, "carry")), alloc, "old");
+    let command = with_place(command, alloc, "known");
+    let command = with_place(command, alloc, "new");
+    let command = with_number(command, alloc, JOBS);
+    with_text(command, alloc, "evidence")
 }
 
 /// With a subcommand, if there is one.

@@ -8,6 +8,8 @@
 //!     Some(Request::Check(checking)) => check(checking.file, checking.evidence),
 //!     Some(Request::Drill(drilling)) => drill(drilling.seed, drilling.size, drilling.jobs),
 //!     Some(Request::Export(exporting)) => export(exporting.file, exporting.evidence, exporting.number, ..),
+//!     Some(Request::Roles(asking)) => roles(asking.file, asking.jobs, asking.focus),
+//!     Some(Request::Carry(carrying)) => carry(carrying.old, carrying.known, carrying.new, ..),
 //!     None => usage(),
 //! }
 //! ```
@@ -25,4 +27,4 @@ mod read;
 mod request;
 
 pub use read::read_words;
-pub use request::{Checking, Drilling, Exporting, Listing, Request};
+pub use request::{Asking, Carrying, Checking, Drilling, Exporting, Listing, Request};

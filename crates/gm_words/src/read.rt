@@ -4,13 +4,13 @@ ghost use Rattle.clap.specs.Walk.{first_of, rows_of};
 ghost use Rattle.clap.specs.Words.{found_of, kind_of, subcommand_rows_of};
 ghost use Rattle.clap.specs.declared.error.ErrorKind.TheVariants.{OutOfMemory};
 ghost use Rattle.gm_words.specs.Options.{option_rule, word_rule};
-ghost use Rattle.gm_words.specs.Reading.{asked_of, checking_of, checking_with, conflicts_rule, drilling_of, exporting_of, exporting_with, focus_in, greatest_conflicts, greatest_limit, greatest_number, jobs_rule, limit_rule, listing_of, listing_with, number_at, number_or, words_read};
+ghost use Rattle.gm_words.specs.Reading.{asked_of, asking_of, asking_with, carrying_of, carrying_with, checking_of, checking_with, conflicts_rule, drilling_of, exporting_of, exporting_with, focus_in, greatest_conflicts, greatest_limit, greatest_number, jobs_rule, limit_rule, listing_of, listing_with, number_at, number_or, words_read};
 ghost use Rattle.gm_words.specs.Requests.{AreGoodJobs, HasGoodValues, asked_by, text_of};
 
 use crate::command::gmus_command;
 use crate::focus::set_in;
 use crate::options::{CONFLICTS, JOBS, LIMIT, NUMBER, NumberOption, SEED, SIZE};
-use crate::request::{Checking, Drilling, Exporting, Listing, Request};
+use crate::request::{Asking, Carrying, Checking, Drilling, Exporting, Listing, Request};
 use clap::error::ErrorKind;
 use clap::{ArgMatches, Error};
 use gm_base::GroupSet;
@@ -71,6 +71,10 @@ fn request_by<'a>(
         Ok(drilling(matches))
     } else if name == "export" {
         Ok(exporting(matches))
+    } else if name == "roles" {
+        asking(alloc, matches)
+    } else if name == "carry" {
+        Ok(carrying(matches))
     } else {
         Ok(None)
     }
@@ -218,6 +222,65 @@ fn exporting_to<'a>(
         number,
         cnf,
         lrat,
+    }))
+}
+
+/// What the matches of `roles` ask for.
+fn asking<'a>(alloc: Global, matches: &ArgMatches<'a>) -> Result<Option<Request<'a>>, AllocError>
+    ensures asked { IfOk result (λ r. option_map asked_by r ≡ asking_of (rows_of (found_of matches.now))) }
+    ensures values { IfOk result (λ r. IfSome r HasGoodValues) }
+{
+    match focus_given(alloc, matches)? {
+        Some(focus) => Ok(asking_about(matches, focus)),
+        None => Ok(None),
+    }
+}
+
+/// What the matches of `roles` ask for, with the groups in focus that are among them.
+fn asking_about<'a>(matches: &ArgMatches<'a>, focus: Option<GroupSet>) -> Option<Request<'a>>
+    ensures asked { let rows = rows_of (found_of matches.now) in option_map asked_by result
+        ≡ asking_with (first_of (codes "file") rows) (number_or 1 jobs_rule rows) (Some focus) }
+    ensures values { IfSome result HasGoodValues }
+{
+    let file = text_given(matches, "file")?;
+    let jobs = number_or(matches, JOBS, JOBS.low)?;
+    Some(Request::Roles(Asking {
+        file,
+        jobs: jobs as u32,
+        focus,
+    }))
+}
+
+/// What the matches of `carry` ask for.
+fn carrying<'a>(matches: &ArgMatches<'a>) -> Option<Request<'a>>
+    ensures asked { option_map asked_by result ≡ carrying_of (rows_of (found_of matches.now)) }
+    ensures values { IfSome result HasGoodValues }
+{
+    let old = text_given(matches, "old")?;
+    let known = text_given(matches, "known")?;
+    let new = text_given(matches, "new")?;
+    carrying_by(matches, old, known, new)
+}
+
+/// What the matches of `carry` ask for, with the names of what is read, that are among them.
+fn carrying_by<'a>(
+    matches: &ArgMatches<'a>,
+    old: &'a str,
+    known: &'a str,
+    new: &'a str,
+) -> Option<Request<'a>>
+    ensures asked { let rows = rows_of (found_of matches.now) in option_map asked_by result
+        ≡ carrying_with (Some old.now) (Some known.now) (Some new.now) (number_or 1 jobs_rule rows) (first_of (codes "evidence") rows) }
+    ensures values { IfSome result HasGoodValues }
+{
+    let jobs = number_or(matches, JOBS, JOBS.low)?;
+    let evidence = text_given(matches, "evidence");
+    Some(Request::Carry(Carrying {
+        old,
+        known,
+        new,
+        jobs: jobs as u32,
+        evidence,
     }))
 }
 

@@ -57,6 +57,32 @@ pub struct Exporting<'a> {
     pub lrat: &'a str,
 }
 
+/// What `roles` is asked for.
+#[derive(Drop)]
+pub struct Asking<'a> {
+    /// The name of the input file.
+    pub file: &'a str,
+    /// How many workers there are.
+    pub jobs: u32,
+    /// The groups in focus, where they are given. They may be above those of the file.
+    pub focus: Option<GroupSet>,
+}
+
+/// What `carry` is asked for.
+#[derive(Clone, Copy)]
+pub struct Carrying<'a> {
+    /// The name of the file that evidence is known of.
+    pub old: &'a str,
+    /// The name of that evidence.
+    pub known: &'a str,
+    /// The name of the file that is listed.
+    pub new: &'a str,
+    /// How many workers there are.
+    pub jobs: u32,
+    /// The name of the file that gets the evidence of the new file, where it is asked for.
+    pub evidence: Option<&'a str>,
+}
+
 /// What the words ask for.
 #[derive(Drop)]
 pub enum Request<'a> {
@@ -68,4 +94,8 @@ pub enum Request<'a> {
     Drill(Drilling),
     /// `export FILE EVIDENCE NUMBER CNF LRAT`
     Export(Exporting<'a>),
+    /// `roles FILE [--jobs J] [--focus LIST]`
+    Roles(Asking<'a>),
+    /// `carry OLD EVIDENCE NEW [--jobs J] [--evidence FILE]`
+    Carry(Carrying<'a>),
 }

@@ -6,10 +6,11 @@
 //! ```
 //!
 //! A listing is told with each of its numbers, and with `evidence`, `resume` and `focus 1 2` where it has them, a checking as
-//! `check "f" "e"` with the same focus, a drilling as `drill 7 12 jobs 1`, and an export as `export "f" "e" 1 "a" "b"`. A wrong command line is
-//! told as `wrong`.
+//! `check "f" "e"` with the same focus, a drilling as `drill 7 12 jobs 1`, and an export as `export "f" "e" 1 "a" "b"`. Who asks
+//! for roles is told as `roles "f" jobs 1` with a focus, and a carrying as `carry "f" "e" "g" jobs 1` with `evidence`. A wrong command
+//! line is told as `wrong`.
 use gm_base::GroupSet;
-use gm_words::{Exporting, Listing, Request, read_words};
+use gm_words::{Carrying, Exporting, Listing, Request, read_words};
 use std::alloc::{AllocError, Global};
 use trial_script::{Player, Step};
 
@@ -55,6 +56,12 @@ fn show_request(alloc: Global, words: &[String], out: &mut String) -> Result<(),
             writeln!(out, "drill {seed} {size} jobs {jobs}")
         }
         Some(Request::Export(exporting)) => show_exporting(&exporting, out),
+        Some(Request::Roles(asking)) => {
+            let (file, jobs) = (asking.file, asking.jobs);
+            write!(out, "roles \"{file}\" jobs {jobs}")?;
+            show_focus(asking.focus.as_ref(), out)
+        }
+        Some(Request::Carry(carrying)) => show_carrying(&carrying, out),
         None => out.push_str("wrong\n"),
     }
 }
@@ -75,6 +82,16 @@ fn show_exporting(exporting: &Exporting<'_>, out: &mut String) -> Result<(), All
         out,
         "export \"{file}\" \"{evidence}\" {number} \"{cnf}\" \"{lrat}\""
     )
+}
+
+fn show_carrying(carrying: &Carrying<'_>, out: &mut String) -> Result<(), AllocError> {
+    let (old, known, new) = (carrying.old, carrying.known, carrying.new);
+    let jobs = carrying.jobs;
+    write!(out, "carry \"{old}\" \"{known}\" \"{new}\" jobs {jobs}")?;
+    if let Some(evidence) = carrying.evidence {
+        write!(out, " evidence \"{evidence}\"")?;
+    }
+    out.push_str("\n")
 }
 
 fn show_listing(listing: &Listing<'_>, out: &mut String) -> Result<(), AllocError> {
