@@ -1,4 +1,5 @@
 pub mod Report
 pub mod Sorted
 pub mod Reports
+pub mod Roles
 pub mod Rows

@@ -1,11 +1,14 @@
 -- Worked reports, computed from the definitions. The wanted texts were worked out by hand.
-use Rattle.std.specs.Prelude.{◌≡◌, true, [], ◌∷◌, pos, negsuc, codes}
+use Rattle.std.specs.Prelude.{◌≡◌, true, [], ◌∷◌, pos, negsuc, codes, map}
 use Rattle.std.proofs.Common.{refl}
 use Rattle.std.specs.Fmt.{digits}
 use Rattle.gm_base.specs.Problem.{Problem}
 use Rattle.gm_base.specs.Minimal.{conflicts, corrections, is_conflict, is_correction, is_sat}
 use Rattle.gm_base.specs.Rows.{in_group, four_clauses}
+use Rattle.gm_base.specs.Roles.{role}
+use Rattle.gm_base.specs.Sets.{all_groups}
 use Rattle.report_text.specs.Report.{report_text}
+use Rattle.report_text.specs.Roles.{roles_text}
 
 -- x, not x, x implies y, not y
 pub four_clauses_report :
@@ -64,3 +67,18 @@ pub repeated_clause_report :
     ≡ codes "p gmus 3\ns COMPLETE\nu 1 3 0\nu 2 3 0\nm 1 2 0\nm 3 0\ne 2 2\n"
 unfolding digits report_text conflicts corrections is_conflict is_correction is_sat
 repeated_clause_report = refl
+
+-- the roles of the groups of the four clauses, of those and a group without clauses, and of no groups
+pub four_clauses_roles :
+    roles_text (map (role four_clauses) (all_groups 4)) ≡ codes "p roles 4\nr 1 every\nr 2 some\nr 3 some\nr 4 some\n"
+unfolding digits roles_text conflicts is_conflict is_sat
+four_clauses_roles = refl
+
+pub one_more_role :
+    roles_text (map (role four_clauses) (all_groups 5)) ≡ codes "p roles 5\nr 1 every\nr 2 some\nr 3 some\nr 4 some\nr 5 none\n"
+unfolding digits roles_text conflicts is_conflict is_sat
+one_more_role = refl
+
+pub no_roles : roles_text [] ≡ codes "p roles 0\n"
+unfolding digits roles_text
+no_roles = refl

@@ -12,11 +12,15 @@
 //! which says in which order the sets stand in it; `specs/Rows.antt` has worked reports. The sets are lent: only references
 //! are sorted, and [`in_order`] gives those alone.
 //!
+//! [`roles_text`] gives the text of the roles of groups, which `specs/Roles.antt` defines.
+//!
 //! Sets that were found twice are written twice, and nothing here says that they are conflicts or corrections.
 #![tactic(auto)]
 
 mod order;
+mod roles;
 mod text;
 
 pub use order::in_order;
+pub use roles::roles_text;
 pub use text::report;

@@ -11,7 +11,7 @@ use gm_base::{GroupSet, Sets};
 use std::alloc::{AllocError, Global};
 use token_text::put_number;
 
-fn push_text(out: &mut Vec<u8>, text: &str) -> Result<(), AllocError>
+pub fn push_text(out: &mut Vec<u8>, text: &str) -> Result<(), AllocError>
     ensures { OnOk result (out.new.items ≡ out.old.items ++ text.now) }
 {
     out.extend_from_slice(text.as_bytes())
