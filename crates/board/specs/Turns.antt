@@ -21,14 +21,14 @@ abbrev pub used_of : Op → ℕ
 used_of (op.Take used) = used
 used_of (op.Refill used asked) = used
 used_of (op.Post used finding) = used
-used_of (op.Retire used) = used
+used_of (op.Retire used why) = used
 
 -- what the core asks of the arguments
 abbrev pub AreArguments : Problem → Op → Type 0
 AreArguments p (op.Take used) = Unit {0}
 AreArguments p (op.Refill used asked) = IsSubset asked (all_groups p.groups)
 AreArguments p (op.Post used finding) = IsAcceptedAlone p finding
-AreArguments p (op.Retire used) = Unit {0}
+AreArguments p (op.Retire used why) = Unit {0}
 
 -- the worker may make the call: by the opening, its number, and its own entries
 abbrev pub MayApply : Opening → ℕ → Op → List Entry → Type 0
@@ -45,5 +45,5 @@ abbrev pub Tells : Op → Answer → Entry → Type 0
 Tells (op.Take used) (answer.Taken told) e = IsEntryOf call.Take used (take_reply told) e
 Tells (op.Refill used asked) (answer.Refilled told) e = IsEntryOf (call.Refill asked) used (refill_reply told) e
 Tells (op.Post used finding) (answer.Posted told) e = IsEntryOf (call.Post (kind_of finding) (set_of finding)) used (post_reply told) e
-Tells (op.Retire used) answer.Retired e = IsEntryOf call.Retire used reply.Retired e
+Tells (op.Retire used why) answer.Retired e = IsEntryOf (call.Retire why) used reply.Retired e
 Tells _ _ e = ⊥

@@ -18,7 +18,7 @@ use crate::book::{Answer, CoreBook, Op};
 use evidence_rec::{MapEngine, Record, Records};
 use gm_base::{GroupSet, Problem};
 use lrat_steps::Log;
-use map_core::{Closing, Entry, Goal, MapCore, Opening, Posted, Refilled, Taken};
+use map_core::{Closing, Entry, Goal, MapCore, Opening, Posted, Refilled, Retirement, Taken};
 use std::alloc::{AllocError, Global};
 use std::marker::Model;
 use std::sync::Wait;
@@ -91,12 +91,12 @@ impl<M: MapEngine> Board<M> {
     }
 
     /// The worker ends, and no other is given work. It takes no memory.
-    pub fn retire<R: Wait>(&self, rt: &R, seat: &mut Seat, used: u64)
+    pub fn retire<R: Wait>(&self, rt: &R, seat: &mut Seat, used: u64, why: Retirement)
         requires { MayCall self.now seat.old used }
-        ensures call { IsCall self.now.opening seat.old Retire used Retired seat.new }
+        ensures call { IsCall self.now.opening seat.old (Retire why) used Retired seat.new }
         ensures worker { worker_of seat.new.mine ≡ worker_after (worker_of seat.old.mine) used Retired }
     {
-        match self.lock.turn(rt, seat, Op::Retire(used)) {
+        match self.lock.turn(rt, seat, Op::Retire(used, why)) {
             Answer::Retired => {}
             _ => unreachable!(),
         }

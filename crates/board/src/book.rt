@@ -6,7 +6,7 @@ ghost use Rattle.board.specs.Turns.{MayApply, Tells};
 
 use evidence_rec::{MapEngine, Record};
 use gm_base::GroupSet;
-use map_core::{Entry, MapCore, Opening, Posted, Refilled, Taken};
+use map_core::{Entry, MapCore, Opening, Posted, Refilled, Retirement, Taken};
 use std::marker::Model;
 use turn_lock::Book;
 
@@ -16,7 +16,7 @@ pub enum Op {
     Take(u64),
     Refill(u64, GroupSet),
     Post(u64, Record),
-    Retire(u64),
+    Retire(u64, Retirement),
 }
 
 /// What the core answers.
@@ -85,8 +85,8 @@ impl<M: MapEngine> Book for CoreBook<M> {
             Op::Take(used) => Answer::Taken(self.core.take(who, used)),
             Op::Refill(used, asked) => Answer::Refilled(self.core.refill(who, used, asked)),
             Op::Post(used, finding) => Answer::Posted(self.core.post(who, used, finding)),
-            Op::Retire(used) => {
-                self.core.retire(who, used);
+            Op::Retire(used, why) => {
+                self.core.retire(who, used, why);
                 Answer::Retired
             }
         }

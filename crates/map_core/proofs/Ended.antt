@@ -18,7 +18,7 @@ use Rattle.map_core.specs.Core.{State, worker_at, is_told}
 use Rattle.map_core.specs.Own.{calls_of, worker_of}
 use Rattle.map_core.specs.Sound.{IsSound, IsUnmarked, purse_of, is_live}
 use Rattle.map_core.specs.Kept.{KeepsProof, StandsDry}
-use Rattle.map_core.specs.Closings.{verdict_by, HaveEnded, EndsDry, HoldsAll}
+use Rattle.map_core.specs.Closings.{verdict_by, is_cut_off, HaveEnded, EndsDry, HoldsAll}
 use Rattle.map_core.proofs.Explored.{exhausted_holds_all}
 
 no_purse : (ws : List Worker) → ((k : ℕ) → k < length ws → (worker_at ws k).purse ≡ 0) → sum_by purse_of ws ≡ 0
@@ -39,21 +39,22 @@ all_ended : (s : State) → IsSound s → HaveEnded s.opening s.history → (k :
 all_ended s ok over k seat = ap (λ (x : Worker). x.ended) (ok.own k seat) ∙ over.at k (subst (λ n. k < n) ok.count seat)
 
 -- the verdict is that the budget is spent only where nothing is marked
-unmarked : (s : State) → verdict_by s.exhausted s.settled s.stopped s.limited ≡ Budget → IsUnmarked s
+unmarked : (s : State) → verdict_by s.exhausted s.settled (is_cut_off s.history) s.stopped s.limited ≡ Budget → IsUnmarked s
 unmarked s h =
-    let marks = by s.exhausted s.settled s.stopped s.limited h in
+    let marks = by s.exhausted s.settled (is_cut_off s.history) s.stopped s.limited h in
     record { exhausted = marks.0; settled = marks.1; limited = marks.3; stopped = marks.2 }
   where
-    by : (a b c d : Bool) → verdict_by a b c d ≡ Budget → (a ≡ false) × (b ≡ false) × (c ≡ false) × (d ≡ false)
-    by true b c d h = absurd (cc)
-    by false true c d h = absurd (cc)
-    by false false true d h = absurd (cc)
-    by false false false true h = absurd (cc)
-    by false false false false h = (refl, refl, refl, refl)
+    by : (a b j c d : Bool) → verdict_by a b j c d ≡ Budget → (a ≡ false) × (b ≡ false) × (c ≡ false) × (d ≡ false)
+    by true b j c d h = absurd (cc)
+    by false true j c d h = absurd (cc)
+    by false false true c d h = absurd (cc)
+    by false false false true d h = absurd (cc)
+    by false false false false true h = absurd (cc)
+    by false false false false false h = (refl, refl, refl, refl)
 
 -- nothing is available, since no worker is left to use it, and no worker has a purse
 pub spent_all : (s : State) → IsSound s → HaveEnded s.opening s.history
-    → verdict_by s.exhausted s.settled s.stopped s.limited ≡ Budget
+    → verdict_by s.exhausted s.settled (is_cut_off s.history) s.stopped s.limited ≡ Budget
     → s.spent ≡ s.opening.budget
 spent_all s ok over h =
     let ends = all_ended s ok over in
@@ -88,7 +89,7 @@ has_entries s ok over none =
 
 -- the last entry's worker has ended by it, and it found the budget spent
 pub ends_dry : (s : State) → IsSound s → HaveEnded s.opening s.history
-    → verdict_by s.exhausted s.settled s.stopped s.limited ≡ Budget
+    → verdict_by s.exhausted s.settled (is_cut_off s.history) s.stopped s.limited ≡ Budget
     → (before : List Entry) × (e : Entry) × (s.history ≡ before ++ e ∷ []) × (e.reply ≡ Dry)
 ends_dry s ok over h =
     let (before, e, is) = last_of s.history (has_entries s ok over) in
@@ -101,55 +102,58 @@ ends_dry s ok over h =
 
 -- the same, with what the map's log says where that entry is a take's
 pub closing_dry : (s : State) (log : List LogStep) → IsSound s → HaveEnded s.opening s.history → StandsDry s.history log
-    → verdict_by s.exhausted s.settled s.stopped s.limited ≡ Budget → EndsDry s.history log
+    → verdict_by s.exhausted s.settled (is_cut_off s.history) s.stopped s.limited ≡ Budget → EndsDry s.history log
 closing_dry s log ok over stands h =
     let (before, e, is, dry) = ends_dry s ok over h in
     record { before = before; last = e; ends = is; dry = dry; undecided = λ take. stands before e is take dry }
 
-complete_by : (a b c d : Bool) → a ≡ true → verdict_by a b c d ≡ Complete
-complete_by true b c d h = refl
-complete_by false b c d h = absurd (false≢true h)
+complete_by : (a b j c d : Bool) → a ≡ true → verdict_by a b j c d ≡ Complete
+complete_by true b j c d h = refl
+complete_by false b j c d h = absurd (false≢true h)
 
-not_complete : (a b c d : Bool) → a ≡ false → verdict_by a b c d ≢ Complete
-not_complete true b c d h e = true≢false h
-not_complete false true c d h e = cc
-not_complete false false true d h e = cc
-not_complete false false false true h e = cc
-not_complete false false false false h e = cc
+not_complete : (a b j c d : Bool) → a ≡ false → verdict_by a b j c d ≢ Complete
+not_complete true b j c d h e = true≢false h
+not_complete false true j c d h e = cc
+not_complete false false true c d h e = cc
+not_complete false false false true d h e = cc
+not_complete false false false false true h e = cc
+not_complete false false false false false h e = cc
 
 -- a proof that is kept goes with the verdict Complete, and with no other
-pub closing_proof : (groups : ℕ) (found : List Found) (a b c d : Bool) (v : Verdict) (proof : Option Derivation)
-    → v ≡ verdict_by a b c d
+pub closing_proof : (groups : ℕ) (found : List Found) (a b j c d : Bool) (v : Verdict) (proof : Option Derivation)
+    → v ≡ verdict_by a b j c d
     → KeepsProof groups found a proof
     → MatchOption proof (v ≢ Complete) (λ x. (v ≡ Complete) × (shows_all_explored groups found x ≡ true))
-closing_proof groups found a b c d v None is h = λ e. not_complete a b c d h (sym is ∙ e)
-closing_proof groups found a b c d v (Some x) is h = (is ∙ complete_by a b c d h.0, h.1)
+closing_proof groups found a b j c d v None is h = λ e. not_complete a b j c d h (sym is ∙ e)
+closing_proof groups found a b j c d v (Some x) is h = (is ∙ complete_by a b j c d h.0, h.1)
 
 -- a complete enumeration holds all
-pub closing_all : (s : State) (v : Verdict) → IsSound s → v ≡ verdict_by s.exhausted s.settled s.stopped s.limited → v ≡ Complete
+pub closing_all : (s : State) (v : Verdict) → IsSound s → v ≡ verdict_by s.exhausted s.settled (is_cut_off s.history) s.stopped s.limited → v ≡ Complete
     → HoldsAll s.opening.problem s.records
 closing_all s v ok is complete =
-    let marked = exhausted_of s.exhausted s.settled s.stopped s.limited (sym is ∙ complete) in
+    let marked = exhausted_of s.exhausted s.settled (is_cut_off s.history) s.stopped s.limited (sym is ∙ complete) in
     record {
       conflicts = λ set is_set within. (exhausted_holds_all s set ok marked is_set within).0;
       corrections = λ set is_set within. (exhausted_holds_all s set ok marked is_set within).1;
     }
   where
-    exhausted_of : (a b c d : Bool) → verdict_by a b c d ≡ Complete → a ≡ true
-    exhausted_of true b c d e = refl
-    exhausted_of false true c d e = cc
-    exhausted_of false false true d e = cc
-    exhausted_of false false false true e = cc
-    exhausted_of false false false false e = cc
+    exhausted_of : (a b j c d : Bool) → verdict_by a b j c d ≡ Complete → a ≡ true
+    exhausted_of true b j c d e = refl
+    exhausted_of false true j c d e = cc
+    exhausted_of false false true c d e = cc
+    exhausted_of false false false true d e = cc
+    exhausted_of false false false false true e = cc
+    exhausted_of false false false false false e = cc
 
 -- where the verdict is that all is told, it is
-pub closing_told : (s : State) (v : Verdict) → IsSound s → v ≡ verdict_by s.exhausted s.settled s.stopped s.limited → v ≡ Settled
+pub closing_told : (s : State) (v : Verdict) → IsSound s → v ≡ verdict_by s.exhausted s.settled (is_cut_off s.history) s.stopped s.limited → v ≡ Settled
     → is_told s.opening.goal s.opening.problem.groups (founds s.records) ≡ true
-closing_told s v ok is told = ok.settled (settled_of s.exhausted s.settled s.stopped s.limited (sym is ∙ told))
+closing_told s v ok is told = ok.settled (settled_of s.exhausted s.settled (is_cut_off s.history) s.stopped s.limited (sym is ∙ told))
   where
-    settled_of : (a b c d : Bool) → verdict_by a b c d ≡ Settled → b ≡ true
-    settled_of true b c d e = absurd (cc)
-    settled_of false true c d e = refl
-    settled_of false false true d e = absurd (cc)
-    settled_of false false false true e = absurd (cc)
-    settled_of false false false false e = absurd (cc)
+    settled_of : (a b j c d : Bool) → verdict_by a b j c d ≡ Settled → b ≡ true
+    settled_of true b j c d e = absurd (cc)
+    settled_of false true j c d e = refl
+    settled_of false false true c d e = absurd (cc)
+    settled_of false false false true d e = absurd (cc)
+    settled_of false false false false true e = absurd (cc)
+    settled_of false false false false false e = absurd (cc)

@@ -80,7 +80,7 @@ not_new s t (Post kind groups) engine u records ok marked h =
     (alone-right s.opening.problem r ok.opening.problem of.accepted) in
     let same = ap (is_held s.records kind) (sym of.set_is) ∙ ap (λ k. is_held s.records k (set_of r)) (sym of.kind_is) in
     false≢true (sym h.1.0 ∙ same ∙ held)
-not_new s t Retire engine u records ok marked h = cc (h.1)
+not_new s t (Retire why) engine u records ok marked h = cc (h.1)
 
 -- where exhausted is marked, no post is New
 pub exhausted_ends_posts : (s t : State) (e : Entry) → IsSound s → s.exhausted ≡ true → CoreStep s e t → e.reply ≢ New
@@ -94,7 +94,7 @@ job_new s t Take None turn n seed u records h = absurd h.0
 job_new s t Take (Some k) turn n seed u records h = h.0.1.1.unexplored.unexplored
 job_new s t (Refill asked) engine turn n seed u records h = absurd h.1
 job_new s t (Post kind groups) engine turn n seed u records h = absurd h.1
-job_new s t Retire engine turn n seed u records h = cc (h.1)
+job_new s t (Retire why) engine turn n seed u records h = cc (h.1)
 
 -- no explored set is handed out
 pub jobs_are_new : (s t : State) (e : Entry) (turn n : ℕ) (seed : List ℕ) → CoreStep s e t → e.reply ≡ Job turn seed n
@@ -110,7 +110,7 @@ job_top s t Take None turn n seed u records h tops = absurd h.0
 job_top s t Take (Some k) turn n seed u records h tops = (h.0.1.1.unexplored, h.0.1.1.top tops)
 job_top s t (Refill asked) engine turn n seed u records h tops = absurd h.1
 job_top s t (Post kind groups) engine turn n seed u records h tops = absurd h.1
-job_top s t Retire engine turn n seed u records h tops = cc (h.1)
+job_top s t (Retire why) engine turn n seed u records h tops = cc (h.1)
 
 -- of an engine that gives tops alone, each set that is handed out is one
 pub jobs_are_tops : (s t : State) (e : Entry) (turn n : ℕ) (seed : List ℕ) → CoreStep s e t → e.reply ≡ Job turn seed n

@@ -95,7 +95,7 @@ abbrev pub is_take : Call → Bool
 is_take Take = true
 is_take (Refill asked) = false
 is_take (Post kind groups) = false
-is_take Retire = false
+is_take (Retire why) = false
 
 pub no_take : (c : Call) → is_take c ≡ false → c ≢ Take
 no_take c other is = false≢true (sym other ∙ ap is_take is)

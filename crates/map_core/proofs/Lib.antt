@@ -9,3 +9,4 @@ pub mod Told
 pub mod Ended
 pub mod Marks
 pub mod Roles
+pub mod News

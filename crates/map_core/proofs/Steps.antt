@@ -67,7 +67,7 @@ pub grown : (s : State) (t u : Turn) (call : Call) (engine : Option ℕ) (reply 
 grown s t u Take engine reply records h = inl h.1
 grown s t u (Refill asked) engine reply records h = inl h.2
 grown s t u (Post kind groups) engine reply records h = grown-post s t u kind groups reply records h.1
-grown s t u Retire engine reply records h = inl h.3
+grown s t u (Retire why) engine reply records h = inl h.3
 
 pub is_longer : (s : State) (records : List Record) → (records ≡ s.records) ⊎ ((r : Record) × Adds s records r)
     → (more : List Record) × (records ≡ s.records ++ more)

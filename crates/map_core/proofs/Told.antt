@@ -59,7 +59,7 @@ fits_does s t u (Post kind groups) engine Settled records h = absurd h.1
 fits_does s t u (Post kind groups) engine Dry records h = absurd h.1
 fits_does s t u (Post kind groups) engine Stopped records h = absurd h.1
 fits_does s t u (Post kind groups) engine Retired records h = absurd h.1
-fits_does s t u Retire engine reply records h = subst (λ r. fits_call Retire r ≡ true) (sym h.1) refl
+fits_does s t u (Retire why) engine reply records h = subst (λ r. fits_call (Retire why) r ≡ true) (sym h.1) refl
 
 -- what a call leaves: one entry more of the caller, with its call, its use and its reply
 pub record Enters (old : State) (who : ℕ) (call : Call) (used : ℕ) (reply : Reply) (new : State) : Type 0 where

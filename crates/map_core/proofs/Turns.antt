@@ -371,7 +371,7 @@ turn_facts s t used (Refill asked) engine reply u records le h =
     subst (λ e. TurnFacts s t used e reply u) (sym h.0) (facts-refills s t used reply u le h.1)
 turn_facts s t used (Post kind set) engine reply u records le h =
     subst (λ e. TurnFacts s t used e reply u) (sym h.0) (facts-posts s t used kind set reply u records le h.1)
-turn_facts s t used Retire engine reply u records le h =
+turn_facts s t used (Retire why) engine reply u records le h =
     subst (λ e. TurnFacts s t used e reply u) (sym h.0)
     (subst (λ r. TurnFacts s t used None r u) (sym h.1)
     (subst (TurnFacts s t used None Retired) (sym h.2)

@@ -1,5 +1,6 @@
 -- What is left when every worker has ended.
 use Rattle.std.specs.Prelude.{◌≡◌, ◌≢◌, ℕ, ◌<◌, Bool, true, false, List, [], ◌∷◌, ◌++◌, MatchOption}
+use Rattle.std.specs.List.{list_any}
 use Rattle.lrat_steps.specs.Log.{LogStep, db_of, learned_count}
 use Rattle.lrat_steps.specs.Undecided.{Undecided}
 use Rattle.evidence_rec.specs.Records.{founds}
@@ -10,19 +11,25 @@ use Rattle.map_core.specs.declared.entry.Reply.TheVariants.{Dry}
 use Rattle.map_core.specs.declared.entry.Entry.{Entry}
 use Rattle.map_core.specs.declared.entry.Opening.{Opening}
 use Rattle.map_core.specs.declared.closing.Verdict.{Verdict}
-use Rattle.map_core.specs.declared.closing.Verdict.TheVariants.{Complete, Settled, Memory, Limit, Budget}
+use Rattle.map_core.specs.declared.closing.Verdict.TheVariants.{Complete, Settled, Journal, Memory, Limit, Budget}
 use Rattle.map_core.specs.declared.closing.Closing.{Closing}
 use Rattle.map_core.specs.Core.{State, IsReached, is_told}
-use Rattle.map_core.specs.Own.{calls_of, worker_of, engine_used_in}
+use Rattle.map_core.specs.Own.{calls_of, worker_of, is_for_journal, engine_used_in}
 use Rattle.map_core.specs.Sound.{IsSound}
 
--- exhausted goes before settled, settled before stopped, and stopped before limited
-abbrev pub verdict_by : Bool → Bool → Bool → Bool → Verdict
-verdict_by true settled stopped limited = Complete
-verdict_by false true stopped limited = Settled
-verdict_by false false true limited = Memory
-verdict_by false false false true = Limit
-verdict_by false false false false = Budget
+-- exhausted goes before settled, settled before a retirement for the journal, that before any other (stopped), and stopped
+-- before limited
+abbrev pub verdict_by : Bool → Bool → Bool → Bool → Bool → Verdict
+verdict_by true settled cut_off stopped limited = Complete
+verdict_by false true cut_off stopped limited = Settled
+verdict_by false false true stopped limited = Journal
+verdict_by false false false true limited = Memory
+verdict_by false false false false true = Limit
+verdict_by false false false false false = Budget
+
+-- a retirement for the journal stands in the history
+abbrev pub is_cut_off : List Entry → Bool
+is_cut_off history = list_any (λ (e : Entry). is_for_journal e.call) history
 
 -- each worker has ended, by its own entries
 pub record HaveEnded (o : Opening) (history : List Entry) : Type 0 where
@@ -42,7 +49,7 @@ pub record IsClosing (s : State) (closing : Closing) (log : List LogStep) : Type
   pub sound : IsSound s
   pub records : closing.records ≡ s.records
   pub history : closing.history ≡ s.history
-  pub verdict : closing.verdict ≡ verdict_by s.exhausted s.settled s.stopped s.limited
+  pub verdict : closing.verdict ≡ verdict_by s.exhausted s.settled (is_cut_off s.history) s.stopped s.limited
   pub all : closing.verdict ≡ Complete → HoldsAll s.opening.problem s.records
   pub told : closing.verdict ≡ Settled → is_told s.opening.goal s.opening.problem.groups (founds s.records) ≡ true
   pub spent : closing.verdict ≡ Budget → s.spent ≡ s.opening.budget

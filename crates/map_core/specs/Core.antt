@@ -190,7 +190,7 @@ abbrev pub Does : State → Turn → Call → Option ℕ → Reply → Turn → 
 Does s t Take engine reply new records = Takes s.opening.tops s.opening.problem.groups (founds s.records) (is_told s.opening.goal s.opening.problem.groups (founds s.records)) (is_full s.opening s.records) (length s.history + 1) (give_back t) engine reply new × (records ≡ s.records)
 Does s t (Refill asked) engine reply new records = (engine ≡ None) × Refills (give_back t) reply new × (records ≡ s.records)
 Does s t (Post kind set) engine reply new records = (engine ≡ None) × Posts s.opening.problem (is_full s.opening s.records) s.records t kind set reply new records
-Does s t Retire engine reply new records = (engine ≡ None) × (reply ≡ Retired) × (new ≡ retire t) × (records ≡ s.records)
+Does s t (Retire why) engine reply new records = (engine ≡ None) × (reply ≡ Retired) × (new ≡ retire t) × (records ≡ s.records)
 
 abbrev pub after : State → Entry → Turn → List Record → State
 after s e t records =

@@ -1,5 +1,5 @@
 -- Laws of the core, over every list of entries.
-use Rattle.std.specs.Prelude.{◌≡◌, ◌≢◌, ◌||◌, ℕ, true, false, if◌then◌else◌, List}
+use Rattle.std.specs.Prelude.{◌≡◌, ◌≢◌, ◌||◌, ℕ, true, false, if◌then◌else◌, List, ◌++◌}
 use Rattle.std.specs.List.{AllByRecursion}
 use Rattle.gm_base.specs.Sets.{has, IsGroupSet, IsSubset, all_groups}
 use Rattle.gm_base.specs.Minimal.{IsConflict, IsCorrection}
@@ -16,6 +16,7 @@ use Rattle.map_core.specs.declared.entry.Reply.TheVariants.{Job, Grant, New}
 use Rattle.map_core.specs.declared.entry.Entry.{Entry}
 use Rattle.map_core.specs.declared.entry.Opening.{Opening}
 use Rattle.map_core.specs.Core.{State, is_held, CoreStep, CoreRun, opened}
+use Rattle.map_core.specs.Own.{new_in}
 use Rattle.map_core.specs.Sound.{IsOpening, IsSound}
 
 abbrev pub OpeningIsSound : Type 0
@@ -69,6 +70,10 @@ NotBoth =
     → is_held s.records Correction correction ≡ true
     → explores (record { kind = Conflict; set = conflict }) set ≡ true
     → explores (record { kind = Correction; set = correction }) set ≡ false
+
+-- the sets that are held are those of the records before, and then those that were answered New, in their order
+abbrev pub NewAreHeld : Type 0
+NewAreHeld = (s t : State) (log : List Entry) → CoreRun s log t → founds t.records ≡ founds s.records ++ new_in log
 
 -- once exhausted is marked, each minimal conflict and each minimal correction is held
 abbrev pub ExhaustedHoldsAll : Type 0

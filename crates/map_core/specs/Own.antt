@@ -1,7 +1,10 @@
 -- A worker's part, from its own entries alone.
 use Rattle.std.specs.Prelude.{◌≡◌, ℕ, ◌-◌, ◌<◌, ◌≤◌, ◌==◌, Bool, true, false, List, [], ◌∷◌, filter, sum_by, Option, Some, None}
+use Rattle.std.specs.List.{flat_map}
+use Rattle.gm_base.specs.Explored.{Found}
 use Rattle.map_core.specs.declared.entry.Call.{Call}
 use Rattle.map_core.specs.declared.entry.Call.TheVariants.{Take, Refill, Post, Retire}
+use Rattle.map_core.specs.declared.entry.Retirement.TheVariants as why
 use Rattle.map_core.specs.declared.entry.Reply.{Reply}
 use Rattle.map_core.specs.declared.entry.Reply.TheVariants.{Job, Grant, Exhausted, Settled, Limit, Dry, Stopped, New, Already, Retired, Memory}
 use Rattle.map_core.specs.declared.entry.Entry.{Entry}
@@ -60,6 +63,23 @@ is_retirement Limit = false
 is_retirement Dry = false
 is_retirement Stopped = false
 
+-- a retirement for the journal
+abbrev pub is_for_journal : Call → Bool
+is_for_journal (Retire why.Journal) = true
+is_for_journal (Retire why.Memory) = false
+is_for_journal Take = false
+is_for_journal (Refill asked) = false
+is_for_journal (Post kind set) = false
+
+-- the kind and the set of the record that an entry adds, if it adds one
+abbrev pub news_by : Call → Reply → List Found
+news_by (Post kind set) New = record { kind = kind; set = set } ∷ []
+news_by call reply = []
+
+-- those of all entries, in their order
+abbrev pub new_in : List Entry → List Found
+new_in entries = flat_map (λ (e : Entry). news_by e.call e.reply) entries
+
 abbrev pub engine_part : Option ℕ → ℕ
 engine_part None = 0
 engine_part (Some n) = n
@@ -89,5 +109,5 @@ fits_call (Post kind set) New = true
 fits_call (Post kind set) Already = true
 fits_call (Post kind set) Limit = true
 fits_call (Post kind set) Memory = true
-fits_call Retire Retired = true
+fits_call (Retire why) Retired = true
 fits_call _ _ = false

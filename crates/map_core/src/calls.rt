@@ -21,7 +21,7 @@ use crate::admit::{admit, kept_post};
 use crate::ask::ask;
 use crate::closing::{Closing, History, verdict_of};
 use crate::common::{Common, all_ended, begin, finish};
-use crate::entry::{Call, Entry, Goal, Reply};
+use crate::entry::{Call, Entry, Goal, Reply, Retirement};
 use crate::open::{enter_all, new_workers};
 use crate::regrant::{kept_refill, regrant};
 use crate::replies::{Posted, Refilled, Taken};
@@ -94,15 +94,15 @@ impl<M: MapEngine> MapCore<M> {
     }
 
     /// The worker ends, and no other is given work. It takes no memory.
-    pub fn retire(&mut self, w: u32, used: u64)
+    pub fn retire(&mut self, w: u32, used: u64, why: Retirement)
         requires { CanCall self.old.opening w used (calls_of w self.old.history) }
-        ensures step { Steps self.old w Retire used Retired self.new }
+        ensures step { Steps self.old w (Retire why) used Retired self.new }
         ensures short { length self.new.history < 2 ^ 63 }
     {
         let turn = self.settled(w, used).retire();
         let entry = Entry {
             worker: w,
-            call: Call::Retire,
+            call: Call::Retire(why),
             used,
             engine: None,
             reply: Reply::Retired,
@@ -219,7 +219,7 @@ impl<M: MapEngine> MapCore<M> {
         } = self;
         let closing = Closing {
             records: Records::from_vec(records),
-            verdict: verdict_of(common),
+            verdict: verdict_of(common, history.as_slice()),
             proof,
             history: History::from_vec(history),
         };

@@ -1,9 +1,9 @@
 //! What is left when every worker has ended.
 ghost use Rattle.std.specs.Prelude.{◌≡◌};
-ghost use Rattle.map_core.specs.Closings.{verdict_by};
+ghost use Rattle.map_core.specs.Closings.{verdict_by, is_cut_off};
 
 use crate::common::Common;
-use crate::entry::Entry;
+use crate::entry::{Call, Entry, Retirement};
 use evidence_rec::Records;
 use gm_base::Derivation;
 use sat_base::Row;
@@ -13,6 +13,8 @@ use sat_base::Row;
 pub enum Verdict {
     Complete,
     Settled,
+    /// A worker retired for the journal.
+    Journal,
     Memory,
     Limit,
     Budget,
@@ -29,13 +31,15 @@ pub struct Closing {
     pub history: History,
 }
 
-pub fn verdict_of(common: Common) -> Verdict
-    ensures { result ≡ verdict_by common.exhausted common.settled common.stopped common.limited }
+pub fn verdict_of(common: Common, history: &[Entry]) -> Verdict
+    ensures { result ≡ verdict_by common.exhausted common.settled (is_cut_off history.now) common.stopped common.limited }
 {
     if common.exhausted {
         Verdict::Complete
     } else if common.settled {
         Verdict::Settled
+    } else if is_cut_off(history) {
+        Verdict::Journal
     } else if common.stopped {
         Verdict::Memory
     } else if common.limited {
@@ -43,4 +47,11 @@ pub fn verdict_of(common: Common) -> Verdict
     } else {
         Verdict::Budget
     }
+}
+
+// Whether a worker retired for the journal.
+fn is_cut_off(history: &[Entry]) -> bool
+    ensures { result ≡ is_cut_off history.now }
+{
+    history.iter().any(|entry| matches!(entry.call, Call::Retire(Retirement::Journal)))
 }

@@ -10,7 +10,16 @@ pub enum Call {
     Refill(CompactSet),
     /// With the kind and the set of the record.
     Post(Kind, GroupSet),
-    Retire,
+    Retire(Retirement),
+}
+
+/// Why a worker retires.
+#[derive(Clone, Copy, Debug, PartialEq, Eq)]
+pub enum Retirement {
+    /// Memory is wanting.
+    Memory,
+    /// The journal takes no more records.
+    Journal,
 }
 
 /// What a call is answered.

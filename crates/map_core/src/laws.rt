@@ -1,5 +1,5 @@
 //! What holds after every list of entries, by any workers in any order: each law is the contract of a function with no code.
-ghost use Rattle.map_core.specs.Laws.{OpeningIsSound, StepsKeepSound, RunsAreSound, SoundDecides, StepsExplore, JobsAreNew, JobsAreTops, HeldIsMinimal, NotBoth, ExhaustedHoldsAll, SettledTells, MarksStay, NoneIsNew, NoneIsJob, NoneIsGrant};
+ghost use Rattle.map_core.specs.Laws.{OpeningIsSound, StepsKeepSound, RunsAreSound, SoundDecides, StepsExplore, JobsAreNew, JobsAreTops, HeldIsMinimal, NotBoth, NewAreHeld, ExhaustedHoldsAll, SettledTells, MarksStay, NoneIsNew, NoneIsJob, NoneIsGrant};
 
 /// The opening state has the core's facts, and each step keeps them.
 pub fn core_is_sound()
@@ -16,10 +16,11 @@ pub fn explored_is_right()
     ensures tops { JobsAreTops }
 {}
 
-/// What is held, and that nothing is missing once exhausted is marked.
+/// What is held and where it came from, and that nothing is missing once exhausted is marked.
 pub fn held_is_right()
     ensures minimal { HeldIsMinimal }
     ensures apart { NotBoth }
+    ensures news { NewAreHeld }
     ensures all { ExhaustedHoldsAll }
 {}
 

@@ -10,12 +10,14 @@ use Rattle.evidence_rec.specs.Asking.{OracleState, IsHonestOver}
 use Rattle.map_core.specs.declared.entry.Entry.{Entry}
 use Rattle.map_core.specs.declared.entry.Opening.{Opening}
 use Rattle.map_core.specs.declared.closing.Closing.{Closing}
+use Rattle.map_core.specs.Closings.{is_cut_off}
 use Rattle.map_core.specs.Own.{caller_of, calls_of, worker_of, used_in}
 use Rattle.board.specs.Boards.{LockView, SeatView, IsSeatOf, IsClosed}
 use Rattle.worker_pool.specs.declared.worker.Worker.{Worker}
 use Rattle.worker_pool.specs.Workers.{IsFresh, IsNew, IsOver, HasWorked, IsDone, AreOver, oracle_of, seat_of, log_of}
 use Rattle.worker_pool.specs.Outcomes.{IsLeft, learned_in}
 use Rattle.worker_pool.proofs.Learned.{used_in-all, learned_in-push}
+use Rattle.worker_pool.proofs.CutOff.{none_cut_off, not_journal}
 
 -- what a slice that was lent ends with
 pub written : {X : Type 0} (xs ys : List X) (n : ℕ) → length xs ≡ n → take n (xs ++ ys) ≡ xs
@@ -152,6 +154,9 @@ is_left b seats logs left map_log over is =
       named = named;
       workers = done;
       learned = let same = ap used_in history in omega arith;
+      no_journal =
+          not_journal is.state.exhausted is.state.settled (is_cut_off is.state.history) is.state.stopped is.state.limited is.closing.verdict
+          (ap is_cut_off (sym history) ∙ none_cut_off b.opening.problem b.opening.tops b.opening.workers left.history named (λ w low. (done w [] low).course));
     }
 
 -- the sum of what was learnt does not wrap, since it is within the budget

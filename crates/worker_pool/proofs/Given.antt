@@ -28,7 +28,7 @@ job_seed s t Take None turn n seed u records h = absurd h.0
 job_seed s t Take (Some k) turn n seed u records h = h.0.1.1
 job_seed s t (Refill asked) engine turn n seed u records h = absurd h.1
 job_seed s t (Post kind groups) engine turn n seed u records h = absurd h.1
-job_seed s t Retire engine turn n seed u records h = cc (h.1)
+job_seed s t (Retire why) engine turn n seed u records h = cc (h.1)
 
 at_job : (o : Opening) (mid t : State) (before : List Entry) (e : Entry) (turn n : ℕ) (seed : List ℕ) → IsOpening o → CoreRun (opened o) before mid → CoreStep mid e t
     → e.reply ≡ Job turn seed n → IsGiven o.problem o.tops seed

@@ -63,7 +63,7 @@ used_in-from (l ∷ ls) i high es top between each =
     let both = sum_by-cons learned_count l ls in
     omega arith
 
-by_recursion : (P : Entry → Type 0) (es : List Entry) → All P es → AllByRecursion P es
+pub by_recursion : (P : Entry → Type 0) (es : List Entry) → All P es → AllByRecursion P es
 by_recursion P [] h = tt
 by_recursion P (e ∷ es) h = (All-head P e es h, by_recursion P es (All-tail P e es h))
 

@@ -3,3 +3,4 @@ pub mod Given
 pub mod Steps
 pub mod Learned
 pub mod Crewed
+pub mod CutOff

@@ -11,6 +11,7 @@ use Rattle.evidence_rec.specs.Records.{kind_of, set_of, found_of, IsAcceptedAlon
 use Rattle.evidence_rec.specs.Asking.{OracleState, IsSpent, selectors}
 use Rattle.map_core.specs.declared.entry.Call.{Call}
 use Rattle.map_core.specs.declared.entry.Call.TheVariants.{Take, Refill, Post, Retire}
+use Rattle.map_core.specs.declared.entry.Retirement.TheVariants as retirement
 use Rattle.map_core.specs.declared.entry.Reply.{Reply}
 use Rattle.map_core.specs.declared.entry.Reply.TheVariants.{Job, Grant, Retired}
 use Rattle.map_core.specs.declared.entry.Entry.{Entry}
@@ -237,10 +238,10 @@ post_ends {p = p} {n = n} {s = s} {used = used} made r given w spent rest told c
 
 -- a retirement, for want of memory
 pub retire_ends : {b : LockView Opening} {p : Problem} {seed : List ℕ} {o n : OracleState} {s t : SeatView Entry Opening} {before left used : ℕ} → IsAt b p (At seed) o s → IsSpent o n before left
-    → used + left ≡ before → IsCall b.opening s Retire used Retired t → worker_of t.mine ≡ worker_after (worker_of s.mine) used Retired → IsOver b p n t
+    → used + left ≡ before → IsCall b.opening s (Retire retirement.Memory) used Retired t → worker_of t.mine ≡ worker_after (worker_of s.mine) used Retired → IsOver b p n t
 retire_ends {b} {p} {seed} {o} {n} {used = used} w spent rest call after =
     record {
-      worker = worker_called b p n w.worker spent.problem (learned used spent rest) (subst (λ x. MayCome p b.opening.tops x Retire) (sym w.stands) tt) call;
+      worker = worker_called b p n w.worker spent.problem (learned used spent rest) (subst (λ x. MayCome p b.opening.tops x (Retire retirement.Memory)) (sym w.stands) refl) call;
       stands = stands call;
       ended = ap (λ (x : Worker). x.ended) after;
       undecided = ends_other p n.log (λ asked e. cc) call;

@@ -14,6 +14,7 @@ use Rattle.evidence_rec.specs.Seeding.{IsSeed}
 use Rattle.evidence_rec.specs.Asking.{selectors}
 use Rattle.map_core.specs.declared.entry.Call.{Call}
 use Rattle.map_core.specs.declared.entry.Call.TheVariants.{Take, Refill, Post, Retire}
+use Rattle.map_core.specs.declared.entry.Retirement.TheVariants as retirement
 use Rattle.map_core.specs.declared.entry.Reply.{Reply}
 use Rattle.map_core.specs.declared.entry.Reply.TheVariants.{Job, Grant, Exhausted, Settled, Limit, Dry, Stopped, New, Already, Retired, Memory}
 use Rattle.map_core.specs.declared.entry.Entry.{Entry}
@@ -46,13 +47,13 @@ pub record Settles (p : Problem) (tops : Bool) (seed : List ℕ) (kind : Kind) (
   pub whole : tops ≡ true → Sat p seed → (kind ≡ Correction) × (set ≡ complement p.groups seed)
 
 -- what a worker may call there: without a job it takes one; at a job it refills, posts a record that settles the seed, or
--- retires; at its end, nothing
+-- retires for want of memory; at its end, nothing
 abbrev pub MayCome : Problem → Bool → Place → Call → Type 0
 MayCome p tops Free call = call ≡ Take
 MayCome p tops (At seed) Take = ⊥
 MayCome p tops (At seed) (Refill asked) = Unit {0}
 MayCome p tops (At seed) (Post kind set) = Settles p tops seed kind set
-MayCome p tops (At seed) Retire = Unit {0}
+MayCome p tops (At seed) (Retire why) = why ≡ retirement.Memory
 MayCome p tops Over call = ⊥
 
 -- each entry's call may come where the replies before it led

@@ -25,7 +25,7 @@ use board::Board;
 use evidence_rec::{Asked, MapEngine, Oracle, Record};
 use gm_base::{Assign, GroupSet, Problem, Purse};
 use gm_ports::Gate;
-use map_core::{Posted, Refilled, Taken};
+use map_core::{Posted, Refilled, Retirement, Taken};
 use mss_grow::{Grown, grow};
 use mus_shrink::{Shrunk, shrink};
 use std::alloc::{AllocError, Global};
@@ -150,7 +150,7 @@ fn work_on<O: Oracle, M: MapEngine, R: Wait>(
                 purse = Purse { left: more };
             }
             Err(AllocError) => {
-                board.retire(rt, &mut worker.seat, used);
+                board.retire(rt, &mut worker.seat, used, Retirement::Memory);
                 return false;
             }
         }

@@ -15,7 +15,7 @@ invariant_of-self g c =
     let i = c.self.inside in
     let k = c.self.invariant in
     let r = subst (λ s. IsReady s c.args.w c.args.used) (sym c.self.view_is) c.settled.ensures.ready in
-    let e : Entry = record { worker = c.args.w; call = Retire; used = c.args.used; engine = None; reply = Retired } in
+    let e : Entry = record { worker = c.args.w; call = Retire c.args.why; used = c.args.used; engine = None; reply = Retired } in
     let f = c.finish-self-inside in
     let u = c.retire-turn.result in
     let is =
@@ -34,7 +34,7 @@ pub returns-clause-step : goal.returns-clause-step
 returns-clause-step g c =
     let i = c.self.inside in
     let r = subst (λ s. IsReady s c.args.w c.args.used) (sym c.self.view_is) c.settled.ensures.ready in
-    let e : Entry = record { worker = c.args.w; call = Retire; used = c.args.used; engine = None; reply = Retired } in
+    let e : Entry = record { worker = c.args.w; call = Retire c.args.why; used = c.args.used; engine = None; reply = Retired } in
     let f = c.finish-self-inside in
     let is =
     c.retire-turn.ensures ∙ ap retire
