@@ -1,2 +1,4 @@
 pub mod NarrowLemmas
 mod KeptLemmas
+mod MarkLemmas
+mod TellLemmas

@@ -1,3 +1,5 @@
 pub mod Narrow
 pub mod Laws
+pub mod Told
+pub mod Marked
 pub mod Rows
