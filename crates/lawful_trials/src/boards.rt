@@ -6,7 +6,7 @@ ghost use Rattle.turn_lock.specs.Seats.{AreNew, AreAll};
 ghost use Rattle.board.specs.Boards.{HaveAllEnded};
 ghost use Rattle.lawful_trials.specs.Seats.{IsSeated};
 
-use crate::cores::{say_closing, say_posted, say_taken};
+use crate::cores::{say_closing, say_posted, say_taken, why_of};
 use crate::moves::{Mover, Played, make_moves, played};
 use crate::scripted::{record_in, scripted_map};
 use crate::telling::say;
@@ -15,7 +15,7 @@ use board::{Board, BoardClosing, Seat};
 use evidence_rec::Records;
 use gm_base::Problem;
 use lawful_fakes::{Lacking, ScriptedMap};
-use map_core::{Goal, Posted, Taken};
+use map_core::{Goal, Posted, Retirement, Taken};
 use std::alloc::{AllocError, Global};
 use std::sync::Wait;
 use trial_script::Step;
@@ -157,7 +157,7 @@ fn call<R: Wait>(
         "take" => played(take(rt, board, place, out)),
         "post" => post(rt, alloc, board, problem, place, step, out),
         "retire" => {
-            board.retire(rt, &mut place.seat, 0);
+            board.retire(rt, &mut place.seat, 0, why_of(step));
             place.may_call = false;
             played(say(out, "retired"))
         }
@@ -223,7 +223,7 @@ fn ended<R: Wait>(rt: &R, board: &Shared, place: Place) -> Seat
 {
     let Place { mut seat, may_call } = place;
     if may_call {
-        board.retire(rt, &mut seat, 0);
+        board.retire(rt, &mut seat, 0, Retirement::Memory);
     }
     seat
 }

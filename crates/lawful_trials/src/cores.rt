@@ -7,7 +7,7 @@
 //! | `take 0` | `job 1, granted 10:` with the seed behind, or why there is none |
 //! | `post 0 conflict 1 2` | `new`, `already`, or why it isn't held |
 //! | `refill 0` | `granted 20`, or why nothing is |
-//! | `retire 0` | `retired` |
+//! | `retire 0` | `retired`; with `journal` behind, it is for a journal, else for want of memory |
 //!
 //! A worker that has ended isn't asked any more: that is printed behind `? `. In the end the closing is printed: the verdict,
 //! how many records there are, whether the engine has shown that all sets are explored, how many entries the history has,
@@ -23,7 +23,7 @@ use evidence_rec::Records;
 use gm_base::{GroupSet, Problem};
 use lawful_fakes::{Lacking, ScriptedMap};
 use lrat_steps::Log;
-use map_core::{Closing, Goal, MapCore, Posted, Refilled, Taken, Verdict};
+use map_core::{Closing, Goal, MapCore, Posted, Refilled, Retirement, Taken, Verdict};
 use std::alloc::{AllocError, Global};
 use trial_script::Step;
 
@@ -93,11 +93,20 @@ impl Mover for Desk<'_> {
                 played(say_refilled(out, refilled))
             }
             "retire" => {
-                core.retire(worker, 0);
+                core.retire(worker, 0, why_of(step));
                 played(say(out, "retired"))
             }
             _ => Err(Lacking::Evidence),
         }
+    }
+}
+
+/// Why the worker retires.
+pub fn why_of(step: &Step<'_>) -> Retirement {
+    if has_word(step, "journal") {
+        Retirement::Journal
+    } else {
+        Retirement::Memory
     }
 }
 
@@ -191,6 +200,7 @@ pub fn verdict_word(verdict: Verdict) -> &'static str {
     match verdict {
         Verdict::Complete => "complete",
         Verdict::Settled => "settled",
+        Verdict::Journal => "journal",
         Verdict::Memory => "memory",
         Verdict::Limit => "limit",
         Verdict::Budget => "budget",

@@ -1,5 +1,5 @@
-//! A map of all sets of groups: `map 4 100` makes the learning solver's, of so many groups, with so many units in the purse.
-//! Its moves:
+//! A map of all sets of groups: `map 4 100` makes the learning solver's, of so many groups, with so many units in the purse,
+//! and `map roles 4 100` the one for roles. Its moves:
 //!
 //! | move | what it does, and what is printed |
 //! |---|---|
@@ -12,8 +12,8 @@
 //! | `inputs`, `learnt`, `steps` | at the end: what its log has |
 //!
 //! Before `set` is printed each block is tried on the seed: `wrong` is one that a block takes out.
-ghost use Rattle.std.specs.Prelude.{◌≡◌, ◌<◌, ◌^◌, true};
-ghost use Rattle.evidence_rec.specs.Seeding.{EngineState};
+ghost use Rattle.std.specs.Prelude.{◌≡◌, ◌<◌, ◌^◌, true, IfOk};
+ghost use Rattle.evidence_rec.specs.Seeding.{EngineState, new_engine};
 
 use crate::asking::end;
 use crate::moves::{Mover, Played, make_moves, played};
@@ -44,8 +44,20 @@ pub fn play_map(alloc: Global, step: &Step<'_>, out: &mut String) -> Played {
     if groups >= 1 << 31 {
         return Err(Lacking::Evidence);
     }
-    let map = PowerMap::new(alloc, groups)?;
+    let map = map_of(alloc, groups, has_word(step, "roles"))?;
     explore(alloc, map, groups, units, step, out)
+}
+
+/// A map of so many groups, for roles or not.
+fn map_of(alloc: Global, groups: u32, for_roles: bool) -> Result<PowerMap, AllocError>
+    requires { groups < 2 ^ 31 }
+    ensures { IfOk result (λ map. map ≡ new_engine groups) }
+{
+    if for_roles {
+        PowerMap::for_roles(alloc, groups)
+    } else {
+        PowerMap::new(alloc, groups)
+    }
 }
 
 /// Makes the moves of a call with a map, and tells of its log in the end. It is given up before anything else ends the call,

@@ -4,6 +4,7 @@
 //! on, and the map has none from the block behind the `:` on. Their budget is 100 and their limit 9. What is left is printed:
 //! the verdict, how many logs there are, and how many clauses were learnt in them; then the sets of the conflicts and of the
 //! corrections, in their order. With the line `history`, which is for one worker alone, the calls and their replies follow.
+//! With the line `roles` they end once each group's role is told.
 //!
 //! `either` is for workers whose end depends on who comes first: it prints `as it may` where all five records were found, or
 //! memory was wanting and there are five at most.
@@ -69,7 +70,7 @@ fn tell_closing(
     out: &mut String,
 ) -> Result<(), AllocError> {
     say_records(alloc, out, &closing.records)?;
-    if lines.split('\n').any(|line| line == "history") {
+    if has_line(lines, "history") {
         say_history(out, closing)
     } else {
         Ok(())
@@ -90,6 +91,10 @@ pub fn play_either<R: Threads + Wait + Sync>(
     played(say(out, if ends { "as it may" } else { "wrong" }))
 }
 
+fn has_line(lines: &str, wanted: &str) -> bool {
+    lines.split('\n').any(|line| line == wanted)
+}
+
 /// Has workers enumerate, with a map and oracles that are shy from some call on.
 fn enumerated<R: Threads + Wait + Sync>(
     rt: &R,
@@ -101,17 +106,13 @@ fn enumerated<R: Threads + Wait + Sync>(
     let map = map_of(alloc, problem, step)?;
     let oracles = oracles_of(alloc, problem, step)?;
     let records = Records::new(alloc);
+    let goal = if has_line(lines_of(step), "roles") {
+        Goal::Roles
+    } else {
+        Goal::All
+    };
     Ok(enumerate(
-        rt,
-        alloc,
-        problem,
-        records,
-        oracles,
-        map,
-        100,
-        9,
-        Goal::All,
-        &OpenGate,
+        rt, alloc, problem, records, oracles, map, 100, 9, goal, &OpenGate,
     ))
 }
 
@@ -223,7 +224,7 @@ fn call_word(entry: &Entry) -> &'static str {
         Call::Take => "take",
         Call::Refill(_) => "refill",
         Call::Post(_, _) => "post",
-        Call::Retire => "retire",
+        Call::Retire(_) => "retire",
     }
 }
 
@@ -255,7 +256,7 @@ fn ends_as_it_may(alloc: Global, outcome: &Outcome, logs: usize) -> Result<bool,
     match outcome.verdict {
         Verdict::Complete => are_all_five(alloc, &closing.records),
         Verdict::Memory => Ok(closing.records.len() <= 5),
-        Verdict::Settled | Verdict::Limit | Verdict::Budget => Ok(false),
+        Verdict::Settled | Verdict::Journal | Verdict::Limit | Verdict::Budget => Ok(false),
     }
 }
 

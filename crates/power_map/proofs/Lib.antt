@@ -1,3 +1,4 @@
 pub mod BlockLemmas
 pub mod TrueLemmas
 pub mod MapLemmas
+pub mod UnsettledLemmas

@@ -1,5 +1,5 @@
 -- What a map keeps, and what its answers say.
-use Rattle.std.proofs.Common.{◌≡◌, ℕ, zero, suc, ◌+◌, ◌-◌, ◌<◌, get_or, Bool, true, false, List, [], ◌∷◌, ◌++◌, map, length, Option, Some, None, sym, ◌∙◌, ap, subst, inl, inr, arith}
+use Rattle.std.proofs.Common.{◌≡◌, ℕ, zero, suc, ◌+◌, ◌-◌, ◌<◌, get_or, Bool, true, false, List, [], ◌∷◌, ◌++◌, map, length, Option, Some, None, refl, sym, ◌∙◌, ap, subst, inl, inr, arith}
 use Rattle.std.specs.Prelude.{slice_get, ℤ, IfSome}
 use Rattle.std.specs.List.{list_all}
 use Rattle.std.specs.Option.{option_map_or}
@@ -133,6 +133,11 @@ told_block old new sides more step side set lits h added clause side_added =
     ∙ ap (λ (ss : List Side). told old.vars log ss step) side_added
     ∙ ap (λ (fs : List Found). (let e : EngineState = record { groups = old.vars; blocks = fs; log = log; exhausted = is_kept step } in e))
     (blocks_pushed old.log sides side set h.each_side)
+
+-- no block without a side
+pub no_blocks : (clauses : List (List ℤ)) → blocks_of clauses [] ≡ []
+no_blocks [] = refl
+no_blocks (c ∷ cs) = refl
 
 -- a search leaves the blocks
 

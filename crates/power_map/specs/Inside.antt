@@ -8,6 +8,7 @@ use Rattle.lrat_steps.specs.Log.{LogStep, inputs_of}
 use Rattle.cdcl_core.specs.Answers.{IsRefuted}
 use Rattle.evidence_rec.specs.Seeding.{EngineState, IsHonestMap}
 use Rattle.power_map.specs.Blocks.{blocks_of}
+use Rattle.power_map.specs.Unsettled.{AreUnsettled}
 use Rattle.power_map.specs.declared.map.PowerMap.TheInside.{Inside}
 
 -- whether a step is kept
@@ -38,3 +39,4 @@ pub record IsKept (groups : ℕ) (log : List LogStep) (sides : List Side) (step 
 pub record IsMap (a : Inside) : Type 0 where
   pub kept : IsKept a.solver.vars a.solver.log a.sides.items a.empty
   pub true_first : a.solver.true_first ≡ true
+  pub unsettled : AreUnsettled a.solver.vars (blocks_of (inputs_of a.solver.log) a.sides.items) a.unsettled.items

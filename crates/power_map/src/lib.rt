@@ -14,12 +14,13 @@
 //! that are not explored. The contracts are those of the trait `evidence_rec::MapEngine`.
 //!
 //! Start with `map.rt`, whose head says why the answers are right, and `specs/Inside.antt`, which says what a map keeps.
-//! `sets.rt` reads the set off an assignment.
+//! `sets.rt` reads the set off an assignment, and `unsettled.rt` has the sets that come first in a map for roles.
 //!
 //! Not said here: which of the greatest sets a seed is, how many units it costs, and that memory suffices.
 #![tactic(auto)]
 
 mod map;
 mod sets;
+mod unsettled;
 
 pub use map::PowerMap;

@@ -7,6 +7,8 @@
 //! there is none, the log ends in the empty clause, which follows from the block clauses: each set is explored, and the
 //! steps that lead there say why.
 //!
+//! A map for roles begins with other sets, all groups but one, which `unsettled.rt` tells.
+//!
 //! The sets themselves are kept nowhere but in the log: a clause names its groups. Its signs would tell the side too, but
 //! the empty clause has none, so the sides stand in a list of their own.
 ghost use Rattle.std.specs.Prelude.{◌≡◌, ◌<◌, ◌^◌, ◌||◌, true, IfOk, OnOk, OnErr};
@@ -15,6 +17,7 @@ ghost use Rattle.gm_base.specs.Explored.{block_of};
 ghost use Rattle.evidence_rec.specs.Seeding.{new_engine};
 
 use crate::sets::set_of;
+use crate::unsettled::{all_but, is_beginning, unsettled_behind};
 use cdcl_core::{Solved, Solver};
 use evidence_rec::{MapEngine, Seed, block_lits};
 use gm_base::{Derivation, GroupSet, Purse, Side};
@@ -30,6 +33,10 @@ pub struct PowerMap {
     sides: Vec<Side>,
     // The id of the step with the empty clause, once a seed found no set.
     empty: Option<u64>,
+    // Whether all groups but one are to come first.
+    for_roles: bool,
+    // The groups that are unsettled, and for which that set was not handed out.
+    unsettled: Vec<u32>,
 }
 
 impl Model for PowerMap {
@@ -50,10 +57,28 @@ impl PowerMap {
         requires { groups < 2 ^ 31 }
         ensures { IfOk result (λ map. map ≡ new_engine groups) }
     {
+        PowerMap::begin(alloc, groups, false)
+    }
+
+    /// A map as `new` makes it, for who wants to know which groups are in every conflict. Where its first block is of a conflict,
+    /// seeds are first, for each group that is in all conflicts that were blocked, all groups but that one.
+    pub fn for_roles(alloc: Global, groups: u32) -> Result<PowerMap, AllocError>
+        requires { groups < 2 ^ 31 }
+        ensures { IfOk result (λ map. map ≡ new_engine groups) }
+    {
+        PowerMap::begin(alloc, groups, true)
+    }
+
+    fn begin(alloc: Global, groups: u32, for_roles: bool) -> Result<PowerMap, AllocError>
+        requires { groups < 2 ^ 31 }
+        ensures { IfOk result (λ map. map ≡ new_engine groups) }
+    {
         Ok(PowerMap {
             solver: Solver::new_true(alloc, groups)?,
             sides: Vec::new(alloc),
             empty: None,
+            for_roles,
+            unsettled: Vec::new(alloc),
         })
     }
 }
@@ -68,13 +93,19 @@ impl MapEngine for PowerMap {
     fn block(&mut self, alloc: Global, set: &GroupSet, side: Side) -> Result<(), AllocError> {
         // Room first, so that all is as it was where there is none.
         self.sides.reserve(1)?;
+        let begins = is_beginning(self.for_roles, self.sides.as_slice());
+        let left = unsettled_behind(alloc, begins, self.unsettled.as_slice(), set, side)?;
         let clause = block_lits(alloc, set, side)?;
         self.solver.add(alloc, &clause)?;
         self.sides.push_reserved(side);
+        self.unsettled = left;
         Ok(())
     }
 
     fn seed(&mut self, alloc: Global, turn: u64, purse: &mut Purse) -> Result<Seed, AllocError> {
+        if let Some(g) = self.unsettled.pop() {
+            return Ok(Seed::Set(all_but(alloc, self.solver.vars(), g)?));
+        }
         // Where no block came since that takes the last seed out, another worker is still at it.
         self.solver.leave(may_repeat(self.sides.as_slice()));
         match self.solver.solve(alloc, &[], turn, purse)? {

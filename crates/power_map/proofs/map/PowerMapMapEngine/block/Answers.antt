@@ -9,7 +9,11 @@ use Rattle.evidence_rec.specs.Seeding.{EngineState, blocked}
 use Rattle.power_map.specs.Inside.{view_of, IsKept}
 use Rattle.power_map.specs.declared.map.PowerMap.TheInside.{Inside}
 use Rattle.evidence_rec.proofs.BlockLemmas.{block-over}
-use Rattle.power_map.proofs.MapLemmas.{has_models, kept_block, told_block}
+use Rattle.lrat_steps.specs.Log.{inputs_of}
+use Rattle.power_map.specs.Blocks.{blocks_of}
+use Rattle.power_map.specs.Unsettled.{AreUnsettled, unsettled_behind}
+use Rattle.power_map.proofs.MapLemmas.{has_models, kept_block, told_block, no_blocks}
+use Rattle.power_map.proofs.UnsettledLemmas.{unsettled_then}
 use Rattle.power_map.proofs.map.PowerMapMapEngine.block.Goals as goal
 
 -- the groups of the set are groups of the map
@@ -59,13 +63,25 @@ returns-in_err-add-clause-models c =
 pub invariant_of-self-2 : goal.invariant_of-self-2
 invariant_of-self-2 c =
     let a = c.self.inside in
+    let within = set_within c.self.inside c.args.self.now c.args.set.now c.self.view_is c.requires in
+    let pushed = c.push_reserved.ensures.items ∙ ap (λ (ss : List Side). ss ++ c.args.side ∷ []) c.in_ok-reserve.ensures.items in
+    let lits = c.deref.ensures.value ∙ c.in_ok-clause.ensures in
+    let next : c.in_ok-left.left.items ≡ unsettled_behind c.is_beginning-begins.result c.args.side c.args.set.now a.unsettled.items =
+    c.in_ok-left.ensures ∙ ap (unsettled_behind c.is_beginning-begins.result c.args.side c.args.set.now) c.as_slice-2.ensures.value in
+    let both =
+    told_block a.solver c.add.new.self a.sides.items c.push_reserved.new.self.items a.empty c.args.side
+    c.args.set.now c.deref.result.now c.self.invariant.kept c.in_ok-add.ensures.ok lits pushed in
     record {
       kept =
           kept_block a.solver c.add.new.self a.sides.items c.push_reserved.new.self.items a.empty c.args.side
-          c.args.set.now c.deref.result.now c.self.invariant.kept
-          (set_within c.self.inside c.args.self.now c.args.set.now c.self.view_is c.requires) c.in_ok-add.ensures.ok (c.deref.ensures.value ∙ c.in_ok-clause.ensures)
-          (c.push_reserved.ensures.items ∙ ap (λ (ss : List Side). ss ++ c.args.side ∷ []) c.in_ok-reserve.ensures.items);
+          c.args.set.now c.deref.result.now c.self.invariant.kept within c.in_ok-add.ensures.ok lits pushed;
       true_first = ap (λ (v : Solver). v.true_first) c.in_ok-add.ensures.ok ∙ c.self.invariant.true_first;
+      unsettled =
+          subst (λ (e : EngineState). AreUnsettled e.groups e.blocks c.in_ok-left.left.items) (sym both)
+          (unsettled_then a.solver.vars (blocks_of (inputs_of a.solver.log) a.sides.items) c.is_beginning-begins.result c.args.side c.args.set.now
+          a.unsettled.items c.in_ok-left.left.items within
+          (λ first. ap (blocks_of (inputs_of a.solver.log)) (sym c.in_ok-reserve.ensures.items ∙ sym c.as_slice.ensures.value ∙ c.is_beginning-begins.ensures first) ∙ no_blocks (inputs_of a.solver.log))
+          next c.self.invariant.unsettled);
     }
 
 pub returns-clause-ok : goal.returns-clause-ok
@@ -82,6 +98,11 @@ returns-clause-honest c = (invariant_of-self-2 c).kept.honest
 
 pub returns-clause-models : goal.returns-clause-models
 returns-clause-models c =
-    let a = c.self.inside in
     let s = c.add.new.self in
-    has_models s.vars s.log c.push_reserved.new.self.items a.empty (invariant_of-self-2 c).kept
+    has_models s.vars s.log c.push_reserved.new.self.items c.self.inside.empty (invariant_of-self-2 c).kept
+
+pub returns-in_err-left-clause-models : goal.returns-in_err-left-clause-models
+returns-in_err-left-clause-models c =
+    let a = c.self.inside in
+    has_models a.solver.vars a.solver.log c.reserve.new.self.items a.empty
+    (kept_in_room a c.reserve.new.self.items c.self.invariant.kept c.in_ok-reserve.ensures.items)
