@@ -95,6 +95,10 @@ all-accepted : (p : Problem) (earlier rs : List Record) → AllByRecursion (IsAc
 all-accepted p earlier [] all = tt
 all-accepted p earlier (r ∷ rs) all = (accepted-alone p earlier r all.0, all-accepted p (earlier ++ r ∷ []) rs all.1)
 
+pub all-kept : (old new : Problem) (records conflicts : List Record) → IsProblem old → Extends old new → AllAccepted old records → conflicts ≡ kept old new records
+    → AllAccepted new conflicts
+all-kept old new records conflicts ok e all is = subst (AllAccepted new) (sym is) (all-accepted new [] (kept old new records) (kept-alone old new [] records ok e all))
+
 -- ---- distinct sets
 
 distinct-mapped : (f : List ℕ → List ℕ) (sets : List (List ℕ)) → IsDistinct (map f sets) → IsDistinct sets

@@ -29,5 +29,5 @@ mod numbers;
 mod witnesses;
 
 pub use carried::Carried;
-pub use carrying::carry;
+pub use carrying::{carry, keep_conflicts, regrow_corrections};
 pub use extension::first_break;

@@ -2,7 +2,7 @@ use Rattle.std.proofs.Common.{◌≡◌, sym, ◌∙◌, subst}
 use Rattle.edit_session.specs.Opening.{TellsAllRegrown}
 use Rattle.edit_session.specs.Extends.{Extends}
 use Rattle.edit_session.proofs.OpeningLemmas.{opening-from_sofar}
-use Rattle.edit_session.proofs.carrying.carry.Goals as goal
+use Rattle.edit_session.proofs.carrying.regrow_corrections.Goals as goal
 
 -- all corrections have grown
 pub returns-in-None-clause-carried : goal.returns-in-None-clause-carried
