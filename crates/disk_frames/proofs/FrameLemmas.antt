@@ -1,6 +1,6 @@
 -- Lists of frames.
 use Rattle.std.proofs.Common.{◌≡◌, ℕ, ◌+◌, ◌-◌, ◌^◌, ◌<◌, List, [], ◌∷◌, ◌++◌, length, take, drop, refl, sym, ◌∙◌, ap, arith, length-append}
-use Rattle.std.proofs.lemmas.List.{append_assoc, append-nil, take_at, drop_at}
+use Rattle.std.proofs.lemmas.List.{append_assoc, append-nil, take_at, take_all, drop_at, drop_all}
 use Rattle.std.proofs.lemmas.Nat.{from_be_bytes-to_be_bytes_8}
 use Rattle.std.specs.Int.{from_be_bytes, w64}
 use Rattle.disk_frames.specs.Frames.{length_bytes, body, frames, piece_of, framed}
@@ -44,3 +44,8 @@ framed-piece_of text =
 
 pub piece_of-framed : (piece text : List ℕ) → piece ≡ piece_of text → piece ≡ piece_of (framed piece)
 piece_of-framed piece text is = is ∙ ap piece_of (sym (framed-piece_of text) ∙ ap framed (sym is))
+
+-- bytes in the place of as many others
+pub all_written : (items new : List ℕ) (n : ℕ) → length new ≡ length items → n ≡ length items → take n (new ++ drop (length new) items) ≡ new
+all_written items new n same size =
+    ap (λ (l : List ℕ). take n (new ++ l)) (drop_all (length new) items (omega arith)) ∙ ap (λ (l : List ℕ). take n l) (append-nil new) ∙ take_all n new (omega arith)

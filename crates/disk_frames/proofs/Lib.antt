@@ -1,4 +1,4 @@
-mod AppendSteps
+pub mod AppendSteps
 mod FrameLemmas
 mod FrontLemmas
 pub mod SalvageLemmas

@@ -1,9 +1,9 @@
 //! Going on with a journal that was read.
-ghost use Rattle.std.specs.Prelude.{◌≡◌, ◌≢◌, ◌⊎◌, ◌≤◌, ◌∷◌, [], ℕ, List, None, Some, IfSome, OnOk, length};
+ghost use Rattle.std.specs.Prelude.{ℕ, List, OnOk};
 ghost use Rattle.gm_ports.specs.Faults.{HasCause};
-ghost use Rattle.gm_ports.specs.DiskState.{Looks, Only, TellsStill, written};
 ghost use Rattle.disk_frames.specs.Frames.{IsSettled};
 ghost use Rattle.disk_frames.specs.Salvage.{IsReadTo};
+ghost use Rattle.disk_frames.specs.Starting.{IsMade, IsReadied};
 
 use crate::End;
 use gm_ports::{Disk, Failed};
@@ -16,16 +16,8 @@ use gm_ports::{Disk, Failed};
 pub fn start<D: Disk>(disk: &mut D, end: End) -> Result<(), Failed>
     ensures opened { OnOk result ((texts : List (List ℕ)) → IsReadTo (D.state disk.old) texts end.gate end.last
         → IsSettled (D.state disk.new) texts end.gate) }
-    ensures looks { end.last ≢ None → Looks (D.state disk.old) (D.state disk.new) }
-    ensures made { OnOk result (end.last ≡ None → IfSome (D.state disk.old).reads (λ bytes. end.gate ≤ length bytes
-        → (D.state disk.new).reads ≡ Some (written bytes end.gate (0 ∷ [])))) }
-
-    // There is a moment before the return up to which no crash leaves what none could leave at the entry. There the call
-    // ended, or nothing was pending.
-    ensures first { (mid : D) × Looks (D.state disk.old) (D.state mid)
-        × ((D.state mid).moment ≤ (D.state disk.new).moment)
-        × (IfSome (D.state disk.old).reads (λ text. Only text (D.state mid).may_leave) ⊎ (disk.new ≡ mid)) }
-    ensures tells { TellsStill (D.state disk.old) (D.state disk.new) }
+    ensures made { OnOk result (IsMade (D.state disk.old) (D.state disk.new) end.gate end.last) }
+    ensures readied { IsReadied D.state disk.old disk.new end.last }
     ensures cause { HasCause (D.state disk.old).faults (D.state disk.new).faults result }
 {
     // What was read may still be pending.

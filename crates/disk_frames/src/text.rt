@@ -1,6 +1,6 @@
 //! A text that is ready to be written.
-ghost use Rattle.std.specs.Prelude.{◌≡◌, ◌≤◌, IfOk, length};
-ghost use Rattle.disk_frames.specs.Frames.{piece_of, framed};
+ghost use Rattle.std.specs.Prelude.{◌≡◌, ◌+◌, ◌^◌, ◌<◌, ◌≤◌, ◌++◌, IfOk, length, drop, vec_len, vec_capacity};
+ghost use Rattle.disk_frames.specs.Frames.{length_bytes, piece_of, framed};
 
 use std::alloc::{AllocError, Global};
 use std::marker::Model;
@@ -35,6 +35,19 @@ impl FramedText {
         Ok(FramedText { bytes })
     }
 
+    /// Makes one of a buffer that has 8 bytes in front of the text and room for one behind it. It takes no memory.
+    pub fn from_buffer(mut buffer: Vec<u8>) -> Self
+        requires front { 8 ≤ vec_len buffer }
+        requires room { vec_len buffer + 1 ≤ vec_capacity buffer }
+        ensures text { result ≡ drop 8 buffer.items }
+        ensures small { length result < 2 ^ 64 }
+    {
+        let size = buffer.len() as u64 - 8;
+        put_length(buffer.as_mut_slice(), size);
+        buffer.push_reserved(0);
+        FramedText { bytes: buffer }
+    }
+
     pub fn text(&self) -> &[u8]
         ensures { result.now ≡ self.now }
     {
@@ -53,6 +66,14 @@ impl FramedText {
     {
         self.bytes.len() as u64 - 9
     }
+}
+
+// Puts the length over the first 8 bytes.
+fn put_length(bytes: &mut [u8], size: u64)
+    requires { 8 ≤ length bytes.old }
+    ensures { bytes.new ≡ length_bytes size ++ drop 8 bytes.old }
+{
+    bytes[..8].copy_from_slice(&size.to_be_bytes());
 }
 
 fn text_of(piece: &[u8]) -> &[u8]

@@ -5,6 +5,7 @@
 //! |---|---|---|
 //! | `bases` | assignments, work lists, derivations, sets of groups and problems | `bases.rt` |
 //! | `evidence` | evidence, records of it, audits, and what is carried over | `evidence.rt` |
+//! | `journals` | what a journal of records on a disk holds, and appends to one | `journals.rt` |
 //!
 //! `trial_script` says what a script is, and the head of each player which calls it knows. Start reading at `evidence.rt`.
 #![tactic(auto)]
@@ -12,11 +13,15 @@
 mod bases;
 mod derivations;
 mod evidence;
+mod journals;
 mod problems;
 mod sets;
 
 use bases::BasesPlayer;
 use evidence::EvidencePlayer;
+use journals::JournalPlayer;
+use std::rt::Files;
+use std::sync::Wait;
 use std::{env, io};
 use trial_script::{Player, play};
 
@@ -28,15 +33,20 @@ fn main(rt: HostRuntime) -> io::Result<()> {
 }
 
 /// Plays the script of this name.
-fn play_script(rt: &HostRuntime, name: &str) -> io::Result<()> {
+fn play_script<R: Files + Print + AllocGlobal + Wait>(rt: &R, name: &str) -> io::Result<()> {
     match name.strip_prefix("data/").unwrap_or(name) {
         "bases" => play_by(rt, name, BasesPlayer::new(rt.alloc())),
         "evidence" => play_by(rt, name, EvidencePlayer::new(rt.alloc())),
+        "journals" => play_by(rt, name, JournalPlayer::new(rt, rt.alloc())),
         _ => println!(rt; "? {name}"),
     }
 }
 
 /// Owns the player, so that few proofs have to drop one.
-fn play_by<P: Player + Drop>(rt: &HostRuntime, name: &str, mut player: P) -> io::Result<()> {
+fn play_by<R: Files + Print + AllocGlobal, P: Player + Drop>(
+    rt: &R,
+    name: &str,
+    mut player: P,
+) -> io::Result<()> {
     play(rt, name, &mut player)
 }

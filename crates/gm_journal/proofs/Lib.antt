@@ -1,3 +1,8 @@
 pub mod FollowingLemmas
 pub mod JudgingLemmas
 pub mod SalvagingLemmas
+mod HistoryLemmas
+mod RoomLemmas
+mod KeptLemmas
+mod Orders
+mod StartLemmas

@@ -1,8 +1,11 @@
 -- What a salvage of texts says of records.
-use Rattle.std.proofs.Common.{◌≡◌, ℕ, List, [], Option, Some, None, sym, subst}
+use Rattle.std.proofs.Common.{◌≡◌, ℕ, List, [], ◌∷◌, ◌++◌, Option, Some, None, sym, subst}
 use Rattle.std.specs.Prelude.{IfSome}
+use Rattle.std.specs.List.{AllByRecursion}
 use Rattle.gm_base.specs.Problem.{Problem}
 use Rattle.evidence_rec.specs.declared.record.Record.{Record}
+use Rattle.evidence_rec.specs.Records.{IsAcceptedAlone, AllAcceptedBehind, AllAccepted}
+use Rattle.evidence_rec.proofs.AcceptedLemmas.{accepted-alone}
 use Rattle.disk_frames.specs.Salvage.{AreNext, IsSalvaged, IsForeign}
 use Rattle.gm_journal.specs.Following.{MayFollow, AreJournalled}
 use Rattle.gm_journal.specs.Salvage.{HoldsRecords, HoldsNoRecord}
@@ -33,3 +36,14 @@ pub judged-records : (p : Problem) (judge : Judged) (kept records : List Record)
 judged-records p judge kept records is same (texts, h) =
     next-journalled p texts records
     (subst (AreNext (MayFollow p) [] texts) (sym same) (subst (λ (j : Judged). AreNext (MayFollow j.problem) j.records texts kept) is h))
+
+-- a record that needs none before it is accepted with those before it
+all-accepted : (p : Problem) (earlier rs : List Record) → AllByRecursion (IsAcceptedAlone p) rs → AllAcceptedBehind p earlier rs
+all-accepted p earlier [] h = tt
+all-accepted p earlier (r ∷ rs) h = (accepted-alone p earlier r h.0, all-accepted p (earlier ++ r ∷ []) rs h.1)
+
+pub judged-accepted : (p : Problem) (judge : Judged) (kept records : List Record) → judge ≡ judge_of p → records ≡ kept
+    → (texts : List (List ℕ)) × AreNext (MayFollow judge.problem) judge.records texts kept → AllAccepted p records
+judged-accepted p judge kept records is same h =
+    let journalled : AreJournalled p records = judged-records p judge kept records is same h in
+    all-accepted p [] records journalled.accepted

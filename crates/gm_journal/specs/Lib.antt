@@ -3,3 +3,9 @@ pub mod FollowingLaws
 pub mod Salvage
 pub mod Laws
 pub mod Judging
+pub mod Entries
+pub mod Histories
+pub mod Rooms
+pub mod Books
+pub mod Journals
+pub mod Answering

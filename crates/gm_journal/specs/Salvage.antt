@@ -4,6 +4,7 @@ use Rattle.std.specs.Prelude.{◌≡◌, ℕ, ◌+◌, ◌^◌, ◌<◌, List, [
 use Rattle.gm_base.specs.Problem.{Problem}
 use Rattle.gm_ports.specs.Faults.{Rose}
 use Rattle.evidence_rec.specs.declared.record.Record.{Record}
+use Rattle.evidence_rec.specs.Records.{AllAccepted}
 use Rattle.disk_frames.specs.Salvage.{IsSalvaged, IsForeign}
 use Rattle.gm_journal.specs.Following.{MayFollow, AreJournalled, texts_of}
 use Rattle.gm_journal.specs.declared.salvaging.JournalRead.{JournalRead}
@@ -31,6 +32,13 @@ SaysOfRecords p (Salvaged s) = AreJournalled p s.records
 SaysOfRecords p (Foreign at) = ⊤
 SaysOfRecords p Failed = ⊤
 SaysOfRecords p Memory = ⊤
+
+-- and so each is accepted with those before it
+abbrev pub AreAccepted : Problem → JournalRead → Type 0
+AreAccepted p (Salvaged s) = AllAccepted p s.records
+AreAccepted p (Foreign at) = ⊤
+AreAccepted p Failed = ⊤
+AreAccepted p Memory = ⊤
 
 -- a gate is a place of which the next is a place too
 abbrev pub EndsWithin : JournalRead → Type 0

@@ -1,5 +1,11 @@
 //! Laws over the definitions alone. Each is the contract of a function that has no code.
+ghost use Rattle.std.specs.Prelude.{◌≡◌, ℕ, List, Some};
+ghost use Rattle.evidence_text.specs.Alone.{Written};
+ghost use Rattle.gm_journal.specs.Entries.{OpeningView};
+ghost use Rattle.gm_journal.specs.Books.{IsKept, Keeps};
 ghost use Rattle.gm_journal.specs.Laws.{SalvagedInOneWay, SalvagedAreNotForeign, ForeignAtOnePlace, HeldTextsAreSalvaged};
+
+use gm_ports::Disk;
 
 /// Bytes are salvaged in one way, and are not foreign then; they are foreign at one place at most; and a disk that holds the
 /// texts of records which a journal may hold is salvaged with just these.
@@ -8,4 +14,12 @@ pub fn salvage_is_one()
     ensures not_foreign { SalvagedAreNotForeign }
     ensures one_place { ForeignAtOnePlace }
     ensures crash { HeldTextsAreSalvaged }
+{}
+
+/// A disk that keeps a journal's records is salvaged with just these, as it reads and as a crash leaves it.
+pub fn kept_is_salvaged<D: Disk>(_disk: &D)
+    ensures read { (o : OpeningView) (kept : List Written) (gate : ℕ) (bytes : List ℕ) → IsKept (D.state _disk.now) o kept gate
+        → (D.state _disk.now).reads ≡ Some bytes → Keeps o kept bytes }
+    ensures crash { (o : OpeningView) (kept : List Written) (gate : ℕ) (bytes : List ℕ) → IsKept (D.state _disk.now) o kept gate
+        → (D.state _disk.now).may_leave bytes → Keeps o kept bytes }
 {}

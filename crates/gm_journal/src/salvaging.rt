@@ -1,7 +1,7 @@
 //! Reading the records of a journal that a crash may have left.
 ghost use Rattle.std.specs.Prelude.{IfSome};
 ghost use Rattle.gm_ports.specs.DiskState.{Looks};
-ghost use Rattle.gm_journal.specs.Salvage.{Says, SaysOfRecords, EndsWithin, ReadHasCause};
+ghost use Rattle.gm_journal.specs.Salvage.{Says, SaysOfRecords, AreAccepted, EndsWithin, ReadHasCause};
 
 use crate::judging::RecordJudge;
 use disk_frames::End;
@@ -37,6 +37,7 @@ pub enum JournalRead {
 pub fn salvage<D: Disk>(alloc: Global, problem: &Problem, disk: &mut D) -> JournalRead
     ensures told { IfSome (D.state disk.old).reads (λ bytes. Says problem.now bytes result) }
     ensures records { SaysOfRecords problem.now result }
+    ensures accepted { AreAccepted problem.now result }
     ensures within { EndsWithin result }
     ensures looks { Looks (D.state disk.old) (D.state disk.new) }
     ensures cause { ReadHasCause (D.state disk.old).faults (D.state disk.new).faults result }

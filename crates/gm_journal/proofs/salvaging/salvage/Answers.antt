@@ -1,4 +1,4 @@
-use Rattle.gm_journal.proofs.SalvagingLemmas.{told-records, judged-records}
+use Rattle.gm_journal.proofs.SalvagingLemmas.{told-records, judged-records, judged-accepted}
 use Rattle.gm_journal.proofs.salvaging.salvage.Goals as goal
 
 -- the texts that were taken are those of the records that the judge kept
@@ -9,3 +9,7 @@ returns-in-Ended-clause-told g c =
 pub returns-in-Ended-clause-records : goal.returns-in-Ended-clause-records
 returns-in-Ended-clause-records g c =
     judged-records c.args.problem.now c.in-Ok.judge c.salvage.new.judge.records c.into_records.result c.in-Ok.ensures c.into_records.ensures c.in-Ended.ensures.judged
+
+pub returns-in-Ended-clause-accepted : goal.returns-in-Ended-clause-accepted
+returns-in-Ended-clause-accepted g c =
+    judged-accepted c.args.problem.now c.in-Ok.judge c.salvage.new.judge.records c.into_records.result c.in-Ok.ensures c.into_records.ensures c.in-Ended.ensures.judged
