@@ -152,6 +152,30 @@ try 'a refused file with evidence' 5 'gmus: input refused: 5 GroupTooBig at line
 try 'no evidence' 6 'gmus: read fault on evidence' nothing check "$here/first.gcnf" lost
 try 'one name' 2 "$bad" nothing check "$here/first.gcnf"
 
+# The roles of groups, of which nothing is written unless all are told.
+printf 'p roles 4\nr 1 every\nr 2 some\nr 3 some\nr 4 some\n' >roles
+printf 'p roles 4\nr 1 every\nr 2 every\nr 3 none\nr 4 none\n' >roles_in_focus
+for jobs in 1 4; do
+    try "roles by $jobs" 0 '' roles roles "$here/first.gcnf" --jobs "$jobs"
+    try "roles in focus by $jobs" 0 '' roles_in_focus roles --focus=2,1,2 "$here/first.gcnf" --jobs "$jobs"
+done
+try 'roles of a refused file' 5 'gmus: input refused: 5 GroupTooBig at line 2 byte 2' nothing roles refused
+try 'roles of no file' 6 'gmus: read fault on input' nothing roles lost
+try 'roles with a limit' 2 "$bad" nothing roles "$here/first.gcnf" --limit 3
+if [ -c /dev/full ]; then
+    "$program" roles "$here/first.gcnf" >/dev/full 2>err </dev/null
+    status=$?
+    cp nothing out
+    judge 'roles to a full device' 7 'gmus: write fault on report' nothing
+fi
+if ! command -v python3 >/dev/null; then
+    echo 'skipped the roles of each example: no python3'
+elif python3 "$here/roles.py" "$program" "$here"/*.gcnf "$here"/*.cnf >found 2>&1; then
+    echo "ok      roles as the reports have them: $(cat found)"
+else
+    differs 'roles as the reports have them' "$(cat found)"
+fi
+
 # A listing goes on from evidence: from the whole of it with nothing to learn, and from a part; it may be written over.
 try 'whole evidence resumed' 0 '' "$here/first.report" list "$here/first.gcnf" --resume "$evidence" --conflicts 0
 try 'a limit that is resumed' 4 'gmus: limit of 5 records reached' partial_report list "$here/first.gcnf" --resume "$evidence" --limit 5
@@ -188,6 +212,22 @@ try 'evidence without a name' 7 "$evidence_fault" nothing list "$here/first.gcnf
 try 'evidence of a refused file' 5 'gmus: input refused: 5 GroupTooBig at line 2 byte 2' nothing list refused --evidence none
 [ -e none ] && differs 'evidence of a refused file' 'it was opened'
 [ ! -c /dev/full ] || try 'evidence on a full device' 7 "$evidence_fault" nothing list "$here/first.gcnf" --evidence /dev/full
+
+# A file that got longer is listed from evidence about what it was, whole or partial, by any number of workers.
+try 'evidence of the old file' 0 '' "$here/laptop.report" list "$here/laptop.gcnf" --evidence old
+try_partial 'evidence of some sets' 4 'gmus: limit of 5 records reached' "$here/laptop.report" 5 list "$here/laptop.gcnf" --limit 5 --evidence some
+for known in old some; do
+    for jobs in 1 4; do
+        try "a longer file from $known by $jobs" 0 '' "$here/laptop_more.report" carry "$here/laptop.gcnf" $known "$here/laptop_more.gcnf" --jobs $jobs --evidence written
+        accepted "$here/laptop_more.gcnf" written "$here/laptop_more.report"
+    done
+done
+try 'a file that is no longer one' 12 'gmus: not an extension: clause 0' nothing carry "$here/laptop_more.gcnf" written "$here/laptop.gcnf"
+try 'evidence of the longer file' 9 'gmus: evidence refused: line 1: 4 OtherProblem' nothing carry "$here/laptop.gcnf" written "$here/laptop_more.gcnf"
+if command -v python3 >/dev/null; then
+    python3 "$here/../tools/gcnf.py" --after "$here/laptop.gcnf" "$here/laptop_more.rules" >longer
+    cmp -s longer "$here/laptop_more.gcnf" || differs 'the longer file' 'it is another one'
+fi
 
 # An export is two files, with nothing on standard output: the clauses of a conflict, and their refutation.
 try_export() { # what to try, the file, its evidence, the conflict's number, the wanted CNF, and the wanted refutation

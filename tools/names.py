@@ -8,7 +8,7 @@ FILE is the GCNF or CNF file. Its comments 'c group 7 TEXT' name its groups, in 
 them, their texts are joined by a blank. A group with a name is called a rule. The report comes from the file REPORT, or
 from standard input.
 
-A report of roles is taken too, which no command writes yet: what is written is which rules are in every conflict, in some,
+A report of roles, which `gmus roles` writes, is taken too: what is written is which rules are in every conflict, in some,
 and in none.
 
 What is written is a text: first the rules, with how many conflicts and how many corrections each is in. Those in most

@@ -11,7 +11,7 @@ use Rattle.gm_tool.specs.Judging.{AreAccepted, IsEvidenceRefusal, IsToldFile}
 use Rattle.std.specs.Prelude.{IfSome}
 
 -- what is told of a file, and what is said of it
-told : (held : Option (Option (List ℕ))) (P Q : List ℕ → Type 0) → IsToldFile held P → OfFile held Q → (text : List ℕ) × P text × Q text
+pub told : (held : Option (Option (List ℕ))) (P Q : List ℕ → Type 0) → IsToldFile held P → OfFile held Q → (text : List ℕ) × P text × Q text
 told None P Q p q = absurd p
 told (Some None) P Q p q = absurd p
 told (Some (Some text)) P Q p q = (text, p, q)

@@ -7,10 +7,11 @@ use Rattle.lrat_steps.specs.Log.{LogStep}
 use Rattle.evidence_rec.specs.declared.record.Record.{Record}
 use Rattle.evidence_rec.specs.Records.{founds}
 use Rattle.map_core.specs.declared.entry.Opening.{Opening}
+use Rattle.map_core.specs.declared.entry.Goal.TheVariants.{All}
 use Rattle.map_core.specs.declared.closing.Verdict.{Verdict}
 use Rattle.map_core.specs.declared.closing.Verdict.TheVariants as verdict
 use Rattle.map_core.specs.declared.closing.Closing.{Closing}
-use Rattle.map_core.specs.Closings.{HoldsAll, verdict_by}
+use Rattle.map_core.specs.Closings.{HoldsAll, verdict_by, is_cut_off}
 use Rattle.map_core.specs.Core.{State, is_told}
 use Rattle.map_core.specs.Sound.{IsSound}
 use Rattle.evidence_rec.proofs.HeldLemmas.{accepted-minimal}
@@ -25,30 +26,42 @@ AreDistinctMinimal-from : (s : State) → IsSound s → AreDistinctMinimal s.ope
 AreDistinctMinimal-from s ok =
     record { minimal = accepted-minimal s.opening.problem s.records ok.opening.problem ok.accepted; distinct = ok.distinct }
 
--- where all sets are wanted no roles are settled
-not-settled : {p : Problem} {first : List Record} {b : Bounds} {logs : List (List LogStep)} {c : Closing} → IsClosedFor p first b logs c → c.verdict ≢ verdict.Settled
-not-settled h v =
+-- what is told where roles are settled
+pub settled-told : {p : Problem} {first : List Record} {b : Bounds} {logs : List (List LogStep)} {c : Closing} → IsClosedFor p first b logs c → c.verdict ≡ verdict.Settled
+    → is_told b.goal p.groups (founds c.records) ≡ true
+settled-told {p} {b = b} h v =
     let s = h.left.state in
-    false≢true (subst (λ (o : Opening). is_told o.goal s.opening.problem.groups (founds s.records) ≡ true) h.left.opening (h.left.closing_is.told v))
+    ap (λ rs. is_told b.goal p.groups (founds rs)) h.left.closing_is.records
+    ∙ subst (λ (o : Opening). is_told o.goal o.problem.groups (founds s.records) ≡ true) h.left.opening (h.left.closing_is.told v)
+
+-- where all sets are wanted no roles are settled
+not-settled : {p : Problem} {first : List Record} {b : Bounds} {logs : List (List LogStep)} {c : Closing} → IsClosedFor p first b logs c → b.goal ≡ All → c.verdict ≢ verdict.Settled
+not-settled {p} {c = c} h all v = false≢true (subst (λ goal. is_told goal p.groups (founds c.records) ≡ true) all (settled-told h v))
 
 complete-unless : (v : Verdict) → v ≢ verdict.Settled → status_by v ≡ 0 → v ≡ verdict.Complete
 complete-unless verdict.Complete all e = refl
 complete-unless verdict.Settled all e = absurd (all refl)
 complete-unless verdict.Limit all e = absurd (omega arith)
 complete-unless verdict.Budget all e = absurd (omega arith)
+complete-unless verdict.Journal all e = absurd (omega arith)
 complete-unless verdict.Memory all e = absurd (omega arith)
 
 -- the verdict of status 0
-pub complete_by : {p : Problem} {first : List Record} {b : Bounds} {logs : List (List LogStep)} {c : Closing} → IsClosedFor p first b logs c → status_by c.verdict ≡ 0 → c.verdict ≡ verdict.Complete
-complete_by {c = c} h = complete-unless c.verdict (not-settled h)
+pub complete_by : {p : Problem} {first : List Record} {b : Bounds} {logs : List (List LogStep)} {c : Closing} → IsClosedFor p first b logs c → b.goal ≡ All → status_by c.verdict ≡ 0
+    → c.verdict ≡ verdict.Complete
+complete_by {c = c} h all = complete-unless c.verdict (not-settled h all)
 
--- a verdict without want of memory has a status with which the report is written
-pub is_reported : (v : Verdict) → v ≢ verdict.Memory → IsReported (status_by v)
-is_reported verdict.Complete enough = refl
-is_reported verdict.Settled enough = refl
-is_reported verdict.Limit enough = refl
-is_reported verdict.Budget enough = refl
-is_reported verdict.Memory enough = absurd (enough refl)
+-- a verdict without want of memory, and not for a journal, has a status with which the report is written
+reported-by : (v : Verdict) → v ≢ verdict.Journal → v ≢ verdict.Memory → IsReported (status_by v)
+reported-by verdict.Complete none enough = refl
+reported-by verdict.Settled none enough = refl
+reported-by verdict.Limit none enough = refl
+reported-by verdict.Budget none enough = refl
+reported-by verdict.Journal none enough = absurd (none refl)
+reported-by verdict.Memory none enough = absurd (enough refl)
+
+pub is_reported : {p : Problem} {first : List Record} {b : Bounds} {logs : List (List LogStep)} {c : Closing} → IsClosedFor p first b logs c → c.verdict ≢ verdict.Memory → IsReported (status_by c.verdict)
+is_reported {c = c} h = reported-by c.verdict h.left.no_journal
 
 -- a partial report is not complete
 partial-not : (v : Verdict) → IsPartial (status_by v) → is_complete v ≡ false
@@ -56,18 +69,21 @@ partial-not verdict.Complete partial = absurd (false≢true partial)
 partial-not verdict.Settled partial = absurd (false≢true partial)
 partial-not verdict.Limit partial = refl
 partial-not verdict.Budget partial = refl
+partial-not verdict.Journal partial = absurd (false≢true partial)
 partial-not verdict.Memory partial = refl
 
-limited-by : (a b c d : Bool) → verdict_by a b c d ≡ verdict.Limit → d ≡ true
-limited-by true b c d e = cc
-limited-by false true c d e = cc
-limited-by false false true d e = cc
-limited-by false false false true e = refl
-limited-by false false false false e = cc
+limited-by : (a b j c d : Bool) → verdict_by a b j c d ≡ verdict.Limit → d ≡ true
+limited-by true b j c d e = cc
+limited-by false true j c d e = cc
+limited-by false false true c d e = cc
+limited-by false false false true d e = cc
+limited-by false false false false true e = refl
+limited-by false false false false false e = cc
 
 -- the report with status 0 has all, and a partial one has what is held
-pub whole-text : {p : Problem} {first : List Record} {b : Bounds} {logs : List (List LogStep)} {c : Closing} → IsClosedFor p first b logs c → status_by c.verdict ≡ 0 → report_for p c ≡ full_report p
-whole-text {p} {c = c} h zero = ap (λ v. if is_complete v then full_report p else held_report p c.records) (complete_by h zero)
+pub whole-text : {p : Problem} {first : List Record} {b : Bounds} {logs : List (List LogStep)} {c : Closing} → IsClosedFor p first b logs c → b.goal ≡ All → status_by c.verdict ≡ 0
+    → report_for p c ≡ full_report p
+whole-text {p} {c = c} h all zero = ap (λ v. if is_complete v then full_report p else held_report p c.records) (complete_by h all zero)
 
 pub partial-text : (p : Problem) (c : Closing) → IsPartial (status_by c.verdict) → report_for p c ≡ held_report p c.records
 partial-text p c partial = ap (λ whole. if whole then full_report p else held_report p c.records) (partial-not c.verdict partial)
@@ -108,7 +124,7 @@ limit-reached : {p : Problem} {first : List Record} {b : Bounds} {logs : List (L
 limit-reached {first = first} {b = b} {c = c} h v =
     let k = h.left.closing_is in
     let s = h.left.state in
-    let marked = limited-by s.exhausted s.settled s.stopped s.limited (sym k.verdict ∙ v) in
+    let marked = limited-by s.exhausted s.settled (is_cut_off s.history) s.stopped s.limited (sym k.verdict ∙ v) in
     let full = leb-true s.opening.limit (length s.records) (k.sound.limited marked) in
     let most : length s.records ≤ max s.opening.limit (length s.opening.records) = k.sound.at_most in
     let limit : s.opening.limit ≡ b.limit = ap (λ (o : Opening). o.limit) h.left.opening in
@@ -131,7 +147,8 @@ enumerated h enough = record {
   begins = first-in h;
   minimal = held-minimal h;
   enough_memory = enough;
-  not_settled = not-settled h;
+  no_journal = h.left.no_journal;
+  settled = settled-told h;
   all = holds-all h;
   budget = budget-spent h;
   limit = limit-reached h;

@@ -25,6 +25,7 @@ complete-by : (v : Verdict) (o : Option Derivation) (P : Derivation → Type 0)
     → MatchOption o (v ≢ verdict.Complete) (λ d. (v ≡ verdict.Complete) × P d) → is_complete v ≡ is_some o
 complete-by verdict.Complete None P m = absurd (m refl)
 complete-by verdict.Settled None P m = refl
+complete-by verdict.Journal None P m = refl
 complete-by verdict.Memory None P m = refl
 complete-by verdict.Limit None P m = refl
 complete-by verdict.Budget None P m = refl

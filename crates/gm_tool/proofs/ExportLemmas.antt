@@ -20,7 +20,8 @@ use Rattle.gm_tool.specs.Steps.{IsBegun, Stops, Exports, Misses}
 use Rattle.gm_tool.specs.Words.{EndsAs, IsObeyed, no_bounds}
 use Rattle.gm_tool.specs.Writing.{AreWritten, AreCutOff}
 use Rattle.gm_tool.proofs.ReadingLemmas.{stopped, unjudged, read-alone}
-use Rattle.gm_tool.proofs.RunLemmas.{run-bare, run-stopped, run-after, left-of, exporting-memory}
+use Rattle.gm_tool.proofs.RunLemmas.{run-bare, run-stopped, left-of, exporting-memory}
+use Rattle.gm_tool.proofs.WrittenLemmas.{run-after}
 use Rattle.gm_tool.proofs.StatusLemmas.{among-by}
 
 -- what stopped it where it began

@@ -1,16 +1,20 @@
 -- What is said of the line that standard error gets, said of what else it is told by.
 use Rattle.std.proofs.Common.{◌≡◌, ℕ, List, Option, Some, None, inl, inr, sym, subst}
+use Rattle.lrat_steps.specs.Log.{LogStep}
+use Rattle.map_core.specs.declared.closing.Closing.{Closing}
 use Rattle.evidence_rec.specs.declared.record.Record.{Record}
 use Rattle.gm_base.specs.Problem.{Problem}
 use Rattle.gm_ports.specs.FilesState.{FilesState}
-use Rattle.gm_words.specs.Reading.{Asked, Listing, listing, checking, drilling, exporting}
+use Rattle.gm_words.specs.Reading.{Asked, Listing, Carrying, listing, checking, drilling, exporting, asking, carrying}
 use Rattle.gm_tool.specs.declared.enumeration.Bounds.{Bounds}
 use Rattle.gm_tool.specs.declared.ending.Ending.{Ending}
 use Rattle.gm_tool.specs.declared.ending.Finish.{Finish}
+use Rattle.gm_tool.specs.Carrying.{IsCarried, IsCarriedOn, IsDried, carry_bounds, empty_closing}
 use Rattle.gm_tool.specs.Endings.{finish_of, line_of, error_line, input_fault_line, evidence_fault_line, report_cut_line}
 use Rattle.gm_tool.specs.Judging.{IsJudged, IsRefusal}
-use Rattle.gm_tool.specs.Listing.{IsListed, IsListedFrom, bounds_for}
-use Rattle.gm_tool.specs.Lines.{no_conflict_line}
+use Rattle.gm_tool.specs.Listing.{IsListed, IsListedFrom, IsPutOut, bounds_for}
+use Rattle.gm_tool.specs.Lines.{no_conflict_line, no_extension_line}
+use Rattle.gm_tool.specs.Longer.{AreJudged}
 use Rattle.gm_tool.specs.Outputs.{Outputs, evidence_output, export_outputs}
 use Rattle.gm_tool.specs.Outside.{Outside}
 use Rattle.gm_tool.specs.Refusals.{refusal_line, evidence_line}
@@ -66,17 +70,11 @@ module _ (Gets Has : List ℕ → Type 0) (f : (line : List ℕ) → Gets line �
         };
   }
 
-  listed-gets : (p : Problem) (first : List Record) (b : Bounds) (evidence : Option (List ℕ)) (old new : Outside) (finish : Finish)
-      → IsListed p first b evidence old new Gets finish → IsListed p first b evidence old new Has finish
-  listed-gets p first b evidence old new finish h = record {
-    closing = h.closing;
-    left = h.left;
-    enumerated = h.enumerated;
+  put-out-gets : (p : Problem) (evidence : Option (List ℕ)) (closing : Closing) (old new : Outside) (status : ℕ)
+      → IsPutOut p evidence closing old new Gets status → IsPutOut p evidence closing old new Has status
+  put-out-gets p evidence closing old new status h = record {
     valid = h.valid;
-    verdict = h.verdict;
     evidence = h.evidence;
-    whole = h.whole;
-    partial = h.partial;
     cut_off =
         λ e.
         elim (h.cut_off e) [
@@ -86,6 +84,18 @@ module _ (Gets Has : List ℕ → Type 0) (f : (line : List ℕ) → Gets line �
     memory = h.memory;
   }
 
+  listed-gets : (p : Problem) (first : List Record) (b : Bounds) (logs : List (List LogStep)) (evidence : Option (List ℕ)) (old new : Outside) (finish : Finish)
+      → IsListed p first b logs evidence old new Gets finish → IsListed p first b logs evidence old new Has finish
+  listed-gets p first b logs evidence old new finish h = record {
+    closing = h.closing;
+    left = h.left;
+    enumerated = h.enumerated;
+    put_out = put-out-gets p evidence h.closing old new finish.status h.put_out;
+    verdict = h.verdict;
+    whole = h.whole;
+    partial = h.partial;
+  }
+
   from-gets : (l : Listing) (old new : Outside) (finish : Finish) → IsListedFrom l old new Gets finish → IsListedFrom l old new Has finish
   from-gets l old new finish h = record {
     problem = h.problem;
@@ -93,7 +103,77 @@ module _ (Gets Has : List ℕ → Type 0) (f : (line : List ℕ) → Gets line �
     first = h.first;
     complete = h.complete;
     goes_on = h.goes_on;
-    listed = listed-gets h.problem h.first (bounds_for l) l.evidence old new finish h.listed;
+    listed = listed-gets h.problem h.first (bounds_for l) finish.logs l.evidence old new finish h.listed;
+  }
+
+  longer-gets : (file known longer : List ℕ) (old new : FilesState) (status : ℕ) → AreJudged file known longer old new Gets status
+      → AreJudged file known longer old new Has status
+  longer-gets file known longer old new status h = record {
+    refused =
+        λ e.
+        elim (h.refused e) [
+          | inl first ↦ inl (refusal (old.held file) first)
+          | inr second ↦ inr (second.0, second.1, refusal (old.held longer) second.2)
+        ];
+    read_fault = h.read_fault;
+    fault_line =
+        λ e.
+        elim (h.fault_line e) [
+          | inl input ↦ inl (f input_fault_line input)
+          | inr u ↦ inr (record { old = u.old; new = u.new; read = u.read; extends = u.extends; line = f evidence_fault_line u.line })
+        ];
+    no_extension =
+        λ e.
+        let n = h.no_extension e in
+        record { old = n.old; new = n.new; read = n.read; place = n.place; breaks = n.breaks; line = f (no_extension_line n.place) n.line };
+    known_refused =
+        λ e.
+        let r = h.known_refused e in
+        record { old = r.old; new = r.new; read = r.read; extends = r.extends; refusal = r.refusal; first = r.first; line = f (evidence_line r.refusal) r.line };
+  }
+
+  carried-on-gets : (c : Carrying) (p q : Problem) (known : List Record) (old new : Outside) (finish : Finish) → IsCarriedOn c p q known old new Gets finish
+      → IsCarriedOn c p q known old new Has finish
+  carried-on-gets c p q known old new finish h = record {
+    log = h.log;
+    left = h.left;
+    asked = h.asked;
+    opening = h.opening;
+    opens = h.opens;
+    logs = h.logs;
+    logs_are = h.logs_are;
+    listed = listed-gets q h.opening (carry_bounds c.jobs h.left) h.logs c.evidence old new finish h.listed;
+  }
+
+  dried-gets : (c : Carrying) (q : Problem) (old new : Outside) (finish : Finish) → IsDried c q old new Gets finish → IsDried c q old new Has finish
+  dried-gets c q old new finish h = record {
+    log = h.log;
+    asked = h.asked;
+    logs_are = h.logs_are;
+    closing = h.closing;
+    set = h.set;
+    is_set = h.is_set;
+    within = h.within;
+    undecided = h.undecided;
+    statuses = h.statuses;
+    put_out = put-out-gets q c.evidence empty_closing old new finish.status h.put_out;
+    partial = h.partial;
+  }
+
+  carried-gets : (c : Carrying) (old new : Outside) (finish : Finish) → IsCarried c old new Gets finish → IsCarried c old new Has finish
+  carried-gets c old new finish h = record {
+    old_problem = h.old_problem;
+    new_problem = h.new_problem;
+    read = h.read;
+    extends = h.extends;
+    complete = h.complete;
+    known = h.known;
+    shown = h.shown;
+    went =
+        elim h.went [
+          | inl on ↦ inl (carried-on-gets c h.old_problem h.new_problem h.known old new finish on)
+          | inr dried ↦ inr (dried-gets c h.new_problem old new finish dried)
+        ];
   }
 
   pub done-gets : (asked : Option Asked) (old new : Outside) (finish : Finish) → IsDone asked old new Gets finish → IsDone asked old new Has finish
@@ -178,6 +258,41 @@ module _ (Gets Has : List ℕ → Type 0) (f : (line : List ℕ) → Gets line �
     untouched = h.untouched;
     accepted = h.accepted;
     within = h.within;
+  }
+  done-gets (Some (asking a)) old new finish h = record {
+    statuses = h.statuses;
+    told =
+        λ e.
+        let k = h.told e in
+        record {
+          problem = k.problem;
+          reads = k.reads;
+          told =
+              record {
+                closing = k.told.closing;
+                left = k.told.left;
+                enumerated = k.told.enumerated;
+                verdict = k.told.verdict;
+                whole = k.told.whole;
+                partial = k.told.partial;
+                told = k.told.told;
+                cut_off = λ seven. let cut = k.told.cut_off seven in (report-fault old new cut.0, cut.1);
+              };
+        };
+    memory = h.memory;
+    judged = judged-gets a.file a.focus None old.files new.files finish.status h.judged;
+    unwritten = h.unwritten;
+    accepted = h.accepted;
+    complete = h.complete;
+  }
+  done-gets (Some (carrying c)) old new finish h = record {
+    statuses = h.statuses;
+    carried = λ e. carried-gets c old new finish (h.carried e);
+    memory = λ e. elim (h.memory e) [ inl alone ↦ inl alone | inr carried ↦ inr (carried-gets c old new finish carried) ];
+    judged = longer-gets c.old c.known c.new old.files new.files finish.status h.judged;
+    no_extension = h.no_extension;
+    accepted = h.accepted;
+    enough = h.enough;
   }
 
   pub obeyed-gets : (asked : Option Asked) (old new : Outside) (finish : Finish) → IsObeyed asked old new Gets finish → IsObeyed asked old new Has finish

@@ -1,6 +1,7 @@
 pub mod OrderLemmas
 pub mod ReportLemmas
 pub mod ClosedLemmas
+pub mod ReadyLemmas
 pub mod DrillLemmas
 pub mod CheckLemmas
 pub mod NumberedLemmas
@@ -10,7 +11,11 @@ pub mod MadeLemmas
 pub mod StatusLemmas
 pub mod ReadingLemmas
 pub mod AcceptedLemmas
+pub mod WrittenLemmas
 pub mod RunLemmas
+pub mod LongerLemmas
+pub mod CarryLemmas
 pub mod ExportLemmas
+pub mod RolesLemmas
 pub mod GetsLemmas
 pub mod JudgedLemmas

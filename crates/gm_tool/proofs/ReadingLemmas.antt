@@ -21,7 +21,7 @@ use Rattle.gm_tool.specs.Input.{OfFile, ReadsIn, IsReadAs, IsReadFor, TellsInput
 use Rattle.gm_tool.specs.Judging.{IsJudged, IsRefusal, IsEvidenceRefusal, IsEvidenceUnread}
 use Rattle.gm_tool.specs.Resuming.{AreGoodFirst, AreShown, GoesOnFrom}
 use Rattle.gm_tool.specs.Statuses.{IsAmong, IsToldByStatus}
-use Rattle.gm_tool.specs.Steps.{IsBegun, Refuses, RefusesEvidence, Stops}
+use Rattle.gm_tool.specs.Steps.{IsBegun, Refuses, RefusesEvidence, Stops, StopsReading}
 
 -- ---- the records that are gone on from
 
@@ -139,18 +139,32 @@ module _ (file : List ℕ) (focus evidence : Option (List ℕ)) (old mid new : F
   stops-result (Err e) h = stops-behind e h
 
   -- what was read of the file is told of it still
-  pub reads-behind : (p : Problem) (r : Read) → r ≡ read.Problem p → OfFile (old.held file) (λ text. TellsInput focus text mid.unread r)
-      → OfFile (mid.held file) (IsReadAs focus p mid.unread)
-  reads-behind p r is told =
-      subst (λ held. OfFile (held file) (IsReadAs focus p mid.unread)) (sym leaves.names)
-      (subst (λ answer. OfFile (old.held file) (λ text. TellsInput focus text mid.unread answer)) is told)
+  pub reads-behind : (p : Problem) → OfFile (old.held file) (IsReadAs focus p mid.unread) → OfFile (mid.held file) (IsReadAs focus p mid.unread)
+  reads-behind p read = subst (λ held. OfFile (held file) (IsReadAs focus p mid.unread)) (sym leaves.names) read
+
+-- what was read is a problem
+pub reads-problem : (focus : Option (List ℕ)) (held : Option (Option (List ℕ))) (unread : Option (List ℕ)) (p : Problem) (r : Read) → r ≡ read.Problem p
+    → OfFile held (λ text. TellsInput focus text unread r) → OfFile held (IsReadAs focus p unread)
+reads-problem focus held unread p r is told = subst (λ answer. OfFile held (λ text. TellsInput focus text unread answer)) is told
 
 -- the file itself is refused, unless memory is wanting for the line
-pub stops-offence : (file : List ℕ) (focus evidence : Option (List ℕ)) (old new : FilesState) (offence : Offence) (e : Ending)
-    → OfFile (old.held file) (λ text. IsRefused text offence) → new.read_faults ≡ old.read_faults → Refuses offence e → Stops file focus evidence old new e
-stops-offence file focus evidence old new offence (Refused line) first quiet told = (quiet, record { offence = offence; first = first; line = told })
-stops-offence file focus evidence old new offence Memory first quiet told = quiet
-stops-offence file focus evidence old new offence _ first quiet told = absurd told
+pub stops-offence : (file : List ℕ) (old new : FilesState) (offence : Offence) (e : Ending)
+    → OfFile (old.held file) (λ text. IsRefused text offence) → new.read_faults ≡ old.read_faults → Refuses offence e → StopsReading file old new e
+stops-offence file old new offence (Refused line) first quiet told = (quiet, record { offence = offence; first = first; line = told })
+stops-offence file old new offence Memory first quiet told = quiet
+stops-offence file old new offence _ first quiet told = absurd told
+
+pub reading-offence : (file : List ℕ) (focus : Option (List ℕ)) (old new : FilesState) (offence : Offence) (r : Read) (e : Ending) → r ≡ read.Refused offence
+    → OfFile (old.held file) (λ text. TellsInput focus text new.unread r) → new.read_faults ≡ old.read_faults → Refuses offence e → StopsReading file old new e
+reading-offence file focus old new offence r e is told quiet refuses =
+    stops-offence file old new offence e (subst (λ answer. OfFile (old.held file) (λ text. TellsInput focus text new.unread answer)) is told) quiet refuses
+
+-- what stops the reading of a file stops what begins with it
+pub stops-reading : (file : List ℕ) (focus evidence : Option (List ℕ)) (old new : FilesState) (e : Ending) → StopsReading file old new e → Stops file focus evidence old new e
+stops-reading file focus evidence old new (Refused line) h = h
+stops-reading file focus evidence old new ReadFault h = h
+stops-reading file focus evidence old new Memory h = h
+stops-reading file focus evidence old new _ h = absurd h
 
 -- ---- what stopped a command, said by its status
 

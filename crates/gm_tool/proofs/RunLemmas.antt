@@ -9,12 +9,14 @@ use Rattle.gm_ports.specs.FilesState.{FilesState, ReadingLeaves, WritingLeaves, 
 use Rattle.gm_ports.specs.Told.{ToldAppends, ToldGrowsWithin}
 use Rattle.gm_ports.proofs.ToldLemmas.{ReadingLeaves-nothing}
 use Rattle.gcnf_text.specs.Chain.{made_case}
-use Rattle.gm_words.specs.Reading.{Asked, Listing, Checking, Drilling, Exporting, listing, checking, drilling, exporting}
+use Rattle.gm_words.specs.Reading.{Asked, greatest_conflicts, Listing, Checking, Drilling, Exporting, Asking, Carrying, listing, checking, drilling, exporting, asking, carrying}
 use Rattle.gm_tool.specs.declared.beginning.Beginning.{Beginning}
 use Rattle.gm_tool.specs.declared.enumeration.Bounds.{Bounds}
 use Rattle.gm_tool.specs.declared.ending.Ending.{Ending}
 use Rattle.gm_tool.specs.declared.ending.Ending.TheVariants.{BadWords, Checked, CheckCutOff, Memory, Listed, CutOff, EvidenceCutOff, EvidenceMemory}
 use Rattle.gm_tool.specs.declared.ending.Finish.{Finish}
+use Rattle.gm_tool.specs.declared.list.Course.{Course}
+use Rattle.gm_tool.specs.Carrying.{IsCarrying, carry_bounds}
 use Rattle.gm_tool.specs.Checking.{IsChecking, shown_report}
 use Rattle.gm_tool.specs.Closed.{learned_in}
 use Rattle.gm_tool.specs.Drilling.{IsDrilling, IsDrilled, drill_bounds}
@@ -25,6 +27,7 @@ use Rattle.gm_tool.specs.Judging.{IsJudged, AreAccepted}
 use Rattle.gm_tool.specs.Listing.{IsListing, IsListed, IsListedFrom, bounds_for}
 use Rattle.gm_tool.specs.Outputs.{Outputs, evidence_output, export_outputs, no_outputs}
 use Rattle.gm_tool.specs.Outside.{Outside, outside, NoneRose}
+use Rattle.gm_tool.specs.Roles.{IsAsking, roles_bounds}
 use Rattle.gm_tool.specs.Run.{IsRun, IsReportFault, IsOutputFault}
 use Rattle.gm_tool.specs.Statuses.{IsAmong, IsStatus, IsSilent, IsBefore, IsFaultless, IsReported, IsAfterwards, IsToldByStatus}
 use Rattle.gm_tool.specs.Steps.{IsBegun, Stops, Lists, Drills, Reports}
@@ -34,7 +37,9 @@ use Rattle.gm_tool.proofs.AcceptedLemmas.{not_refused, not_refused-evidence}
 use Rattle.gm_tool.proofs.ClosedLemmas.{complete_by, enumerated, is_reported, whole-text, partial-text}
 use Rattle.gm_tool.proofs.DrillLemmas.{full_counts-from}
 use Rattle.gm_tool.proofs.EvidenceLemmas.{valid-from}
+use Rattle.gm_tool.proofs.LongerLemmas.{unjudged-longer}
 use Rattle.gm_tool.proofs.ReadingLemmas.{IsStopped, stopped, unjudged, read-for, read-alone}
+use Rattle.gm_tool.proofs.WrittenLemmas.{run-after, writes-nothing, ListedLine, listed_finish, listed-fits, listed-logs, listed-run, is-listed, among-fits, same-unasked}
 use Rattle.gm_tool.proofs.StatusLemmas.{among-by}
 
 -- ---- endings without an enumeration
@@ -44,7 +49,7 @@ pub run-bare : (b : Bounds) (outputs : Outputs) (old new : FilesState) (got : Op
     → IsSilent status → ReadingLeaves old new → (status ≢ 6 → new.read_faults ≡ old.read_faults) → (IsToldByStatus status → Gets (error_line b status))
     → IsRun b outputs (outside old got faults) (outside new got faults) Gets (bare status)
 run-bare b outputs old new got faults Gets status silent leaves quiet line = record {
-  known = among-by IsStatus (2 ∷ 5 ∷ 6 ∷ 8 ∷ 9 ∷ 11 ∷ []) status silent (refl, (refl, (refl, (refl, (refl, (refl, tt))))));
+  known = among-by IsStatus (2 ∷ 5 ∷ 6 ∷ 8 ∷ 9 ∷ 11 ∷ 12 ∷ []) status silent (refl, (refl, (refl, (refl, (refl, (refl, (refl, tt)))))));
   learned = refl;
   nothing_listed = λ _. refl;
   before = λ _. leaves;
@@ -165,6 +170,28 @@ exporting-memory x old new got faults Gets leaves = record {
   within = λ _ _ _. refl;
 }
 
+pub asking-memory : (a : Asking) (old new : Outside) (Gets : List ℕ → Type 0) → ReadingLeaves old.files new.files → IsAsking a old new Gets (bare 8)
+asking-memory a old new Gets leaves = record {
+  statuses = refl;
+  told = λ after. absurd (false≢true after);
+  memory = λ _. refl;
+  judged = unjudged a.file a.focus None old.files new.files Gets 8 (omega arith) (omega arith) (omega arith);
+  unwritten = leaves;
+  accepted = λ _ _. refl;
+  complete = λ _ _ _. refl;
+}
+
+pub carrying-memory : (c : Carrying) (old new : Outside) (Gets : List ℕ → Type 0) → ReadingLeaves old.files new.files → IsCarrying c old new Gets (bare 8)
+carrying-memory c old new Gets leaves = record {
+  statuses = refl;
+  carried = λ after. absurd (false≢true after);
+  memory = λ _. inl (leaves, refl);
+  judged = unjudged-longer c.old c.known c.new old.files new.files Gets 8 (omega arith) (omega arith) (omega arith) (omega arith);
+  no_extension = λ _ _ _. refl;
+  accepted = λ _ _ _ _. refl;
+  enough = λ _ _ few. false≢true few;
+}
+
 every-memory : (b : Bounds) (outputs : Outputs) (o : Outside) → IsRun b outputs o o (λ told. line_of Memory ≡ told) (bare 8)
 every-memory b outputs o =
     run-bare b outputs o.files o.files o.got o.faults (λ told. line_of Memory ≡ told) 8 refl (ReadingLeaves-nothing o.files) (λ _. refl) (λ _. refl)
@@ -191,6 +218,14 @@ memory-at_once (Some (exporting x)) o = record {
   every = every-memory no_bounds (export_outputs x.cnf x.lrat) o;
   done = exporting-memory x o.files o.files o.got o.faults (λ told. line_of Memory ≡ told) (ReadingLeaves-nothing o.files);
 }
+memory-at_once (Some (asking a)) o = record {
+  every = every-memory (roles_bounds a.jobs) no_outputs o;
+  done = asking-memory a o o (λ told. line_of Memory ≡ told) (ReadingLeaves-nothing o.files);
+}
+memory-at_once (Some (carrying c)) o = record {
+  every = every-memory (carry_bounds c.jobs greatest_conflicts) (evidence_output c.evidence) o;
+  done = carrying-memory c o o (λ told. line_of Memory ≡ told) (ReadingLeaves-nothing o.files);
+}
 
 -- words without a reading
 untouched-bad_words : (o : Outside) → EndsAs None o o BadWords
@@ -204,84 +239,18 @@ pub bad_words : (old new : Outside) (e : Ending) → e ≡ BadWords → new ≡ 
 bad_words old new e bad untouched =
     subst (EndsAs None old new) (sym bad) (subst (λ (o : Outside). EndsAs None old o BadWords) (sym untouched) (untouched-bad_words old))
 
--- ---- endings behind what was read
-
-writes-nothing : (May : List ℕ → Type 0) (files : FilesState) → WritingLeaves May files files
-writes-nothing May files = record { names = λ name other. stays-same (files.held name); read_faults = refl }
-
--- where files were read, and then written perhaps
-pub run-after : (b : Bounds) (outputs : Outputs) (old : FilesState) (mid new : Outside) (Gets : List ℕ → Type 0) (finish : Finish)
-    → ReadingLeaves old mid.files → mid.files.read_faults ≡ old.read_faults → IsAmong (0 ∷ 3 ∷ 4 ∷ 7 ∷ 8 ∷ []) finish.status → finish.spent ≡ learned_in finish.logs
-    → WritingLeaves (λ name. In name outputs.names) mid.files new.files → (outputs.names ≡ [] → new.files ≡ mid.files) → (finish.status ≡ 8 → new.got ≡ mid.got)
-    → (IsReported finish.status → (new.files.write_faults ≡ mid.files.write_faults) × (new.faults ≡ mid.faults))
-    → (finish.status ≡ 7 → IsReportFault Gets (outside old mid.got mid.faults) new ⊎ IsOutputFault outputs Gets (outside old mid.got mid.faults) new)
-    → (IsToldByStatus finish.status → Gets (error_line b finish.status))
-    → IsRun b outputs (outside old mid.got mid.faults) new Gets finish
-run-after b outputs old mid new Gets finish reads quiet_reads among learned writes same silent quiet fault line = record {
-  known = among-by IsStatus (0 ∷ 3 ∷ 4 ∷ 7 ∷ 8 ∷ []) finish.status among (refl, (refl, (refl, (refl, (refl, tt)))));
-  learned = learned;
-  nothing_listed = λ early. absurd (late early);
-  before = λ early. absurd (late early);
-  silent =
-      λ s.
-      silent
-      (among-by (λ n. IsSilent n → n ≡ 8) (0 ∷ 3 ∷ 4 ∷ 7 ∷ 8 ∷ []) finish.status among
-      ((λ t. absurd (false≢true t)), ((λ t. absurd (false≢true t)), ((λ t. absurd (false≢true t)), ((λ t. absurd (false≢true t)), ((λ t. refl), tt))))) s);
-  no_fault_dropped =
-      λ faultless.
-      let q = quiet
-      (among-by (λ n. IsFaultless n → IsReported n) (0 ∷ 3 ∷ 4 ∷ 7 ∷ 8 ∷ []) finish.status among
-      ((λ t. refl), ((λ t. refl), ((λ t. refl), ((λ t. absurd (false≢true t)), ((λ t. absurd (false≢true t)), tt))))) faultless) in
-      record { reads = writes.read_faults ∙ quiet_reads; writes = q.0 ∙ reads.write_faults; report = q.1 };
-  write_fault = fault;
-  error_line = line;
-  unasked = λ none. subst (ReadingLeaves old) (sym (same none)) reads;
-  names = λ name other. subst (λ held. StaysAsTold (held name) (new.files.held name)) reads.names (writes.names name other);
-}
-  where
-    late : IsBefore finish.status → ⊥
-    late = among-by (λ n. IsBefore n → ⊥) (0 ∷ 3 ∷ 4 ∷ 7 ∷ 8 ∷ []) finish.status among (false≢true, (false≢true, (false≢true, (false≢true, (false≢true, tt)))))
-
--- the status of a verdict
-reported-known : (status : ℕ) → IsReported status → IsAmong (0 ∷ 3 ∷ 4 ∷ 7 ∷ 8 ∷ []) status
-reported-known status among = among-by (IsAmong (0 ∷ 3 ∷ 4 ∷ 7 ∷ 8 ∷ [])) (0 ∷ 3 ∷ 4 ∷ []) status among (refl, (refl, (refl, tt)))
-
 -- ---- a listing
 
--- what holds where evidence is asked for
-where-asked : (asked : Option (List ℕ)) (A : Type 0) → (asked ≢ None → A) → IfSome asked (λ _. A)
-where-asked None A f = tt
-where-asked (Some name) A f = f (λ e. let never : Some name ≡ None = e in cc)
-
--- the output that is asked for is the evidence's, if any
-none-asked : (asked : Option (List ℕ)) → (evidence_output asked).names ≡ [] → asked ≡ None
-none-asked None e = refl
-none-asked (Some name) e = let never : name ∷ [] ≡ [] = e in cc
-
-cut-line : (asked : Option (List ℕ)) → evidence_cut_line ≡ (evidence_output asked).cut_line
-cut-line None = refl
-cut-line (Some name) = refl
-
-leaves-asked : (asked : Option (List ℕ)) (old new : FilesState) → WritingLeaves (λ name. asked ≡ Some name) old new
-    → WritingLeaves (λ name. In name (evidence_output asked).names) old new
-leaves-asked None old new h = record {
-  names = λ name other. h.names name (λ is. let never : None ≡ Some name = is in cc);
-  read_faults = h.read_faults;
-}
-leaves-asked (Some output) old new h = record {
-  names = λ name other. h.names name (λ is. other (inl (same name is)));
-  read_faults = h.read_faults;
-}
-  where
-    same : (name : List ℕ) → Some output ≡ Some name → name ≡ output
-    same name is = cc
+-- what a listing that began with this keeps to
+abbrev pub course_of : Listing → Beginning → Course
+course_of l begun = record { first = begun.records; before = None; bounds = bounds_for l; told = bounds_for l }
 
 module _ (l : Listing) (old : FilesState) (mid new : Outside) (begun : Beginning) (reads : ReadingLeaves old mid.files)
     (is : IsBegun l.file l.focus l.resume old mid.files begun) where
   run-listed : (Gets : List ℕ → Type 0) (finish : Finish)
       → IsAmong (0 ∷ 3 ∷ 4 ∷ 7 ∷ 8 ∷ []) finish.status → (l.evidence ≡ None → new.files ≡ mid.files)
       → IsRun (bounds_for l) (evidence_output l.evidence) (outside old mid.got mid.faults) new Gets finish
-      → IsListed begun.problem begun.records (bounds_for l) l.evidence (outside old mid.got mid.faults) new Gets finish
+      → IsListed begun.problem begun.records (bounds_for l) finish.logs l.evidence (outside old mid.got mid.faults) new Gets finish
       → IsObeyed (Some (listing l)) (outside old mid.got mid.faults) new Gets finish
   run-listed Gets finish among same run h = record {
     every = run;
@@ -314,96 +283,30 @@ module _ (l : Listing) (old : FilesState) (mid new : Outside) (begun : Beginning
         listed = h;
       }
 
-  pub listing-lists : (e : Ending) → Lists begun.problem begun.records (bounds_for l) l.evidence mid new e
+  pub listing-lists : (e : Ending) → Lists begun.problem (course_of l begun) l.evidence mid new e
       → EndsAs (Some (listing l)) (outside old mid.got mid.faults) new e
-  listing-lists (Listed line left) h =
-      let c = left.closing in
-      let status = status_by c.verdict in
-      let reported = is_reported c.verdict h.0.enough_memory in
-      let among = reported-known status reported in
-      let seven : status ≢ 7 = λ e. false≢true (subst IsReported e reported) in
-      let eight : status ≢ 8 = λ e. false≢true (subst IsReported e reported) in
-      let Line : List ℕ → Type 0 = λ told. line.items ≡ told in
-      run-listed Line (after status left) among h.2.unasked
-      (run-after (bounds_for l) (evidence_output l.evidence) old mid new Line (after status left) reads is.quiet among h.0.left.spent (leaves-asked l.evidence mid.files new.files h.2.leaves) (λ none. h.2.unasked (none-asked l.evidence none)) (λ e. absurd (eight e))
-      (λ _. (h.2.quiet, h.4)) (λ e. absurd (seven e)) (λ _. h.1))
-      (record {
-        closing = c;
-        left = refl;
-        enumerated = enumerated h.0.left.closed h.0.enough_memory;
-        valid = where-asked l.evidence (IsValid begun.problem c) (λ wanted. valid-from c h.0.left.closed (h.2.ids wanted));
-        verdict = λ _. refl;
-        evidence = λ _. h.2.written;
-        whole = λ zero. subst (ToldAppends mid.got new.got) (whole-text h.0.left.closed zero) h.3;
-        partial = λ partial. subst (ToldAppends mid.got new.got) (partial-text begun.problem c partial) h.3;
-        cut_off = λ e. absurd (seven e);
-        memory = λ e. absurd (eight e);
-      })
-  listing-lists (CutOff left) h =
-      let c = left.closing in
-      let Line : List ℕ → Type 0 = λ told. line_of (CutOff left) ≡ told in
-      let fault : IsReportFault Line (outside old mid.got mid.faults) new = record { rose = h.3; line = refl } in
-      run-listed Line (after 7 left) refl h.1.unasked
-      (run-after (bounds_for l) (evidence_output l.evidence) old mid new Line (after 7 left) reads is.quiet refl h.0.left.spent (leaves-asked l.evidence mid.files new.files h.1.leaves) (λ none. h.1.unasked (none-asked l.evidence none)) (λ e. absurd (omega arith))
-      (λ e. absurd (false≢true e)) (λ _. inl fault) (λ e. absurd (false≢true e)))
-      (record {
-        closing = c;
-        left = refl;
-        enumerated = enumerated h.0.left.closed h.0.enough_memory;
-        valid = where-asked l.evidence (IsValid begun.problem c) (λ wanted. valid-from c h.0.left.closed (h.1.ids wanted));
-        verdict = λ e. absurd (false≢true e);
-        evidence = λ e. absurd (false≢true e);
-        whole = λ e. absurd (omega arith);
-        partial = λ e. absurd (false≢true e);
-        cut_off = λ _. inl (record { fault = fault; front = h.2; evidence = h.1.written });
-        memory = λ e. absurd (omega arith);
-      })
-  listing-lists (EvidenceCutOff left) h =
-      let c = left.closing in
-      let Line : List ℕ → Type 0 = λ told. line_of (EvidenceCutOff left) ≡ told in
-      let fault : IsOutputFault (evidence_output l.evidence) Line (outside old mid.got mid.faults) new =
-      record { wanted = λ none. h.1.wanted (none-asked l.evidence none); rose = subst (λ n. Rose n new.files.write_faults) reads.write_faults h.2; line = cut-line l.evidence; silent = h.3 } in
-      run-listed Line (after 7 left) refl (λ none. absurd (h.1.wanted none))
-      (run-after (bounds_for l) (evidence_output l.evidence) old mid new Line (after 7 left) reads is.quiet refl h.0.left.spent (leaves-asked l.evidence mid.files new.files h.1.leaves) (λ none. absurd (h.1.wanted (none-asked l.evidence none)))
-      (λ e. absurd (omega arith)) (λ e. absurd (false≢true e)) (λ _. inr fault) (λ e. absurd (false≢true e)))
-      (record {
-        closing = c;
-        left = refl;
-        enumerated = enumerated h.0.left.closed h.0.enough_memory;
-        valid = where-asked l.evidence (IsValid begun.problem c) (λ wanted. valid-from c h.0.left.closed h.1.ids);
-        verdict = λ e. absurd (false≢true e);
-        evidence = λ e. absurd (false≢true e);
-        whole = λ e. absurd (omega arith);
-        partial = λ e. absurd (false≢true e);
-        cut_off = λ _. inr (record { fault = fault; front = h.1.front });
-        memory = λ e. absurd (omega arith);
-      })
-  listing-lists (EvidenceMemory left) h =
-      let c = left.closing in
-      let Line : List ℕ → Type 0 = λ told. line_of (EvidenceMemory left) ≡ told in
-      run-listed Line (after 8 left) refl (λ none. absurd (h.1.wanted none))
-      (run-after (bounds_for l) (evidence_output l.evidence) old mid new Line (after 8 left) reads is.quiet refl h.0.left.spent (leaves-asked l.evidence mid.files new.files h.1.leaves) (λ none. absurd (h.1.wanted (none-asked l.evidence none)))
-      (λ _. h.2) (λ e. absurd (false≢true e)) (λ e. absurd (omega arith)) (λ _. refl))
-      (record {
-        closing = c;
-        left = refl;
-        enumerated = enumerated h.0.left.closed h.0.enough_memory;
-        valid = where-asked l.evidence (IsValid begun.problem c) (λ wanted. valid-from c h.0.left.closed h.1.ids);
-        verdict = λ e. absurd (false≢true e);
-        evidence = λ e. absurd (false≢true e);
-        whole = λ e. absurd (omega arith);
-        partial = λ e. absurd (false≢true e);
-        cut_off = λ e. absurd (omega arith);
-        memory = λ _. (h.1.wanted, h.1.front);
-      })
-  listing-lists Memory h =
-      subst (λ o. EndsAs (Some (listing l)) (outside old mid.got mid.faults) o Memory) (sym h)
+  listing-lists e (inl (memory, same)) =
+      subst (EndsAs (Some (listing l)) (outside old mid.got mid.faults) new) (sym memory)
+      (subst (λ o. EndsAs (Some (listing l)) (outside old mid.got mid.faults) o Memory) (sym same)
       (record {
         every =
             run-bare (bounds_for l) (evidence_output l.evidence) old mid.files mid.got mid.faults (λ told. line_of Memory ≡ told) 8 refl reads (λ _. is.quiet) (λ _. refl);
         done = listing-memory l (outside old mid.got mid.faults) mid (λ told. line_of Memory ≡ told) reads;
-      })
-  listing-lists _ h = absurd h
+      }))
+  listing-lists e (inr (ready, ok, written, ending, writes)) =
+      let p = begun.problem in
+      let course = course_of l begun in
+      let Line = ListedLine p course l.evidence old mid new reads is.quiet ready ok written in
+      let finish = listed_finish p course l.evidence old mid new reads is.quiet ready ok written in
+      let fits = listed-fits p course l.evidence old mid new reads is.quiet ready ok written in
+      subst (EndsAs (Some (listing l)) (outside old mid.got mid.faults) new) (sym ending)
+      (run-listed Line finish
+      (among-fits p l.evidence ready.left.closing old mid new reads is.quiet course.told Line finish written fits)
+      (same-unasked p l.evidence ready.left.closing old mid new reads is.quiet course.told Line written writes)
+      (listed-run p course l.evidence old mid new reads is.quiet ready ok written writes)
+      (subst (λ logs. IsListed p begun.records (bounds_for l) logs l.evidence (outside old mid.got mid.faults) new Line finish)
+      (sym (listed-logs p course l.evidence old mid new reads is.quiet ready ok written))
+      (is-listed p course l.evidence old mid new reads is.quiet ready ok written writes)))
 
 -- ---- a checking
 
@@ -501,7 +404,7 @@ module _ (d : Drilling) (old new : Outside) (untouched : new.files ≡ old.files
   drilling-drills (Listed line left) h =
       let c = left.closing in
       let status = status_by c.verdict in
-      let reported = is_reported c.verdict h.0.enough_memory in
+      let reported = is_reported h.0.left.closed h.0.enough_memory in
       run-drilled (λ told. line.items ≡ told) (after status left)
       (among-by IsAfterwards (0 ∷ 3 ∷ 4 ∷ []) status reported (refl, (refl, (refl, tt)))) h.0.left.spent
       (record {
@@ -509,7 +412,7 @@ module _ (d : Drilling) (old new : Outside) (untouched : new.files ≡ old.files
         left = refl;
         enumerated = enumerated h.0.left.closed h.0.enough_memory;
         verdict = λ _. refl;
-        whole = λ zero. subst (ToldAppends old.got new.got) (full_counts-from h.0.left.closed (complete_by h.0.left.closed zero)) h.2;
+        whole = λ zero. subst (ToldAppends old.got new.got) (full_counts-from h.0.left.closed (complete_by h.0.left.closed refl zero)) h.2;
         partial = λ _. h.2;
         cut_off = λ seven. absurd (false≢true (subst IsReported seven reported));
       })

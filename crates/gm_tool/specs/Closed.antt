@@ -5,21 +5,22 @@ use Rattle.gm_base.specs.Problem.{Problem}
 use Rattle.gm_base.specs.declared.kind.Kind.TheVariants.{Conflict, Correction}
 use Rattle.gm_base.specs.Minimal.{conflicts, corrections}
 use Rattle.report_text.specs.Report.{report_text}
+use Rattle.gm_words.specs.Reading.{greatest_conflicts, greatest_limit}
 use Rattle.lrat_steps.specs.Log.{LogStep, db_of}
 use Rattle.lrat_steps.specs.Undecided.{Undecided}
 use Rattle.evidence_rec.specs.declared.record.Record.{Record}
-use Rattle.evidence_rec.specs.Records.{IsMinimal}
+use Rattle.evidence_rec.specs.Records.{IsMinimal, founds}
 pub use Rattle.evidence_rec.specs.Held.{conflicts_in, corrections_in}
 use Rattle.map_core.specs.declared.entry.Call.TheVariants.{Take}
 use Rattle.map_core.specs.declared.entry.Reply.TheVariants.{Dry}
 use Rattle.map_core.specs.declared.entry.Entry.{Entry}
 use Rattle.map_core.specs.declared.entry.Opening.{Opening}
-use Rattle.map_core.specs.declared.entry.Goal.TheVariants.{All}
+use Rattle.map_core.specs.declared.entry.Goal.{Goal}
 use Rattle.map_core.specs.declared.closing.Verdict.{Verdict}
 use Rattle.map_core.specs.declared.closing.Verdict.TheVariants as verdict
 use Rattle.map_core.specs.declared.closing.Closing.{Closing}
 use Rattle.map_core.specs.Closings.{HoldsAll}
-use Rattle.map_core.specs.Core.{is_held}
+use Rattle.map_core.specs.Core.{is_held, is_told}
 use Rattle.map_core.specs.Own.{calls_of}
 use Rattle.map_core.specs.Sound.{AreNew}
 use Rattle.gm_tool.specs.declared.enumeration.Bounds.{Bounds}
@@ -28,9 +29,13 @@ use Rattle.worker_pool.specs.Course.{EndsUndecided}
 pub use Rattle.worker_pool.specs.Outcomes.{learned_in}
 use Rattle.worker_pool.specs.Outcomes as pool
 
--- these records first, as many workers as are wanted, all sets, and a map that gives tops alone
+-- the greatest bounds, where this is wanted of so many workers
+abbrev pub greatest_bounds : Goal → ℕ → Bounds
+greatest_bounds goal jobs = record { jobs = jobs; conflicts = greatest_conflicts; limit = greatest_limit; goal = goal }
+
+-- these records first, as many workers as are wanted, what is wanted, and a map that gives tops alone
 abbrev pub opening_for : Problem → List Record → Bounds → Opening
-opening_for p first b = record { problem = p; records = first; workers = b.jobs; budget = b.conflicts; limit = b.limit; goal = All; tops = true }
+opening_for p first b = record { problem = p; records = first; workers = b.jobs; budget = b.conflicts; limit = b.limit; goal = b.goal; tops = true }
 
 -- what is left of a board that its history makes of this opening: an honest log of each worker, in their order, and last the
 -- map's, in which as much was learnt as the history says that was used
@@ -59,6 +64,7 @@ pub record AreDistinctMinimal (p : Problem) (records : List Record) : Type 0 whe
 abbrev pub is_complete : Verdict → Bool
 is_complete verdict.Complete = true
 is_complete verdict.Settled = false
+is_complete verdict.Journal = false
 is_complete verdict.Memory = false
 is_complete verdict.Limit = false
 is_complete verdict.Budget = false
@@ -89,9 +95,11 @@ pub record IsEnumerated (p : Problem) (first : List Record) (b : Bounds) (logs :
   -- the records are of minimal conflicts and minimal corrections, no two the same
   pub minimal : AreDistinctMinimal p closing.records
   pub enough_memory : closing.verdict ≢ verdict.Memory
-  -- all sets were wanted
-  pub not_settled : closing.verdict ≢ verdict.Settled
-  -- nothing is missing, the budget is spent, or there are as many as were wanted
+  -- there is no journal
+  pub no_journal : closing.verdict ≢ verdict.Journal
+  -- roles alone were wanted, and the records tell each group's; or nothing is missing, the budget is spent, or there are as many
+  -- as were wanted
+  pub settled : closing.verdict ≡ verdict.Settled → is_told b.goal p.groups (founds closing.records) ≡ true
   pub all : closing.verdict ≡ verdict.Complete → HoldsAll p closing.records
   pub budget : closing.verdict ≡ verdict.Budget → IsBudgetSpent p b logs closing
   pub limit : closing.verdict ≡ verdict.Limit → HasLimit first b closing

@@ -5,12 +5,13 @@ use Rattle.gm_base.specs.Minimal.{conflicts, corrections}
 use Rattle.gm_ports.specs.Faults.{Rose}
 use Rattle.gm_ports.specs.Told.{ToldAppends, ToldGrowsWithin}
 use Rattle.gcnf_text.specs.Chain.{made_case}
-use Rattle.gm_words.specs.Reading.{Drilling, greatest_conflicts, greatest_limit}
+use Rattle.gm_words.specs.Reading.{Drilling}
 use Rattle.evidence_rec.specs.declared.record.Record.{Record}
 use Rattle.map_core.specs.declared.closing.Closing.{Closing}
 use Rattle.gm_tool.specs.declared.enumeration.Bounds.{Bounds}
 use Rattle.gm_tool.specs.declared.ending.Finish.{Finish}
-use Rattle.gm_tool.specs.Closed.{IsEnumerated, conflicts_in, corrections_in}
+use Rattle.map_core.specs.declared.entry.Goal.TheVariants.{All}
+use Rattle.gm_tool.specs.Closed.{IsEnumerated, conflicts_in, corrections_in, greatest_bounds}
 use Rattle.gm_tool.specs.Endings.{bare, status_by}
 use Rattle.gm_tool.specs.Outside.{Outside}
 use Rattle.gm_tool.specs.Run.{IsReportFault}
@@ -18,7 +19,7 @@ use Rattle.gm_tool.specs.Statuses.{IsAmong, IsAfterwards, IsReported, IsPartial}
 
 -- the greatest bounds, for so many workers
 abbrev pub drill_bounds : ℕ → Bounds
-drill_bounds jobs = record { jobs = jobs; conflicts = greatest_conflicts; limit = greatest_limit }
+drill_bounds jobs = greatest_bounds All jobs
 
 -- the line of a drilling: how many groups there are, how many conflicts and how many corrections
 unfoldable pub drill_line : ℕ → ℕ → ℕ → List ℕ

@@ -9,8 +9,11 @@ use Rattle.map_core.specs.declared.closing.Verdict.TheVariants as verdict
 use Rattle.gm_tool.specs.declared.enumeration.Bounds.{Bounds}
 use Rattle.gm_tool.specs.declared.enumeration.Enumerated.{Enumerated}
 use Rattle.gm_tool.specs.declared.ending.Ending.{Ending}
-use Rattle.gm_tool.specs.declared.ending.Ending.TheVariants.{BadWords, Refused, ReadFault, EvidenceFault, EvidenceRefused, Checked, CheckCutOff, Memory, Listed, CutOff, EvidenceCutOff, EvidenceMemory, Exported, ExportCutOff, NoConflict}
+use Rattle.gm_tool.specs.declared.ending.Ending.TheVariants.{BadWords, Refused, ReadFault, EvidenceFault, EvidenceRefused, Checked, CheckCutOff, Memory, Listed, CutOff, EvidenceCutOff, EvidenceMemory, Exported, ExportCutOff, NoConflict, NoExtension, Dried, DriedCutOff}
 use Rattle.gm_tool.specs.declared.ending.Finish.{Finish}
+use Rattle.gm_tool.specs.declared.ending.Spent.{Spent}
+use Rattle.gm_tool.specs.declared.writing.Stop.{Stop}
+use Rattle.gm_tool.specs.declared.writing.Stop.TheVariants.{EvidenceFault as EvidenceStop, EvidenceMemory as MemoryStop, ReportFault}
 use Rattle.gm_tool.specs.Lines.{budget_line, limit_line}
 
 -- the status of an enumeration's verdict; that roles are settled comes only where roles alone are wanted
@@ -19,6 +22,7 @@ status_by verdict.Complete = 0
 status_by verdict.Settled = 0
 status_by verdict.Budget = 3
 status_by verdict.Limit = 4
+status_by verdict.Journal = 7
 status_by verdict.Memory = 8
 
 -- the answer without an enumeration
@@ -28,6 +32,16 @@ bare status = record { status = status; spent = 0; logs = []; closing = None }
 -- the answer after an enumeration
 abbrev pub after : ℕ → Enumerated → Finish
 after status left = record { status = status; spent = left.spent; logs = left.logs; closing = Some left.closing }
+
+-- the answer where the budget was spent before an enumeration began
+abbrev pub dried : ℕ → Spent → Finish
+dried status left = record { status = status; spent = left.spent; logs = left.logs; closing = None }
+
+-- the status of a writing that was cut off
+abbrev pub status_at : Stop → ℕ
+status_at EvidenceStop = 7
+status_at MemoryStop = 8
+status_at ReportFault = 7
 
 -- the answer of each ending
 abbrev pub finish_of : Ending → Finish
@@ -46,6 +60,9 @@ finish_of (EvidenceMemory left) = after 8 left
 finish_of Exported = bare 0
 finish_of ExportCutOff = bare 7
 finish_of (NoConflict line) = bare 11
+finish_of (NoExtension line) = bare 12
+finish_of (Dried line left) = dried 3 left
+finish_of (DriedCutOff stop left) = dried (status_at stop) left
 
 -- the texts that tell which file could not be read
 abbrev pub input_fault_line : List ℕ
@@ -71,9 +88,15 @@ plain_line status =
     else (if status == 6 then input_fault_line
     else (if status == 7 then report_cut_line else (if status == 8 then codes "gmus: out of memory\n" else [])))
 
--- the line on standard error that comes with a status other than 5, 6, 7, 9 and 11, if any
+-- the line on standard error that comes with a status other than 5, 6, 7, 9, 11 and 12, if any
 abbrev pub error_line : Bounds → ℕ → List ℕ
 error_line b status = if status == 3 then budget_line b.conflicts else (if status == 4 then limit_line b.limit else plain_line status)
+
+-- the line that comes with a writing that was cut off
+abbrev pub line_at : Stop → List ℕ
+line_at EvidenceStop = evidence_cut_line
+line_at MemoryStop = plain_line 8
+line_at ReportFault = report_cut_line
 
 -- the line that comes with an ending
 abbrev pub line_of : Ending → List ℕ
@@ -84,4 +107,7 @@ line_of (Listed line left) = line.items
 line_of (EvidenceCutOff left) = evidence_cut_line
 line_of ExportCutOff = export_cut_line
 line_of (NoConflict line) = line.items
+line_of (NoExtension line) = line.items
+line_of (Dried line left) = line.items
+line_of (DriedCutOff stop left) = line_at stop
 line_of ending = plain_line (finish_of ending).status

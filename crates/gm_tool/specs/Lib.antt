@@ -14,8 +14,12 @@ pub mod Resuming
 pub mod Evidence
 pub mod Prepared
 pub mod Listing
+pub mod Longer
+pub mod Carrying
 pub mod Drilling
 pub mod Checking
 pub mod Exporting
+pub mod Roles
 pub mod Words
 pub mod Steps
+pub mod CarrySteps

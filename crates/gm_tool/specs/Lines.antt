@@ -1,4 +1,5 @@
--- The lines on standard error that tell a number of the command line: which bound was reached, and which conflict there isn't.
+-- The lines on standard error that tell a number: which bound was reached, which conflict there isn't, and where a file extends
+-- another one no more.
 use Rattle.std.specs.Prelude.{ℕ, List, ◌++◌, codes}
 use Rattle.std.specs.Fmt.{decimal}
 
@@ -11,3 +12,7 @@ limit_line limit = codes "gmus: limit of " ++ decimal limit ++ codes " records r
 -- and the line that tells that there are fewer conflicts
 abbrev pub no_conflict_line : ℕ → List ℕ
 no_conflict_line number = codes "gmus: no conflict " ++ decimal number ++ codes "\n"
+
+-- and the line that tells at which clause a file extends another one no more
+abbrev pub no_extension_line : ℕ → List ℕ
+no_extension_line place = codes "gmus: not an extension: clause " ++ decimal place ++ codes "\n"

@@ -4,8 +4,10 @@ use Rattle.gm_base.specs.Problem.{Problem}
 use Rattle.gm_ports.specs.FilesState.{ReadingLeaves}
 use Rattle.gm_ports.specs.Told.{ToldAppends, ToldGrowsWithin}
 use Rattle.gm_words.specs.Reading.{Listing}
+use Rattle.lrat_steps.specs.Log.{LogStep}
 use Rattle.evidence_rec.specs.declared.record.Record.{Record}
 use Rattle.map_core.specs.declared.closing.Closing.{Closing}
+use Rattle.map_core.specs.declared.entry.Goal.TheVariants.{All}
 use Rattle.gm_tool.specs.declared.enumeration.Bounds.{Bounds}
 use Rattle.gm_tool.specs.declared.ending.Finish.{Finish}
 use Rattle.gm_tool.specs.Closed.{IsEnumerated, full_report, held_report, report_for}
@@ -22,7 +24,7 @@ use Rattle.gm_tool.specs.Writing.{IsWritten, IsFront}
 
 -- the bounds that a listing is asked for
 abbrev pub bounds_for : Listing → Bounds
-bounds_for l = record { jobs = l.jobs; conflicts = l.conflicts; limit = l.limit }
+bounds_for l = record { jobs = l.jobs; conflicts = l.conflicts; limit = l.limit; goal = All }
 
 -- the report was cut off, behind evidence that stands whole where it was asked for
 pub record IsReportCut (p : Problem) (asked : Option (List ℕ)) (closing : Closing) (old new : Outside) (Gets : List ℕ → Type 0) : Type 0 where
@@ -35,22 +37,28 @@ pub record IsEvidenceCut (p : Problem) (asked : Option (List ℕ)) (closing : Cl
   pub fault : IsOutputFault (evidence_output asked) Gets old new
   pub front : IsFront (evidence_of p closing) new.files
 
--- the enumeration of a problem is over, which began with these records and was asked for evidence under this name, if any
-pub record IsListed (p : Problem) (first : List Record) (b : Bounds) (asked : Option (List ℕ)) (old new : Outside) (Gets : List ℕ → Type 0) (finish : Finish) : Type 0 where
-  -- what is left of it, and that as evidence it is valid
+-- what was written of the evidence and of the report of a closing, by the status
+pub record IsPutOut (p : Problem) (asked : Option (List ℕ)) (closing : Closing) (old new : Outside) (Gets : List ℕ → Type 0) (status : ℕ) : Type 0 where
+  -- as evidence it is valid
+  pub valid : IfSome asked (λ _. IsValid p closing)
+  -- with 0, 3 and 4 the evidence is written
+  pub evidence : IsReported status → IfSome asked (λ name. IsWritten name (evidence_of p closing) new.files)
+  -- with 7 either of the two was cut off, and with 8 the evidence, of which a front part was written
+  pub cut_off : status ≡ 7 → IsReportCut p asked closing old new Gets ⊎ IsEvidenceCut p asked closing old new Gets
+  pub memory : status ≡ 8 → (asked ≢ None) × IsFront (evidence_of p closing) new.files
+
+-- the enumeration of a problem is over, which began with these records and was asked for evidence under this name, if any; these
+-- are its logs
+pub record IsListed (p : Problem) (first : List Record) (b : Bounds) (logs : List (List LogStep)) (asked : Option (List ℕ)) (old new : Outside) (Gets : List ℕ → Type 0) (finish : Finish) : Type 0 where
   pub closing : Closing
   pub left : finish.closing ≡ Some closing
-  pub enumerated : IsEnumerated p first b finish.logs closing
-  pub valid : IfSome asked (λ _. IsValid p closing)
-  -- with 0, 3 and 4 the status is that of the verdict, and the evidence is written; with 0 then the whole report, with 3 and 4
-  -- the partial one, and nothing else
+  pub enumerated : IsEnumerated p first b logs closing
+  pub put_out : IsPutOut p asked closing old new Gets finish.status
+  -- with 0, 3 and 4 the status is that of the verdict; with 0 the report is the whole one, with 3 and 4 the partial one, and
+  -- nothing else is written there
   pub verdict : IsReported finish.status → status_by closing.verdict ≡ finish.status
-  pub evidence : IsReported finish.status → IfSome asked (λ name. IsWritten name (evidence_of p closing) new.files)
   pub whole : finish.status ≡ 0 → ToldAppends old.got new.got (full_report p)
   pub partial : IsPartial finish.status → ToldAppends old.got new.got (held_report p closing.records)
-  -- with 7 either of the two was cut off, and with 8 the evidence, of which a front part was written
-  pub cut_off : finish.status ≡ 7 → IsReportCut p asked closing old new Gets ⊎ IsEvidenceCut p asked closing old new Gets
-  pub memory : finish.status ≡ 8 → (asked ≢ None) × IsFront (evidence_of p closing) new.files
 
 -- the file is a text of this problem, narrowed where some groups are in focus, which was listed from the records that it goes on from
 pub record IsListedFrom (l : Listing) (old new : Outside) (Gets : List ℕ → Type 0) (finish : Finish) : Type 0 where
@@ -60,7 +68,7 @@ pub record IsListedFrom (l : Listing) (old new : Outside) (Gets : List ℕ → T
   -- whether the evidence that it goes on from, if any, is complete
   pub complete : Bool
   pub goes_on : GoesOnFrom problem l.resume old.files.held complete first
-  pub listed : IsListed problem first (bounds_for l) l.evidence old new Gets finish
+  pub listed : IsListed problem first (bounds_for l) finish.logs l.evidence old new Gets finish
 
 pub record IsListing (l : Listing) (old new : Outside) (Gets : List ℕ → Type 0) (finish : Finish) : Type 0 where
   pub statuses : IsAmong (0 ∷ 3 ∷ 4 ∷ 5 ∷ 6 ∷ 7 ∷ 8 ∷ 9 ∷ []) finish.status

@@ -7,11 +7,11 @@ IsAmong statuses status = IsTrue (list_any (λ s. status == s) statuses)
 
 -- all statuses
 abbrev pub IsStatus : ℕ → Type 0
-IsStatus status = IsAmong (0 ∷ 2 ∷ 3 ∷ 4 ∷ 5 ∷ 6 ∷ 7 ∷ 8 ∷ 9 ∷ 11 ∷ []) status
+IsStatus status = IsAmong (0 ∷ 2 ∷ 3 ∷ 4 ∷ 5 ∷ 6 ∷ 7 ∷ 8 ∷ 9 ∷ 11 ∷ 12 ∷ []) status
 
 -- those that come without an enumeration, and before any output is opened
 abbrev pub IsBefore : ℕ → Type 0
-IsBefore status = IsAmong (2 ∷ 5 ∷ 6 ∷ 9 ∷ 11 ∷ []) status
+IsBefore status = IsAmong (2 ∷ 5 ∷ 6 ∷ 9 ∷ 11 ∷ 12 ∷ []) status
 
 -- those that come after an enumeration that had memory
 abbrev pub IsAfterwards : ℕ → Type 0
@@ -27,11 +27,11 @@ IsPartial status = IsAmong (3 ∷ 4 ∷ []) status
 
 -- those with which nothing is written to the report's sink
 abbrev pub IsSilent : ℕ → Type 0
-IsSilent status = IsAmong (2 ∷ 5 ∷ 6 ∷ 8 ∷ 9 ∷ 11 ∷ []) status
+IsSilent status = IsAmong (2 ∷ 5 ∷ 6 ∷ 8 ∷ 9 ∷ 11 ∷ 12 ∷ []) status
 
 -- those with which no fault was met
 abbrev pub IsFaultless : ℕ → Type 0
-IsFaultless status = IsAmong (0 ∷ 2 ∷ 3 ∷ 4 ∷ 5 ∷ 9 ∷ 11 ∷ []) status
+IsFaultless status = IsAmong (0 ∷ 2 ∷ 3 ∷ 4 ∷ 5 ∷ 9 ∷ 11 ∷ 12 ∷ []) status
 
 -- those that tell which line standard error gets
 abbrev pub IsToldByStatus : ℕ → Type 0

@@ -1,5 +1,5 @@
 -- What each step of a command promises, by the ending that it comes to; and what it hands to the next.
-use Rattle.std.specs.Prelude.{◌≡◌, ◌≢◌, ◌<◌, ℕ, Bool, true, false, List, [], ◌∷◌, length, Option, Some, None, IfSome}
+use Rattle.std.specs.Prelude.{◌≡◌, ◌≢◌, ◌⊎◌, Result, Ok, Err, ◌<◌, ℕ, Bool, true, false, List, [], ◌∷◌, length, Option, Some, None, IfSome}
 use Rattle.std.specs.Borrow.{Bor}
 use Rattle.sat_base.specs.Members.{In}
 use Rattle.gm_base.specs.Problem.{Problem}
@@ -22,6 +22,10 @@ use Rattle.gm_tool.specs.declared.ending.Ending.{Ending}
 use Rattle.gm_tool.specs.declared.ending.Ending.TheVariants.{Refused, ReadFault, EvidenceFault, EvidenceRefused, Checked, CheckCutOff, Memory, Listed, CutOff, EvidenceCutOff, EvidenceMemory, Exported, ExportCutOff, NoConflict}
 use Rattle.gm_tool.specs.declared.export.Texts.{Texts}
 use Rattle.gm_tool.specs.declared.judging.Judged.{Judged}
+use Rattle.gm_tool.specs.declared.list.Course.{Course}
+use Rattle.gm_tool.specs.declared.prepared.Prepared.{Prepared}
+use Rattle.gm_tool.specs.declared.writing.Stop.{Stop}
+use Rattle.gm_tool.specs.declared.writing.Stop.TheVariants as stop
 use Rattle.gm_tool.specs.declared.judging.Judged.TheVariants as judged
 use Rattle.gm_tool.specs.Closed.{report_for}
 use Rattle.gm_tool.specs.Drilling.{held_counts}
@@ -32,12 +36,20 @@ use Rattle.gm_tool.specs.Input.{OfFile, IsReadFor}
 use Rattle.gm_tool.specs.Judging.{IsRefusal, IsEvidenceRefusal, IsEvidenceUnread}
 use Rattle.gm_tool.specs.Lines.{no_conflict_line}
 use Rattle.gm_tool.specs.Outside.{Outside}
-use Rattle.gm_tool.specs.Prepared.{IsOver}
+use Rattle.gm_tool.specs.Prepared.{IsOver, IsReady}
 use Rattle.gm_tool.specs.Refusals.{refusal_line, evidence_line}
 use Rattle.gm_tool.specs.Resuming.{AreShown, GoesOnFrom}
+use Rattle.gm_tool.specs.Roles.{TellsRoles, are_told, roles_report}
 use Rattle.gm_tool.specs.Writing.{IsWritten, IsFront, AreWritten, AreCutOff}
 
 -- ---- what is read
+
+-- what stopped the reading of a file
+abbrev pub StopsReading : List ℕ → FilesState → FilesState → Ending → Type 0
+StopsReading file old new (Refused line) = (new.read_faults ≡ old.read_faults) × IsRefusal (old.held file) (λ told. line.items ≡ told)
+StopsReading file old new ReadFault = Rose old.read_faults new.read_faults
+StopsReading file old new Memory = new.read_faults ≡ old.read_faults
+StopsReading file old new _ = ⊥
 
 -- what became of the evidence that is held under a name
 abbrev pub Judges : Problem → Option (Option (List ℕ)) → Judged → Type 0
@@ -108,20 +120,29 @@ pub record IsEvidenceFront (p : Problem) (asked : Option (List ℕ)) (closing : 
   pub ids : HasSmallIds closing
   pub leaves : WritingLeaves (λ name. asked ≡ Some name) old new
 
--- a problem is listed, and its evidence and its report are written, or what cut them off
-abbrev pub Lists : Problem → List Record → Bounds → Option (List ℕ) → Outside → Outside → Ending → Type 0
-Lists p first b asked old new (Listed line left) =
-    IsOver p first b left × (line.items ≡ error_line b (status_by left.closing.verdict)) × IsEvidenceWhole p asked left.closing old.files new.files
-    × ToldAppends old.got new.got (report_for p left.closing) × (new.faults ≡ old.faults)
-Lists p first b asked old new (CutOff left) =
-    IsOver p first b left × IsEvidenceWhole p asked left.closing old.files new.files
-    × ToldGrowsWithin old.got new.got (report_for p left.closing) × Rose old.faults new.faults
-Lists p first b asked old new (EvidenceCutOff left) =
-    IsOver p first b left × IsEvidenceFront p asked left.closing old.files new.files × Rose old.files.write_faults new.files.write_faults × (new.got ≡ old.got)
-Lists p first b asked old new (EvidenceMemory left) =
-    IsOver p first b left × IsEvidenceFront p asked left.closing old.files new.files × (new.got ≡ old.got)
-Lists p first b asked old new Memory = new ≡ old
-Lists p first b asked old new _ = ⊥
+-- the evidence of a closing is written, where it is asked for, and the report behind it, or what cut them off
+abbrev pub Writes : Problem → Option (List ℕ) → Closing → List ℕ → Outside → Outside → Result (Unit {0}) Stop → Type 0
+Writes p asked closing report old new (Ok done) =
+    IsEvidenceWhole p asked closing old.files new.files × ToldAppends old.got new.got report × (new.faults ≡ old.faults)
+Writes p asked closing report old new (Err stop.ReportFault) =
+    IsEvidenceWhole p asked closing old.files new.files × ToldGrowsWithin old.got new.got report × Rose old.faults new.faults
+Writes p asked closing report old new (Err stop.EvidenceFault) =
+    IsEvidenceFront p asked closing old.files new.files × Rose old.files.write_faults new.files.write_faults × (new.got ≡ old.got)
+Writes p asked closing report old new (Err stop.EvidenceMemory) = IsEvidenceFront p asked closing old.files new.files × (new.got ≡ old.got)
+
+-- how a listing ends that was ready, and was written, or cut off
+abbrev pub listed_by : Prepared → Result (Unit {0}) Stop → Ending
+listed_by ready (Ok done) = Listed ready.line ready.left
+listed_by ready (Err stop.ReportFault) = CutOff ready.left
+listed_by ready (Err stop.EvidenceFault) = EvidenceCutOff ready.left
+listed_by ready (Err stop.EvidenceMemory) = EvidenceMemory ready.left
+
+-- a problem is listed, and its evidence and its report are written, or what cut them off; or memory was wanting before
+abbrev pub Lists : Problem → Course → Option (List ℕ) → Outside → Outside → Ending → Type 0
+Lists p course asked old new e =
+    ((e ≡ Memory) × (new ≡ old))
+    ⊎ ((ready : Prepared) × IsReady p course ready × (written : Result (Unit {0}) Stop) × (e ≡ listed_by ready written)
+    × Writes p asked ready.left.closing (report_for p ready.left.closing) old new written)
 
 -- a problem is listed, and the line of its counts is written, or cut off
 abbrev pub Drills : Problem → Bounds → Outside → Outside → Ending → Type 0
@@ -132,6 +153,16 @@ Drills p b old new (CutOff left) =
     IsOver p [] b left × ToldGrowsWithin old.got new.got (held_counts p left.closing.records) × Rose old.faults new.faults
 Drills p b old new Memory = new ≡ old
 Drills p b old new _ = ⊥
+
+-- a problem is enumerated for the roles of its groups, and their text is written where they are told, or cut off
+abbrev pub Asks : Problem → Bounds → Outside → Outside → Ending → Type 0
+Asks p b old new (Listed line left) =
+    IsOver p [] b left × (line.items ≡ error_line b (status_by left.closing.verdict))
+    × TellsRoles p (are_told left.closing.verdict) old.got new.got × (new.faults ≡ old.faults)
+Asks p b old new (CutOff left) =
+    IsOver p [] b left × (are_told left.closing.verdict ≡ true) × ToldGrowsWithin old.got new.got (roles_report p) × Rose old.faults new.faults
+Asks p b old new Memory = new ≡ old
+Asks p b old new _ = ⊥
 
 -- the report of what evidence shows is written, or cut off
 abbrev pub Reports : List ℕ → Outside → Outside → Ending → Type 0

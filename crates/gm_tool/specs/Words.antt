@@ -1,10 +1,12 @@
 -- What the words of a run ask for, and what is then true.
 use Rattle.std.specs.Prelude.{◌≡◌, ℕ, List, [], ◌∷◌, map, Option, Some, None, String}
 use Rattle.std.specs.String.{string_bytes}
-use Rattle.gm_words.specs.Reading.{Asked, words_read, listing, checking, drilling, exporting}
+use Rattle.gm_words.specs.Reading.{Asked, greatest_conflicts, words_read, listing, checking, drilling, exporting, asking, carrying}
+use Rattle.map_core.specs.declared.entry.Goal.TheVariants.{All}
 use Rattle.gm_tool.specs.declared.enumeration.Bounds.{Bounds}
 use Rattle.gm_tool.specs.declared.ending.Ending.{Ending}
 use Rattle.gm_tool.specs.declared.ending.Finish.{Finish}
+use Rattle.gm_tool.specs.Carrying.{IsCarrying, carry_bounds}
 use Rattle.gm_tool.specs.Checking.{IsChecking}
 use Rattle.gm_tool.specs.Drilling.{IsDrilling, drill_bounds}
 use Rattle.gm_tool.specs.Endings.{bare, finish_of, line_of}
@@ -12,6 +14,7 @@ use Rattle.gm_tool.specs.Exporting.{IsExporting}
 use Rattle.gm_tool.specs.Listing.{IsListing, bounds_for}
 use Rattle.gm_tool.specs.Outputs.{Outputs, evidence_output, export_outputs, no_outputs}
 use Rattle.gm_tool.specs.Outside.{Outside}
+use Rattle.gm_tool.specs.Roles.{IsAsking, roles_bounds}
 use Rattle.gm_tool.specs.Run.{IsRun}
 use Rattle.gm_tool.specs.Statuses.{IsAmong}
 
@@ -21,15 +24,18 @@ asked_in words = words_read (map string_bytes words)
 
 -- no bounds
 abbrev pub no_bounds : Bounds
-no_bounds = record { jobs = 0; conflicts = 0; limit = 0 }
+no_bounds = record { jobs = 0; conflicts = 0; limit = 0; goal = All }
 
--- the bounds that they ask for; no bound is named where they ask for no enumeration, and a drilling has the greatest
+-- the bounds that they ask for; no bound is named where they ask for no enumeration, and a drilling and a carrying have the
+-- greatest, as has who asks for roles
 abbrev pub bounds_of : Option Asked → Bounds
 bounds_of None = no_bounds
 bounds_of (Some (listing l)) = bounds_for l
 bounds_of (Some (checking c)) = no_bounds
 bounds_of (Some (drilling d)) = drill_bounds d.jobs
 bounds_of (Some (exporting x)) = no_bounds
+bounds_of (Some (asking a)) = roles_bounds a.jobs
+bounds_of (Some (carrying c)) = carry_bounds c.jobs greatest_conflicts
 
 -- the files that they ask to be written
 abbrev pub outputs_of : Option Asked → Outputs
@@ -38,6 +44,8 @@ outputs_of (Some (listing l)) = evidence_output l.evidence
 outputs_of (Some (checking c)) = no_outputs
 outputs_of (Some (drilling d)) = no_outputs
 outputs_of (Some (exporting x)) = export_outputs x.cnf x.lrat
+outputs_of (Some (asking a)) = no_outputs
+outputs_of (Some (carrying c)) = evidence_output c.evidence
 
 -- words without a reading touch nothing
 pub record IsUnread (old new : Outside) (finish : Finish) : Type 0 where
@@ -52,6 +60,8 @@ IsDone (Some (listing l)) old new Gets finish = IsListing l old new Gets finish
 IsDone (Some (checking c)) old new Gets finish = IsChecking c old new Gets finish
 IsDone (Some (drilling d)) old new Gets finish = IsDrilling d old new Gets finish
 IsDone (Some (exporting x)) old new Gets finish = IsExporting x old new Gets finish
+IsDone (Some (asking a)) old new Gets finish = IsAsking a old new Gets finish
+IsDone (Some (carrying c)) old new Gets finish = IsCarrying c old new Gets finish
 
 -- that, and what holds of every run
 pub record IsObeyed (asked : Option Asked) (old new : Outside) (Gets : List ℕ → Type 0) (finish : Finish) : Type 0 where

@@ -1,10 +1,10 @@
 //! What a command over a named file begins with: the problem of the file, and what evidence about it shows, where some is
 //! named.
-ghost use Rattle.std.specs.Prelude.{ℕ, List, Option, IfOk, IfErr};
+ghost use Rattle.std.specs.Prelude.{◌≡◌, ℕ, List, Option, IfOk, IfErr, OnOk};
 ghost use Rattle.gm_ports.specs.FilesState.{ReadingLeaves};
 ghost use Rattle.gm_words.specs.Requests.{text_of};
 ghost use Rattle.gm_tool.specs.Input.{OfFile, IsReadAs};
-ghost use Rattle.gm_tool.specs.Steps.{IsBegun, Refuses, RefusesEvidence, Stops};
+ghost use Rattle.gm_tool.specs.Steps.{IsBegun, Refuses, RefusesEvidence, Stops, StopsReading};
 
 use crate::ending::Ending;
 use crate::input::read_file;
@@ -40,8 +40,25 @@ pub fn begin<F: Files>(
     ensures stopped { IfErr result (Stops name.now focus (text_of evidence.entry) (F.state files.old) (F.state files.new)) }
     ensures leaves { ReadingLeaves (F.state files.old) (F.state files.new) }
 {
+    let problem = read_named(alloc, name, focus, files)?;
+    judge_named(alloc, problem, evidence, files)
+}
+
+/// Reads the file of this name, and narrows its problem to the groups in focus, where some are given. Or ends with what stopped
+/// it.
+pub fn read_named<F: Files>(
+    alloc: Global,
+    name: &str,
+    focus: Option<GroupSet>,
+    files: &mut F,
+) -> Result<Problem, Ending>
+    ensures read { IfOk result (λ p. OfFile ((F.state files.old).held name.now) (IsReadAs focus p (F.state files.new).unread)) }
+    ensures quiet { OnOk result ((F.state files.new).read_faults ≡ (F.state files.old).read_faults) }
+    ensures stopped { IfErr result (StopsReading name.now (F.state files.old) (F.state files.new)) }
+    ensures leaves { ReadingLeaves (F.state files.old) (F.state files.new) }
+{
     match read_file(alloc, name, focus, files) {
-        Ok(Read::Problem(problem)) => judge_named(alloc, problem, evidence, files),
+        Ok(Read::Problem(problem)) => Ok(problem),
         Ok(Read::Refused(offence)) => Err(refuse(alloc, offence)),
         Ok(Read::Memory) => Err(Ending::Memory),
         Err(Failed) => Err(Ending::ReadFault),

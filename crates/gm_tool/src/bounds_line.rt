@@ -1,6 +1,6 @@
-//! The lines that tell which bound was reached, and which conflict there isn't.
+//! The lines that tell which bound was reached, which conflict there isn't, and where a file extends another one no more.
 ghost use Rattle.std.specs.Prelude.{◌≡◌, IfOk};
-ghost use Rattle.gm_tool.specs.Lines.{budget_line, limit_line, no_conflict_line};
+ghost use Rattle.gm_tool.specs.Lines.{budget_line, limit_line, no_conflict_line, no_extension_line};
 
 use crate::line_parts::put_counted;
 use std::alloc::{AllocError, Global};
@@ -31,6 +31,16 @@ pub fn line_of_no_conflict(alloc: Global, number: u64) -> Result<Vec<u8>, AllocE
 {
     let mut line = Vec::new(alloc);
     put_counted(&mut line, b"gmus: no conflict ", number)?;
+    line.extend_from_slice(b"\n")?;
+    Ok(line)
+}
+
+/// That a file extends another one no more from this place on.
+pub fn line_of_no_extension(alloc: Global, place: u64) -> Result<Vec<u8>, AllocError>
+    ensures { IfOk result (λ line. line.items ≡ no_extension_line place) }
+{
+    let mut line = Vec::new(alloc);
+    put_counted(&mut line, b"gmus: not an extension: clause ", place)?;
     line.extend_from_slice(b"\n")?;
     Ok(line)
 }

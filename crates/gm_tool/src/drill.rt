@@ -3,14 +3,14 @@ ghost use Rattle.std.specs.Prelude.{◌≡◌, ◌<◌, ◌≤◌, [], Some, IfO
 ghost use Rattle.gm_ports.specs.FilesState.{FilesState};
 ghost use Rattle.gm_words.specs.Requests.{AreGoodJobs, asked_by};
 ghost use Rattle.gm_words.specs.Reading.{greatest_size};
-ghost use Rattle.gm_tool.specs.Drilling.{drill_bounds, held_counts};
+ghost use Rattle.gm_tool.specs.Drilling.{held_counts};
 ghost use Rattle.gm_tool.specs.Outside.{outside};
 ghost use Rattle.gm_tool.specs.Prepared.{IsPrepared};
 ghost use Rattle.gm_tool.specs.Steps.{Drills};
 ghost use Rattle.gm_tool.specs.Words.{EndsAs};
 
 use crate::ending::Ending;
-use crate::enumeration::{Bounds, list_sets};
+use crate::enumeration::{Bounds, greatest_bounds, list_sets};
 use crate::prepared::{Prepared, line_by};
 use crate::records_report::counts_of;
 use evidence_rec::Records;
@@ -18,6 +18,7 @@ use gcnf_text::make_case;
 use gm_base::Problem;
 use gm_ports::{Failed, Gate, Sink, write_all};
 use gm_words::{Drilling, Request};
+use map_core::Goal;
 use std::alloc::{AllocError, Global};
 use std::sync::Wait;
 use std::thread::Threads;
@@ -39,18 +40,8 @@ pub fn drill_case<O: Sink, G: Gate, R: Threads + Wait + Sync>(
     let Ok(problem) = make_case(alloc, drilling.seed, drilling.size) else {
         return Ending::Memory;
     };
-    drill_problem(rt, alloc, &problem, bounds_for(drilling.jobs), out, gate)
-}
-
-/// The greatest bounds, for so many workers.
-fn bounds_for(jobs: u32) -> Bounds
-    ensures { result ≡ drill_bounds jobs }
-{
-    Bounds {
-        jobs,
-        conflicts: u64::MAX,
-        limit: 1_000_000_000,
-    }
+    let bounds = greatest_bounds(Goal::All, drilling.jobs);
+    drill_problem(rt, alloc, &problem, bounds, out, gate)
 }
 
 /// Enumerates the minimal sets of a problem, and writes how many they are.

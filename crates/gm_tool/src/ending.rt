@@ -1,8 +1,9 @@
 //! How a run ends.
 ghost use Rattle.std.specs.Prelude.{◌≡◌};
-ghost use Rattle.gm_tool.specs.Endings.{bare, after, status_by, finish_of};
+ghost use Rattle.gm_tool.specs.Endings.{bare, after, dried, status_at, status_by, finish_of};
 
 use crate::enumeration::Enumerated;
+use crate::writing::Stop;
 use lrat_steps::Logs;
 use map_core::{Closing, Verdict};
 use std::alloc::Global;
@@ -38,13 +39,27 @@ pub enum Ending {
     ExportCutOff,
     /// There are fewer conflicts than the number that was asked for. With the line that tells it.
     NoConflict(Vec<u8>),
+    /// A file does not extend another one. With the line that tells the place.
+    NoExtension(Vec<u8>),
+    /// The budget was spent before an enumeration began, and the report of no sets is written. With the line that tells it.
+    Dried(Vec<u8>, Spent),
+    /// The same, but evidence or report were cut off.
+    DriedCutOff(Stop, Spent),
 }
 
-/// How a run ended: 0 complete, accepted or exported, 2 bad command line, 3 budget spent, 4 limit reached, 5 input refused, 6 read
-/// fault, 7 write fault, 8 want of memory, 9 evidence refused, 11 no such conflict.
+/// What is left where the budget was spent before an enumeration began.
+#[derive(Drop)]
+pub struct Spent {
+    pub spent: u64,
+    pub logs: Logs,
+}
+
+/// How a run ended: 0 complete, told, accepted or exported, 2 bad command line, 3 budget spent, 4 limit reached, 5 input refused,
+/// 6 read fault, 7 write fault, 8 want of memory, 9 evidence refused, 11 no such conflict, 12 no extension.
 ///
 /// After an enumeration, `closing` is what is left of it, `logs` are the steps of each worker's solver, in the order of the
-/// workers, and last those of the map's, and `spent` is how many clauses were learnt in them.
+/// workers, and last those of the map's, and `spent` is how many clauses were learnt in them. Where something was carried over
+/// before, the steps of that come first.
 #[derive(Drop)]
 pub struct Finish {
     pub status: u8,
@@ -77,6 +92,28 @@ fn after(status: u8, left: Enumerated) -> Finish
     }
 }
 
+/// The answer where the budget was spent before an enumeration began.
+fn dried(status: u8, left: Spent) -> Finish
+    ensures { result ≡ dried status left }
+{
+    Finish {
+        status,
+        spent: left.spent,
+        logs: left.logs,
+        closing: None,
+    }
+}
+
+/// The status of a writing that was cut off.
+fn status_at(stop: Stop) -> u8
+    ensures { result ≡ status_at stop }
+{
+    match stop {
+        Stop::EvidenceFault | Stop::ReportFault => 7,
+        Stop::EvidenceMemory => 8,
+    }
+}
+
 fn status_by(verdict: Verdict) -> u8
     ensures { result ≡ status_by verdict }
 {
@@ -84,6 +121,7 @@ fn status_by(verdict: Verdict) -> u8
         Verdict::Complete | Verdict::Settled => 0,
         Verdict::Budget => 3,
         Verdict::Limit => 4,
+        Verdict::Journal => 7,
         Verdict::Memory => 8,
     }
 }
@@ -106,5 +144,8 @@ pub fn finish_of(alloc: Global, ending: Ending) -> Finish
         Ending::Exported => bare(alloc, 0),
         Ending::ExportCutOff => bare(alloc, 7),
         Ending::NoConflict(_) => bare(alloc, 11),
+        Ending::NoExtension(_) => bare(alloc, 12),
+        Ending::Dried(_, left) => dried(3, left),
+        Ending::DriedCutOff(stop, left) => dried(status_at(stop), left),
     }
 }

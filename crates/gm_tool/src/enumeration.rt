@@ -1,9 +1,10 @@
 //! The enumeration of a problem, from its beginning to what is left of it.
-ghost use Rattle.std.specs.Prelude.{◌≡◌, ◌<◌, ◌≤◌, map, All, Ok, IfOk, length};
+ghost use Rattle.std.specs.Prelude.{◌≡◌, ◌<◌, ◌≤◌, ◌^◌, map, All, Ok, IfOk, length};
 ghost use Rattle.evidence_rec.specs.Records.{AllAccepted};
+ghost use Rattle.evidence_rec.specs.Seeding.{new_engine};
 ghost use Rattle.gm_words.specs.Requests.{AreGoodJobs};
 ghost use Rattle.worker_pool.specs.Workers.{IsFresh};
-ghost use Rattle.gm_tool.specs.Closed.{IsLeft};
+ghost use Rattle.gm_tool.specs.Closed.{IsLeft, greatest_bounds};
 ghost use Rattle.gm_tool.specs.Resuming.{AreGoodFirst};
 
 use evidence_rec::{Record, Records};
@@ -19,12 +20,25 @@ use std::sync::Wait;
 use std::thread::{self, Threads};
 use worker_pool::{Outcome, enumerate};
 
-/// How many workers there are, how many clauses may be learnt, and how many sets recorded.
+/// How many workers there are, how many clauses may be learnt, how many sets recorded, and what is wanted.
 #[derive(Clone, Copy)]
 pub struct Bounds {
     pub jobs: u32,
     pub conflicts: u64,
     pub limit: u64,
+    pub goal: Goal,
+}
+
+/// The greatest bounds, where this is wanted of so many workers.
+pub fn greatest_bounds(goal: Goal, jobs: u32) -> Bounds
+    ensures { result ≡ greatest_bounds goal jobs }
+{
+    Bounds {
+        jobs,
+        conflicts: u64::MAX,
+        limit: 1_000_000_000,
+        goal,
+    }
 }
 
 /// What is left of an enumeration.
@@ -38,7 +52,7 @@ pub struct Enumerated {
 }
 
 /// Enumerates the minimal conflicts and minimal corrections of a problem, of which these are known at first, by as many
-/// workers as are wanted.
+/// workers as are wanted. Where roles alone are, it ends once each group's is told.
 pub fn list_sets<G: Gate, R: Threads + Wait + Sync>(
     rt: &R,
     alloc: Global,
@@ -53,7 +67,7 @@ pub fn list_sets<G: Gate, R: Threads + Wait + Sync>(
 {
     let _groups = problem.groups(); // The problem is well-formed.
     let oracles = fresh_oracles(rt, alloc, problem, first.as_slice(), bounds.jobs)?;
-    let map = PowerMap::new(alloc, problem.groups())?;
+    let map = fresh_map(alloc, problem.groups(), bounds.goal)?;
     let outcome = enumerate(
         rt,
         alloc,
@@ -63,7 +77,7 @@ pub fn list_sets<G: Gate, R: Threads + Wait + Sync>(
         map,
         bounds.conflicts,
         bounds.limit,
-        Goal::All,
+        bounds.goal,
         gate,
     );
     let Outcome {
@@ -80,6 +94,17 @@ pub fn list_sets<G: Gate, R: Threads + Wait + Sync>(
         logs,
         closing,
     })
+}
+
+// A map of all sets of so many groups, of which none is explored.
+fn fresh_map(alloc: Global, groups: u32, goal: Goal) -> Result<PowerMap, AllocError>
+    requires { groups < 2 ^ 31 }
+    ensures { IfOk result (λ map. map ≡ new_engine groups) }
+{
+    match goal {
+        Goal::All => PowerMap::new(alloc, groups),
+        Goal::Roles => PowerMap::for_roles(alloc, groups),
+    }
 }
 
 // An oracle for each worker, which remembers these records and what it is answered. All are made at once, in threads.
@@ -117,7 +142,8 @@ fn all_of<T: Drop>(alloc: Global, made: Vec<Result<T, AllocError>>) -> Result<Ve
     Ok(all)
 }
 
-fn fresh_oracle(
+/// An oracle that remembers these records, and what it is answered.
+pub fn fresh_oracle(
     alloc: Global,
     problem: &Problem,
     first: &[Record],

@@ -1,9 +1,10 @@
 //! The lines on standard error.
 ghost use Rattle.std.specs.Prelude.{◌≡◌};
-ghost use Rattle.gm_tool.specs.Endings.{line_of};
+ghost use Rattle.gm_tool.specs.Endings.{line_at, line_of};
 ghost use Rattle.gm_tool.specs.Outside.{GetsLine};
 
 use crate::ending::Ending;
+use crate::writing::Stop;
 use gm_ports::{Sink, write_all};
 
 /// The line that comes with an ending; no bytes where none comes.
@@ -15,7 +16,9 @@ fn text_of(ending: &Ending) -> &[u8]
         Ending::Refused(line)
         | Ending::EvidenceRefused(line)
         | Ending::Listed(line, _)
-        | Ending::NoConflict(line) => line.as_slice(),
+        | Ending::NoConflict(line)
+        | Ending::NoExtension(line)
+        | Ending::Dried(line, _) => line.as_slice(),
         Ending::ReadFault => b"gmus: read fault on input\n",
         Ending::EvidenceFault => b"gmus: read fault on evidence\n",
         Ending::Checked | Ending::Exported => b"",
@@ -23,6 +26,18 @@ fn text_of(ending: &Ending) -> &[u8]
         Ending::CutOff(_) | Ending::CheckCutOff => b"gmus: write fault on report\n",
         Ending::EvidenceCutOff(_) => b"gmus: write fault on evidence\n",
         Ending::ExportCutOff => b"gmus: write fault on export\n",
+        Ending::DriedCutOff(stop, _) => text_at(*stop),
+    }
+}
+
+/// The line that comes with a writing that was cut off.
+fn text_at(stop: Stop) -> &'static [u8]
+    ensures { result.now ≡ line_at stop }
+{
+    match stop {
+        Stop::EvidenceFault => b"gmus: write fault on evidence\n",
+        Stop::EvidenceMemory => b"gmus: out of memory\n",
+        Stop::ReportFault => b"gmus: write fault on report\n",
     }
 }
 

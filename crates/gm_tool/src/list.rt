@@ -1,31 +1,42 @@
-//! The command `list`: it reads a file, and evidence that is to be gone on from, finds all minimal sets, and writes the
-//! evidence, where it is asked for, and then the report.
-ghost use Rattle.std.specs.Prelude.{◌≡◌, Some, IfOk, IfErr, OnOk, OnErr};
-ghost use Rattle.evidence_rec.specs.Records.{AllAccepted};
+//! The command `list`: it reads a file, and evidence that is to be gone on from, and lists what it began with. So does every
+//! command that lists a problem: it finds all minimal sets, and writes the evidence, where it is asked for, and then the report.
+ghost use Rattle.std.specs.Prelude.{◌≡◌, ◌<◌, ◌+◌, ◌^◌, Some, IfOk};
 ghost use Rattle.gm_words.specs.Requests.{AreGoodJobs, asked_by, text_of};
-ghost use Rattle.gm_tool.specs.Closed.{is_complete, report_for};
+ghost use Rattle.gm_tool.specs.Closed.{is_complete, learned_in};
 ghost use Rattle.gm_tool.specs.Outside.{outside};
-ghost use Rattle.gm_tool.specs.Prepared.{IsPrepared};
+ghost use Rattle.gm_tool.specs.Prepared.{IsReady, all_logs, logs_before};
 ghost use Rattle.gm_tool.specs.Resuming.{AreGoodFirst};
-ghost use Rattle.gm_tool.specs.Steps.{IsEvidenceFront, IsEvidenceWhole, Lists};
+ghost use Rattle.gm_tool.specs.Steps.{Lists, listed_by};
 ghost use Rattle.gm_tool.specs.Words.{EndsAs};
-ghost use Rattle.gm_tool.specs.Writing.{CutHasCause};
 
 use crate::beginning::{Beginning, begin};
 use crate::ending::Ending;
-use crate::enumeration::{Bounds, list_sets};
-use crate::evidence_file::{CutOff, write_evidence};
+use crate::enumeration::{Bounds, Enumerated, list_sets};
 use crate::prepared::{Prepared, line_by};
-use crate::record_ids::ids_fit;
 use crate::records_report::report_of;
+use crate::writing::{Stop, write_outputs};
 use evidence_rec::Records;
 use gm_base::Problem;
-use gm_ports::{Failed, Files, Gate, Sink, write_all};
+use gm_ports::{Files, Gate, Sink};
 use gm_words::{Listing, Request};
-use map_core::{Closing, Verdict};
+use lrat_steps::{Log, Logs};
+use map_core::{Goal, Verdict};
 use std::alloc::{AllocError, Global};
 use std::sync::Wait;
 use std::thread::Threads;
+
+/// What an enumeration begins with, and what it keeps to.
+#[derive(Drop)]
+pub struct Course {
+    /// The records that are known.
+    pub first: Records,
+    /// The log of what was asked before, if anything was. It stands before the others.
+    pub before: Option<Log>,
+    /// The bounds.
+    pub bounds: Bounds,
+    /// The bounds that are named where one is reached: those of all that was asked.
+    pub told: Bounds,
+}
 
 /// Lists the file that is named, from the records of the evidence that is to be gone on from.
 pub fn list_file<F: Files, O: Sink, G: Gate, R: Threads + Wait + Sync>(
@@ -53,6 +64,7 @@ pub fn list_file<F: Files, O: Sink, G: Gate, R: Threads + Wait + Sync>(
         jobs,
         conflicts,
         limit,
+        goal: Goal::All,
     };
     match begin(alloc, file, focus, resume, files) {
         Ok(
@@ -61,43 +73,51 @@ pub fn list_file<F: Files, O: Sink, G: Gate, R: Threads + Wait + Sync>(
                 complete: _,
                 records,
             },
-        ) => list_problem(
-            rt, alloc, &problem, records, bounds, evidence, files, out, gate,
-        ),
+        ) => {
+            let course = Course {
+                first: records,
+                before: None,
+                bounds,
+                told: bounds,
+            };
+            list_problem(rt, alloc, &problem, course, evidence, files, out, gate)
+        }
         Err(ending) => ending,
     }
 }
 
-/// Lists a problem of which these records are known at first.
-fn list_problem<F: Files, O: Sink, G: Gate, R: Threads + Wait + Sync>(
+/// Lists a problem.
+pub fn list_problem<F: Files, O: Sink, G: Gate, R: Threads + Wait + Sync>(
     rt: &R,
     alloc: Global,
     problem: &Problem,
-    first: Records,
-    bounds: Bounds,
+    course: Course,
     evidence: Option<&str>,
     files: &mut F,
     out: &mut O,
     gate: &G,
 ) -> Ending
-    requires jobs { AreGoodJobs bounds.jobs }
-    requires first { AreGoodFirst problem.now first }
-    ensures { Lists problem.now first bounds (text_of evidence.entry) (outside (F.state files.old) (O.got out.old) (O.faults out.old))
+    requires jobs { AreGoodJobs course.bounds.jobs }
+    requires first { AreGoodFirst problem.now course.first }
+    requires all { course.bounds.goal ≡ Goal.All }
+    requires few { learned_in (logs_before course.before) + course.bounds.conflicts < 2 ^ 64 }
+    ensures { Lists problem.now course (text_of evidence.entry) (outside (F.state files.old) (O.got out.old) (O.faults out.old))
         (outside (F.state files.new) (O.got out.new) (O.faults out.new)) result }
 {
-    let Ok(prepared) = prepare(rt, alloc, problem, first, bounds, gate) else {
+    let Ok(prepared) = prepare(rt, alloc, problem, course, gate) else {
         return Ending::Memory;
     };
-    let Prepared { line, text, left } = prepared;
-    match write_asked(alloc, problem, evidence, &left.closing, files) {
-        Ok(()) => {}
-        Err(CutOff::Failed) => return Ending::EvidenceCutOff(left),
-        Err(CutOff::Memory) => return Ending::EvidenceMemory(left),
-    }
-    match write_all(out, text.as_slice()) {
-        Ok(()) => Ending::Listed(line, left),
-        Err(Failed) => Ending::CutOff(left),
-    }
+    let text = prepared.text.as_slice();
+    let written = write_outputs(
+        alloc,
+        problem,
+        evidence,
+        &prepared.left.closing,
+        text,
+        files,
+        out,
+    );
+    listed_by(prepared, written)
 }
 
 /// Enumerates, and makes all that is to be written but the evidence.
@@ -105,23 +125,73 @@ fn prepare<G: Gate, R: Threads + Wait + Sync>(
     rt: &R,
     alloc: Global,
     problem: &Problem,
-    first: Records,
-    bounds: Bounds,
+    course: Course,
     gate: &G,
 ) -> Result<Prepared, AllocError>
-    requires jobs { AreGoodJobs bounds.jobs }
-    requires first { AreGoodFirst problem.now first }
-    ensures { IfOk result (IsPrepared problem.now first bounds (report_for problem.now)) }
+    requires jobs { AreGoodJobs course.bounds.jobs }
+    requires first { AreGoodFirst problem.now course.first }
+    requires all { course.bounds.goal ≡ Goal.All }
+    requires few { learned_in (logs_before course.before) + course.bounds.conflicts < 2 ^ 64 }
+    ensures { IfOk result (IsReady problem.now course) }
 {
-    let left = list_sets(rt, alloc, problem, first, bounds, gate)?;
-    let line = line_by(alloc, bounds, left.closing.verdict)?;
+    let Course {
+        first,
+        before,
+        bounds,
+        told,
+    } = course;
+    let own = list_sets(rt, alloc, problem, first, bounds, gate)?;
+    let line = line_by(alloc, told, own.closing.verdict)?;
     let text = report_of(
         alloc,
         problem.groups(),
-        is_complete(left.closing.verdict),
-        left.closing.records.as_slice(),
+        is_complete(own.closing.verdict),
+        own.closing.records.as_slice(),
     )?;
+    let left = put_before(before, own)?;
     Ok(Prepared { line, text, left })
+}
+
+/// What is left of an enumeration, with this log before its own.
+fn put_before(before: Option<Log>, own: Enumerated) -> Result<Enumerated, AllocError>
+    requires { learned_in (logs_before before) + own.spent < 2 ^ 64 }
+    ensures { IfOk result (λ left. left ≡ all_logs before own) }
+{
+    let Some(log) = before else {
+        return Ok(own);
+    };
+    let Enumerated {
+        spent,
+        logs,
+        closing,
+    } = own;
+    let spent = log.learned() + spent;
+    let mut all = logs.into_vec();
+    match all.insert(0, log) {
+        Ok(()) => Ok(Enumerated {
+            spent,
+            logs: Logs::from_vec(all),
+            closing,
+        }),
+        Err(_) => Err(AllocError),
+    }
+}
+
+/// How a listing ends that was ready, and was written, or cut off.
+fn listed_by(ready: Prepared, written: Result<(), Stop>) -> Ending
+    ensures { result ≡ listed_by ready written }
+{
+    let Prepared {
+        line,
+        text: _,
+        left,
+    } = ready;
+    match written {
+        Ok(()) => Ending::Listed(line, left),
+        Err(Stop::ReportFault) => Ending::CutOff(left),
+        Err(Stop::EvidenceFault) => Ending::EvidenceCutOff(left),
+        Err(Stop::EvidenceMemory) => Ending::EvidenceMemory(left),
+    }
 }
 
 /// Whether nothing is missing from the records.
@@ -129,25 +199,4 @@ fn is_complete(verdict: Verdict) -> bool
     ensures { result ≡ is_complete verdict }
 {
     matches!(verdict, Verdict::Complete)
-}
-
-/// Writes the evidence of what is left of an enumeration, where it is asked for.
-fn write_asked<F: Files>(
-    alloc: Global,
-    problem: &Problem,
-    asked: Option<&str>,
-    closing: &Closing,
-    files: &mut F,
-) -> Result<(), CutOff>
-    requires { AllAccepted problem.now closing.now.records }
-    ensures whole { OnOk result (IsEvidenceWhole problem.now (text_of asked.entry) closing.now (F.state files.old) (F.state files.new)) }
-    ensures front { OnErr result (IsEvidenceFront problem.now (text_of asked.entry) closing.now (F.state files.old) (F.state files.new)) }
-    ensures cause { IfErr result (λ why. CutHasCause why (F.state files.old).write_faults (F.state files.new).write_faults) }
-{
-    let Some(name) = asked else {
-        return Ok(());
-    };
-    ids_fit(closing);
-    let records = closing.records.as_slice();
-    write_evidence(alloc, problem, records, closing.proof.as_ref(), name, files)
 }

@@ -1,21 +1,25 @@
 //! The whole program, as one call.
 ghost use Rattle.std.specs.Prelude.{◌≡◌, Some, None};
-ghost use Rattle.gm_words.specs.Reading.{Listing as Listed, Checking as Checked, Drilling as Drilled, Exporting as Exported, listing, checking, drilling, exporting};
+ghost use Rattle.gm_words.specs.Reading.{Listing as Listed, Checking as Checked, Drilling as Drilled, Exporting as Exported, Asking as Asked, Carrying as Carried, listing, checking, drilling, exporting, asking, carrying};
+ghost use Rattle.gm_tool.specs.Carrying.{IsCarrying};
 ghost use Rattle.gm_tool.specs.Checking.{IsChecking};
 ghost use Rattle.gm_tool.specs.Drilling.{IsDrilling};
 ghost use Rattle.gm_tool.specs.Endings.{finish_of};
 ghost use Rattle.gm_tool.specs.Exporting.{IsExporting};
 ghost use Rattle.gm_tool.specs.Listing.{IsListing};
 ghost use Rattle.gm_tool.specs.Outside.{GetsLine, outside};
+ghost use Rattle.gm_tool.specs.Roles.{IsAsking};
 ghost use Rattle.gm_tool.specs.Run.{IsRun};
 ghost use Rattle.gm_tool.specs.Words.{EndsAs, IsUnread, asked_in, bounds_of, outputs_of};
 
+use crate::carry::carry_file;
 use crate::check::check_file;
 use crate::drill::drill_case;
 use crate::ending::{Ending, Finish, finish_of};
 use crate::error_line::write_error_line;
 use crate::export::export_conflict;
 use crate::list::list_file;
+use crate::roles::ask_file;
 use gm_ports::{Files, Gate, Sink};
 use gm_words::{Request, read_words};
 use std::alloc::{AllocError, Global};
@@ -23,7 +27,8 @@ use std::sync::Wait;
 use std::thread::Threads;
 
 /// Lists all minimal conflicts and corrections of the file that the words name, or checks evidence about it, or exports one
-/// conflict that it shows, or counts those of a case that is made from two numbers.
+/// conflict that it shows, or tells the role of each group, or counts the sets of a case that is made from two numbers, or lists
+/// a longer file from evidence about the file that it extends.
 ///
 /// `words` are those behind the program's name. Status 0 of `list` says that the file is accepted and was read to its end,
 /// and that `out` got exactly the report of all its minimal conflicts and all its minimal corrections, each once, in
@@ -34,8 +39,10 @@ use std::thread::Threads;
 /// is complete. A listing may go on from such evidence: then its sets come first, `--limit` counts them, and the report with
 /// status 0 is the same. Status 0 of `drill` says that `out` got one line, with the numbers of groups, of all minimal conflicts and of
 /// all minimal corrections of the case. Status 0 of `export` says that file and evidence are accepted, and that two files got
-/// the clauses of the conflict with the number in the report's order, and a refutation of them. Where `list` or `check` is given
-/// groups in focus, the problem of all this is the file's without the clauses of other groups but the background's.
+/// the clauses of the conflict with the number in the report's order, and a refutation of them. Status 0 of `roles` says that `out`
+/// got exactly the role of each group: in every minimal conflict, in some, or in none. Where `list`, `check` or `roles` is given
+/// groups in focus, the problem of all this is the file's without the clauses of other groups but the background's. The statuses
+/// 0, 3 and 4 of `carry` say of the longer file what those of `list` do; 12 says at which clause it extends the old one no more.
 pub fn run<R: Threads + Wait + Sync, F: Files, O: Sink, E: Sink, G: Gate>(
     rt: &R,
     alloc: Global,
@@ -63,6 +70,12 @@ pub fn run<R: Threads + Wait + Sync, F: Files, O: Sink, E: Sink, G: Gate>(
     ensures exporting { (x : Exported) → asked_in words.now ≡ Some (exporting x) → IsExporting x
         (outside (F.state files.old) (O.got out.old) (O.faults out.old)) (outside (F.state files.new) (O.got out.new) (O.faults out.new))
         (GetsLine (E.got err.old) (E.got err.new) (E.faults err.old) (E.faults err.new)) result }
+    ensures roles { (a : Asked) → asked_in words.now ≡ Some (asking a) → IsAsking a
+        (outside (F.state files.old) (O.got out.old) (O.faults out.old)) (outside (F.state files.new) (O.got out.new) (O.faults out.new))
+        (GetsLine (E.got err.old) (E.got err.new) (E.faults err.old) (E.faults err.new)) result }
+    ensures carrying { (c : Carried) → asked_in words.now ≡ Some (carrying c) → IsCarrying c
+        (outside (F.state files.old) (O.got out.old) (O.faults out.old)) (outside (F.state files.new) (O.got out.new) (O.faults out.new))
+        (GetsLine (E.got err.old) (E.got err.new) (E.faults err.old) (E.faults err.new)) result }
     ensures without_reading { asked_in words.now ≡ None → IsUnread
         (outside (F.state files.old) (O.got out.old) (O.faults out.old)) (outside (F.state files.new) (O.got out.new) (O.faults out.new)) result }
 {
@@ -88,6 +101,8 @@ fn obey<R: Threads + Wait + Sync, F: Files, O: Sink, G: Gate>(
         Ok(Some(Request::Check(checking))) => check_file(alloc, checking, files, out),
         Ok(Some(Request::Drill(drilling))) => drill_case(rt, alloc, drilling, out, gate),
         Ok(Some(Request::Export(exporting))) => export_conflict(alloc, exporting, files),
+        Ok(Some(Request::Roles(asking))) => ask_file(rt, alloc, asking, files, out, gate),
+        Ok(Some(Request::Carry(carrying))) => carry_file(rt, alloc, carrying, files, out, gate),
         Ok(None) => obey_none(files, out),
         Err(AllocError) => Ending::Memory,
     }

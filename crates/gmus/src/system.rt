@@ -6,14 +6,18 @@
 //! listing, with 0, 3, 4 and 7, and with 8 where memory was wanting for the evidence, what is left of its enumeration of some
 //! problem, that an audit says yes to its evidence, where that was asked for, and that a listing which goes on from evidence
 //! begins with the records of some text of which nothing is refused; of an export, with 0 and 7, that what was made is a
-//! refutation of the clauses of some conflict that such a text shows.
+//! refutation of the clauses of some conflict that such a text shows; of `roles`, with 0, 3, 4 and 7, what is left of its
+//! enumeration; of a carrying, what a listing of some problem tells, that it extends another one, of which such a text shows the
+//! records that were carried over. That a focus narrows the problem says nothing here.
 ghost use Rattle.std.specs.Prelude.{◌≡◌, Some, None, ⊤};
-ghost use Rattle.gm_words.specs.Reading.{Listing as Listed, Checking as Checked, Drilling as Drilled, Exporting as Exported, listing, checking, drilling, exporting};
+ghost use Rattle.gm_words.specs.Reading.{Listing as Listed, Checking as Checked, Drilling as Drilled, Exporting as Exported, Asking as Asked, Carrying as Carried, listing, checking, drilling, exporting, asking, carrying};
+ghost use Rattle.gm_tool.specs.Carrying.{IsCarrying};
 ghost use Rattle.gm_tool.specs.Checking.{IsChecking};
 ghost use Rattle.gm_tool.specs.Drilling.{IsDrilling};
 ghost use Rattle.gm_tool.specs.Exporting.{IsExporting};
 ghost use Rattle.gm_tool.specs.Listing.{IsListing};
 ghost use Rattle.gm_tool.specs.Outside.{untold};
+ghost use Rattle.gm_tool.specs.Roles.{IsAsking};
 ghost use Rattle.gm_tool.specs.Run.{IsRun};
 ghost use Rattle.gm_tool.specs.Words.{IsUnread, asked_in, bounds_of, outputs_of};
 
@@ -52,6 +56,12 @@ pub fn run_on_system<R: rt::Files + Threads + Wait + Sync, O: Print, E: Print>(
         (untold files.old.read_faults files.old.write_faults out.old.faults)
         (untold files.new.read_faults files.new.write_faults out.new.faults) (λ _. ⊤) result }
     ensures exporting { (x : Exported) → asked_in words.now ≡ Some (exporting x) → IsExporting x
+        (untold files.old.read_faults files.old.write_faults out.old.faults)
+        (untold files.new.read_faults files.new.write_faults out.new.faults) (λ _. ⊤) result }
+    ensures roles { (a : Asked) → asked_in words.now ≡ Some (asking a) → IsAsking a
+        (untold files.old.read_faults files.old.write_faults out.old.faults)
+        (untold files.new.read_faults files.new.write_faults out.new.faults) (λ _. ⊤) result }
+    ensures carrying { (c : Carried) → asked_in words.now ≡ Some (carrying c) → IsCarrying c
         (untold files.old.read_faults files.old.write_faults out.old.faults)
         (untold files.new.read_faults files.new.write_faults out.new.faults) (λ _. ⊤) result }
     ensures without_reading { asked_in words.now ≡ None → IsUnread

@@ -11,7 +11,7 @@ returns g c = λ files.
     let d : Drilling = record { seed = a.seed; size = a.size; jobs = a.jobs } in
     let old = outside files (g.O.Sink.got c.args.out.now) (g.O.Sink.faults c.args.out.now) in
     let new = outside files (g.O.Sink.got c.drill_problem.new.out) (g.O.Sink.faults c.drill_problem.new.out) in
-    drilling-case d old new c.in-Ok.problem c.bounds_for.result c.drill_problem.result c.in-Ok.ensures c.bounds_for.ensures refl (c.drill_problem.ensures files)
+    drilling-case d old new c.in-Ok.problem c.greatest_bounds-bounds.result c.drill_problem.result c.in-Ok.ensures c.greatest_bounds-bounds.ensures refl (c.drill_problem.ensures files)
 
 -- memory is wanting for it
 pub returns-in_default : goal.returns-in_default

@@ -3,7 +3,6 @@ use Rattle.std.specs.Prelude.{MatchOption}
 use Rattle.evidence_rec.specs.declared.record.Record.{Record}
 use Rattle.map_core.specs.declared.closing.Closing.{Closing}
 use Rattle.map_core.specs.declared.closing.Verdict.TheVariants.{Memory}
-use Rattle.map_core.specs.declared.entry.Goal.TheVariants.{All}
 use Rattle.map_core.specs.Opens.{opening_of}
 use Rattle.worker_pool.specs.Outcomes.{IsLeft}
 use Rattle.gm_tool.proofs.enumeration.list_sets.Goals as goal
@@ -14,7 +13,7 @@ returns g c =
     let p = c.args.problem.now in
     let b = c.args.bounds in
     let outcome = c.enumerate-outcome.result in
-    let opened = λ (rs : List Record) (n : ℕ). opening_of p rs n b.conflicts b.limit All true in
+    let opened = λ (rs : List Record) (n : ℕ). opening_of p rs n b.conflicts b.limit b.goal true in
     let count = c.in_ok-oracles.ensures.count in
     let records = c.args.first in
     let workers = length c.in_ok-oracles.oracles.items in

@@ -1,6 +1,7 @@
 use Rattle.gm_words.specs.Reading.{Listing}
 use Rattle.gm_words.specs.Requests.{text_of}
 use Rattle.gm_tool.specs.Outside.{outside}
+use Rattle.gm_tool.proofs.ReadingLemmas.{good-from}
 use Rattle.gm_tool.proofs.RunLemmas.{listing-stopped, listing-lists}
 use Rattle.gm_tool.proofs.list.list_file.Goals as goal
 
@@ -14,6 +15,11 @@ returns-in-Ok g c =
     let mid = outside (g.F.Files.state c.begin.new.files) (g.O.Sink.got c.args.out.now) (g.O.Sink.faults c.args.out.now) in
     let new = outside (g.F.Files.state c.list_problem.new.files) (g.O.Sink.got c.list_problem.new.out) (g.O.Sink.faults c.list_problem.new.out) in
     listing-lists l (g.F.Files.state c.args.files.now) mid new begun c.in-Ok.ensures.leaves c.in-Ok.ensures.begun c.list_problem.result c.list_problem.ensures
+
+pub list_problem-requires-clause-first : goal.list_problem-requires-clause-first
+list_problem-requires-clause-first g c κs within =
+    let begun = c.in-Ok.field-0 in
+    good-from begun.problem (text_of c.args.listing.resume) (g.F.Files.state c.args.files.now).held begun.complete begun.records c.in-Ok.ensures.begun.goes_on
 
 -- what stopped the reading ends the command
 pub returns-in-Err : goal.returns-in-Err

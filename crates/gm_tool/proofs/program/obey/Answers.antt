@@ -37,6 +37,20 @@ returns-in-Ok-Some-Export g c =
     subst (λ asked. EndsAs asked old new c.export_conflict.result) (sym (ap (option_map asked_by) (w.field-0-is ∙ ap Some w.field-0-0-is)) ∙ w.ensures.asked)
     (c.export_conflict.ensures (g.O.Sink.got c.args.out.now) (g.O.Sink.faults c.args.out.now))
 
+pub returns-in-Ok-Some-Roles : goal.returns-in-Ok-Some-Roles
+returns-in-Ok-Some-Roles g c =
+    let w = c.in-Ok-Some-Roles in
+    let old = outside (g.F.Files.state c.args.files.now) (g.O.Sink.got c.args.out.now) (g.O.Sink.faults c.args.out.now) in
+    let new = outside (g.F.Files.state c.ask_file.new.files) (g.O.Sink.got c.ask_file.new.out) (g.O.Sink.faults c.ask_file.new.out) in
+    subst (λ asked. EndsAs asked old new c.ask_file.result) (sym (ap (option_map asked_by) (w.field-0-is ∙ ap Some w.field-0-0-is)) ∙ w.ensures.asked) c.ask_file.ensures
+
+pub returns-in-Ok-Some-Carry : goal.returns-in-Ok-Some-Carry
+returns-in-Ok-Some-Carry g c =
+    let w = c.in-Ok-Some-Carry in
+    let old = outside (g.F.Files.state c.args.files.now) (g.O.Sink.got c.args.out.now) (g.O.Sink.faults c.args.out.now) in
+    let new = outside (g.F.Files.state c.carry_file.new.files) (g.O.Sink.got c.carry_file.new.out) (g.O.Sink.faults c.carry_file.new.out) in
+    subst (λ asked. EndsAs asked old new c.carry_file.result) (sym (ap (option_map asked_by) (w.field-0-is ∙ ap Some w.field-0-0-is)) ∙ w.ensures.asked) c.carry_file.ensures
+
 -- words without a reading touch nothing
 pub returns-in-Ok-None : goal.returns-in-Ok-None
 returns-in-Ok-None g c =
