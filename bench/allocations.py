@@ -3,8 +3,9 @@
 
     bench/allocations.py [--gmus PROGRAM] [--dense 1000] [--step 100] [--try NUMBERS]
 
-The commands are a listing by one worker, one by two workers with evidence, a checking, and an export and a made case where
-the program has these commands. Of each, every allocation up to --dense is refused, and then each --step-th to the last one.
+The commands are a listing by one worker, one by two workers with evidence, a checking, and an export, a made case, the roles of
+groups in focus and what is carried over to a longer file where the program has these commands. Of each, every allocation up to
+--dense is refused, and then each --step-th to the last one.
 A run has to end with 8 and its line and no report, or with 0 and the full output, or with 6 or 7 and their line where a call
 of the real files or streams found no memory. Where evidence was asked for, what stands under its name with 0 is accepted
 evidence. Of an export both files are full with 0, and not there with 6; else each is a front of the full one, and there is
@@ -28,8 +29,10 @@ TOP = os.path.dirname(HERE)
 FIRST = os.path.join(TOP, "examples", "first.gcnf")
 LINES = {8: "gmus: out of memory\n", 6: ("gmus: read fault on input\n", "gmus: read fault on evidence\n"),
          7: ("gmus: write fault on report\n", "gmus: write fault on evidence\n", "gmus: write fault on export\n")}
-COMMANDS = ["list f --jobs 1", "list f --jobs 2 --evidence b", "check f a", "export f a 2 c l", "drill 900 1"]
-NEW = ["export", "drill"]   # older programs do not have them
+COMMANDS = ["list f --jobs 1", "list f --jobs 2 --evidence b", "check f a", "export f a 2 c l", "drill 900 1", "roles f --jobs 2 --focus 4,2,1,2",
+            "carry f a g --evidence b"]
+NEW = ["export", "drill", "roles", "carry"]   # older programs do not have them
+LONGER = "p gcnf 2 5 5\n{1} 1 0\n{2} -1 0\n{3} -1 2 0\n{4} -2 0\n{5} 1 0\n"   # the first example and a group
 EXPORTED = ["c", "l"]       # the names of an export, the CNF's first
 
 
@@ -76,7 +79,8 @@ def fault(words, found, full, folder, gmus):
         if (out, err) != (full, ""):
             return "an output that is not the full one"
         if "--evidence" in words:
-            checked = subprocess.run([gmus, "check", words[1], "b"], cwd=folder, stdout=subprocess.PIPE)
+            file = words[3] if words[0] == "carry" else words[1]
+            checked = subprocess.run([gmus, "check", file, "b"], cwd=folder, stdout=subprocess.PIPE)
             return None if (checked.returncode, checked.stdout.decode()) == (0, full) else "evidence that is refused"
         return None
     if status == 8:
@@ -137,6 +141,8 @@ def try_library(gmus, given):
         subprocess.run(["cc", "-O2", "-shared", "-fPIC", "-o", library, os.path.join(HERE, "allocations", "refuse.c")], check=True)
         with open(FIRST, "rb") as first, open(os.path.join(folder, "f"), "wb") as out:
             out.write(first.read())
+        with open(os.path.join(folder, "g"), "w", encoding="ascii") as out:
+            out.write(LONGER)
         subprocess.run([gmus, "list", "f", "--evidence", "a"], cwd=folder, stdout=subprocess.DEVNULL, check=True)
         for line in COMMANDS:
             wrong += try_command(gmus, line.split(), folder, library, given)

@@ -4,8 +4,8 @@
     bench/fuzz.py --gmus PROGRAM [--cases 20000] [--seed 1] [--only NUMBER]
 
 Of four cases two are files, one is evidence and one is a line of words. A file is told by the table of plain_reader.py, and
-an accepted one is listed by brute_force.py. Evidence is checked by tools/check_evidence.py, and a conflict of it is exported,
-which examples/exports.py judges. Of words, plain_reader.py says what they ask for, about small files whose reports are known.
+an accepted one is listed by brute_force.py, whose report tells the roles too, with a focus or without. Evidence is checked by tools/check_evidence.py, and a conflict of it is exported,
+which examples/exports.py judges, and it is carried over to a file with some groups more, or to one that is none. Of words, plain_reader.py says what they ask for, about small files whose reports are known.
 Status, standard output, standard error and what stands under the names of outputs have to be those. A case is made from the
 seed and its number alone, so --only makes one again. Commands that PROGRAM does not have are left out. Ends with 1 where
 there is a difference, and says how to make it again. Needs Python 3.9.
@@ -90,12 +90,14 @@ def change_file(chance, text):
     return text
 
 
-def wanted_listing(text):
-    """Status, output and error line of a listing of this text."""
+def wanted_listing(text, focus=None):
+    """Status, output and error line of a listing of this text, or of its clauses in these groups and the background."""
     offence = plain_reader.first_offence(text)
     if offence:
         return 5, b"", offence
     variables, groups, clauses = plain_reader.problem_of(text)
+    if focus is not None:
+        clauses = [(group, lits) for group, lits in clauses if group == 0 or group in focus]
     numbers = {at: new for new, at in enumerate(sorted({abs(lit) for _, lits in clauses for lit in lits}), 1)}
     clauses = [(group, [numbers[abs(lit)] * (1 if lit > 0 else -1) for lit in lits]) for group, lits in clauses]
     used = sorted({group for group, _ in clauses} - {0})
@@ -110,12 +112,39 @@ def wanted_listing(text):
     return 0, "\n".join(lines).encode(), ""
 
 
-def try_file(chance, gmus, folder):
+def wanted_roles(text, focus=None):
+    """Status, output and error line of who asks for roles in this text, or in its clauses in these groups and the background."""
+    status, report, line = wanted_listing(text, focus)
+    if status:
+        return status, report, line
+    conflicts = [set(line.split()[1:-1]) for line in report.decode().split("\n") if line.startswith("u ")]
+    found = ["p roles %d" % plain_reader.problem_of(text)[1]]
+    for group in map(str, range(1, int(found[0].split()[2]) + 1)):
+        having = sum(group in conflict for conflict in conflicts)
+        found.append(f"r {group} " + ("none" if not having else "every" if having == len(conflicts) else "some"))
+    return 0, "".join(line + "\n" for line in found).encode(), ""
+
+
+def draw_focus(chance):
+    """Some groups, or None where all are asked about; and the option's words for them."""
+    if chance.random() < 0.6:
+        return None, []
+    focus = [chance.choice([1, 1, 2, 2, 3, 4, 5, 9, 4294967295]) for _ in range(chance.choice([1, 2, 2, 3, 5]))]
+    return set(focus), ["--focus", ",".join(map(str, focus))]
+
+
+def try_file(chance, gmus, folder, commands):
     text = change_file(chance, in_a_form(chance, mutate_evidence.random_problem(chance).encode()))
     name = os.path.join(folder, "file")
     write(name, text)
     wanted = wanted_listing(text)
     compare(wanted, run(gmus, ["list", name, "--jobs", str(chance.choice([1, 1, 1, 2, 5]))]), repr(text))
+    focus, words = draw_focus(chance)
+    if words and "focus" in commands["list"]:
+        compare(wanted_listing(text, focus), run(gmus, ["list", name, *words]), f"list {words} {text!r}")
+    if "roles" in commands:
+        jobs = str(chance.choice([1, 2, 7]))
+        compare(wanted_roles(text, focus), run(gmus, ["roles", name, "--jobs", jobs, *words]), f"roles {words} {text!r}")
     return f"file, status {wanted[0]}" + (wanted[2].split(":")[-1].split(" at ")[0] if wanted[2] else "")
 
 
@@ -136,6 +165,8 @@ def try_evidence(chance, gmus, folder, commands):
     compare(wanted, run(gmus, ["check", file, name]), repr((text, evidence)))
     if "export" in commands:
         try_export(chance, gmus, folder, problem, wanted, repr((text, evidence)))
+    if "carry" in commands:
+        try_carry(chance, gmus, folder, text, wanted, repr((text, evidence)))
     return f"evidence, status {wanted[0]}" + (" " + told.decode().split(": ")[1] if kind == "no" else "")
 
 
@@ -154,6 +185,31 @@ def try_export(chance, gmus, folder, problem, checked, what):
         compare(None, exports.fault_of(problem, conflicts[number - 1], *texts), f"{what} {number} {texts}")
 
 
+def try_carry(chance, gmus, folder, text, checked, what):
+    """Carries evidence over to a file with some groups more, or to one in which a clause is another, where `check` answers this."""
+    variables, groups, clauses = brute_force.problem_of(text.splitlines())
+    broken = chance.randrange(len(clauses)) if clauses and chance.random() < 0.2 else None
+    more = chance.randint(0, 2)
+    for _ in range(more + chance.randint(0, 1) if more else 0):
+        lits = [chance.choice((-1, 1)) * chance.randint(1, variables) for _ in range(chance.randint(0, 2))] if variables else []
+        clauses.append((groups + chance.randint(1, more), lits))
+    if broken is not None:
+        clauses[broken] = (clauses[broken][0], [*clauses[broken][1], *clauses[broken][1][:1]] or [1] * (variables > 0))
+        broken = None if not variables else broken
+    lines = [f"p gcnf {variables} {len(clauses)} {groups + more}"]
+    lines += [f"{{{group}}} {' '.join(map(str, [*lits, 0]))}" for group, lits in clauses]
+    write(os.path.join(folder, "longer"), "\n".join([*lines, ""]).encode())
+    wanted = checked if checked[0] else (0, brute_force.report(variables, groups + more, clauses).encode(), "")
+    if broken is not None:
+        wanted = no_extension(broken + 1)
+    found = run(gmus, ["carry", *(os.path.join(folder, name) for name in ("file", "evidence", "longer")), "--jobs", chance.choice("113")])
+    compare(wanted, found, f"{what} {lines}")
+
+
+def no_extension(place):
+    return 12, b"", f"gmus: not an extension: clause {place}\n"
+
+
 def told_of_none(number):
     return NO_SUCH, "", f"gmus: no conflict {number}\n"
 
@@ -164,6 +220,7 @@ ONE = b"p gcnf 0 1 1\n{1} 0\n"  # an empty clause: it clashes by itself
 BOTH = b"p gmev 1 0 1 1\nu 1 0\nr 0 1\nw 1 0\nm 1 0\nw 0 0\nr 1 1\nd 3 0 1 2 0\nx 3\ne complete\n"
 HALF = b"p gmev 1 0 1 1\nm 1 0\nw 0 0\nr 1 1\ne partial\n"
 TEXTS = {"f": ONE, "-": ONE, "-x": ONE, "--limit": ONE, "help": ONE, "list": ONE, "=": ONE, "g": b"p gcnf 0 0 0\n",
+         "more": b"p gcnf 1 3 3\n{1} 0\n{2} 1 0\n{3} -1 0\n",
          "bad": b"p cnf 1 1\n", "e": BOTH, "half": HALF, "wrong": BOTH.replace(b"x 3", b"x 1")}
 FILES = ["f", "f", "f", "f", "-", "-x", "--limit", "help", "list", "=", "g", "bad", "missing", ""]
 EVIDENCE = ["e", "e", "half", "wrong", "f", "missing", "", "-"]
@@ -174,11 +231,12 @@ LOST = ["", "no/out"]                                        # names that can't 
 MADE = ["out", "cnf", "lrat", "-o", "--jobs"]                # names that are free before
 NUMBERS = ["0", "1", "2", "3", "5", "64", "65", "+2", "007", "-1", "", "x", "1x", " 1", "1000000000", "1000000001", "18446744073709551615",
            "18446744073709551616", "+", "\u0661"]
+FOCI = ["1", "1", "2", "1,1", "2,007,1", "+1", "4294967295", "4294967296", "0", "", ",", "1,", ",1", "1, 2", "1;2", "x", "-1", "\u0661"]
 OTHERS = ["--", "-", "-h", "--help", "--version", "help", "-j", "--job", "--jobs", "--limit=2", "frob", "", "list", "f", "--=1"]
 
 
 def option(chance, name):
-    pool = {"evidence": OUTPUTS, "resume": EVIDENCE}.get(name, NUMBERS)
+    pool = {"evidence": OUTPUTS, "resume": EVIDENCE, "focus": FOCI}.get(name, NUMBERS)
     if name in ("jobs", "limit", "conflicts") and chance.random() < 0.6:
         pool = ["1", "2", "3"]
     value = chance.choice(pool)
@@ -189,7 +247,9 @@ def places_of(chance, command):
     """Words for the places of a command."""
     if command == "drill":
         return [chance.choice(NUMBERS[:6] + NUMBERS), chance.choice(["1", "2", "3", "0", "x", "+2", "1001"])]
-    words = [chance.choice(FILES)] + ([chance.choice(EVIDENCE)] if command != "list" else [])
+    words = [chance.choice(FILES)] + ([chance.choice(EVIDENCE)] if command in ("check", "export", "carry") else [])
+    if command == "carry":
+        words.append(chance.choice(["more", "more", *FILES]))
     if command == "export":
         number = "1" if chance.random() < 0.7 else chance.choice(NUMBERS)
         words += [number, chance.choice(EXPORTS), chance.choice(EXPORTS)]
@@ -220,15 +280,29 @@ def opening(given, text):
     if given["resume"] not in TEXTS:
         return None, (6, b"", "gmus: read fault on evidence\n")
     try:
-        sets = check_evidence.check(check_evidence.Problem(text.decode()), TEXTS[given["resume"]])[1]
+        sets = check_evidence.check(check_evidence.Problem(text_in_focus(text, given.get("focus"))), TEXTS[given["resume"]])[1]
         return sets["u"] + sets["m"], None
     except check_evidence.Refused as refused:
         return None, (9, b"", f"gmus: evidence refused: {refused}\n")
 
 
-def report_of(text, status):
+def in_focus(text, focus):
+    """The numbers and clauses of a text's problem, narrowed to some groups."""
+    variables, groups, clauses = plain_reader.problem_of(text)
+    return variables, groups, [(group, lits) for group, lits in clauses if focus is None or group == 0 or group in focus]
+
+
+def text_in_focus(text, focus):
+    """The text of that problem."""
+    if focus is None:
+        return text.decode()
+    variables, groups, clauses = in_focus(text, focus)
+    return "".join([f"p gcnf {variables} {len(clauses)} {groups}\n", *(f"{{{group}}} {' '.join(map(str, [*lits, 0]))}\n" for group, lits in clauses)])
+
+
+def report_of(text, status, focus=None):
     groups = plain_reader.problem_of(text)[1]
-    sets = brute_force.report(*plain_reader.problem_of(text)).split("\n", 2)[2]
+    sets = brute_force.report(*in_focus(text, focus)).split("\n", 2)[2]
     return f"p gmus {groups}\ns {'COMPLETE' if status == 0 else 'PARTIAL'}\n{sets}".encode()
 
 
@@ -246,12 +320,13 @@ def wanted_of_list(given):
         return [ends]
     if given.get("evidence") in ("", "no/out"):
         return [(7, b"", "gmus: write fault on evidence\n")]
-    limit, sets = given.get("limit", 1000000000), report_of(text, 0).count(b"\n") - 3
+    focus = given.get("focus")
+    limit, sets = given.get("limit", 1000000000), report_of(text, 0, focus).count(b"\n") - 3
     if limit > sets:
-        return [(0, report_of(text, 0), "")]
+        return [(0, report_of(text, 0, focus), "")]
     line = f"gmus: limit of {limit} records reached\n"
     if max(limit, len(held)) >= sets:
-        return [(4, report_of(text, 4), line)]
+        return [(4, report_of(text, 4, focus), line)]
     lists = [b"p gmus 1\ns PARTIAL\nu 1 0\ne 1 0\n", b"p gmus 1\ns PARTIAL\nm 1 0\ne 0 1\n"]
     return [(4, report, line) for report in (lists[1:] if held else lists)]
 
@@ -265,9 +340,40 @@ def wanted_of_check(given):
         return [(5, b"", offence)]
     if given["evidence"] not in TEXTS:
         return [(6, b"", "gmus: read fault on evidence\n")]
-    problem = check_evidence.Problem(text.decode())
+    problem = check_evidence.Problem(text_in_focus(text, given.get("focus")))
     kind, told = mutate_evidence.plain(problem, TEXTS[given["evidence"]])
     return [(0, told, "")] if kind == "yes" else [(9, b"", f"gmus: evidence refused: {told.decode()}\n")]
+
+
+def wanted_of_carry(given):
+    """OLD, NEW, the extension and EVIDENCE are judged in this order, and NEW is listed."""
+    for name in (given["file"], given["longer"]):
+        if name not in TEXTS:
+            return [(6, b"", "gmus: read fault on input\n")]
+        offence = plain_reader.first_offence(TEXTS[name])
+        if offence:
+            return [(5, b"", offence)]
+    old, new = (plain_reader.problem_of(TEXTS[given[name]]) for name in ("file", "longer"))
+    place = first_break(old, new)
+    if place is not None:
+        return [no_extension(place)]
+    checked, = wanted_of_check({"file": given["file"], "evidence": given["known"]})
+    if checked[0]:
+        return [checked]
+    if given.get("evidence") in LOST:
+        return [(7, b"", "gmus: write fault on evidence\n")]
+    return [(0, report_of(TEXTS[given["longer"]], 0), "")]
+
+
+def first_break(old, new):
+    """The first place, from 1, at which a problem extends another one no more; 0 where it has fewer variables or groups."""
+    if new[0] < old[0] or new[1] < old[1]:
+        return 0
+    for at, clause in enumerate(old[2]):
+        if at >= len(new[2]) or (new[2][at][0], list(new[2][at][1])) != (clause[0], list(clause[1])):
+            return at + 1
+    late = [at + 1 for at, clause in enumerate(new[2]) if at >= len(old[2]) and clause[0] <= old[1]]
+    return late[0] if late else None
 
 
 def wanted_of_export(given):
@@ -294,6 +400,12 @@ def wanted_of_drill(given):
     return [(0, f"drill {len(links) + wide} {2 ** wide} {len(links)}\n".encode(), "")]
 
 
+def wanted_of_roles(given):
+    if given["file"] not in TEXTS:
+        return [(6, b"", "gmus: read fault on input\n")]
+    return [wanted_roles(TEXTS[given["file"]], given.get("focus"))]
+
+
 def try_words(chance, gmus, folder, commands):
     words = draw_words(chance, commands)
     asked = plain_reader.words_read(words, commands)
@@ -317,7 +429,8 @@ def wanted_of(asked):
     if asked is None:
         return [(2, b"", "gmus: bad command line\n")]
     command, given = asked
-    return {"list": wanted_of_list, "check": wanted_of_check, "export": wanted_of_export, "drill": wanted_of_drill}[command](given)
+    return {"list": wanted_of_list, "check": wanted_of_check, "export": wanted_of_export, "drill": wanted_of_drill, "roles": wanted_of_roles,
+            "carry": wanted_of_carry}[command](given)
 
 
 def compare_names(asked, found, words):
@@ -327,8 +440,9 @@ def compare_names(asked, found, words):
     wanted = dict(TEXTS)
     if command == "export":
         wanted.update(written_of_export(given, found[0]))
-    if command == "list" and "evidence" in given and found[0] in (0, 4):
-        problem, output = check_evidence.Problem(TEXTS[given["file"]].decode()), given["evidence"]
+    if command in ("list", "carry") and "evidence" in given and found[0] in (0, 4):
+        listed = TEXTS[given["longer" if command == "carry" else "file"]]
+        problem, output = check_evidence.Problem(text_in_focus(listed, given.get("focus"))), given["evidence"]
         wanted[output] = held_in(output)
         compare(("yes", found[1]), mutate_evidence.plain(problem, wanted[output]), f"{words}")
     for name in [*TEXTS, *MADE]:
@@ -348,8 +462,14 @@ def commands_of(gmus, folder):
     commands = {"list": ["jobs", "conflicts", "limit", "evidence"], "check": []}
     if run(gmus, ["export", os.path.join(folder, "none"), "e", "1", "cnf", "lrat"])[0] == 6:
         commands["export"] = []
+    if run(gmus, ["carry", os.path.join(folder, "none"), "e", "g"])[0] == 6:
+        commands["carry"] = ["jobs", "evidence"]
     if run(gmus, ["drill", "0", "1"])[0] == 0:
         commands["drill"] = ["jobs"]
+    if run(gmus, ["roles", os.path.join(folder, "none"), "--focus", "1"])[0] == 6:
+        commands["roles"] = ["jobs", "focus"]
+        commands["list"].append("focus")
+        commands["check"].append("focus")
     write(os.path.join(folder, "f"), ONE)
     if run(gmus, ["list", os.path.join(folder, "f"), "--resume", os.path.join(folder, "none")])[0] == 6:
         commands["list"].append("resume")
@@ -363,7 +483,7 @@ def try_case(number, seed, gmus, folder, commands):
     kind = number % 4
     if kind == 3:
         return try_words(chance, gmus, folder, commands)
-    return try_evidence(chance, gmus, folder, commands) if kind == 2 else try_file(chance, gmus, folder)
+    return try_evidence(chance, gmus, folder, commands) if kind == 2 else try_file(chance, gmus, folder, commands)
 
 
 def main():

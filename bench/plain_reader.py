@@ -133,21 +133,28 @@ def problem_of(text):
     return variables, groups, clauses
 
 
-# ---- the words: a command's places, and its options with the numbers that they take (None: any text)
+# ---- the words: a command's places, and its options with the numbers that they take (None: any text; GROUPS: a LIST of these)
 
 GREATEST = 2 ** 64 - 1
+GROUPS = (1, 2 ** 32 - 1)
 COMMANDS = {
-    "list": (["file"], {"jobs": (1, 64), "conflicts": (0, GREATEST), "limit": (1, 1000000000), "evidence": None, "resume": None}),
-    "check": (["file", "evidence"], {}),
+    "list": (["file"], {"jobs": (1, 64), "conflicts": (0, GREATEST), "limit": (1, 1000000000), "evidence": None, "resume": None, "focus": GROUPS}),
+    "check": (["file", "evidence"], {"focus": GROUPS}),
     "export": (["file", "evidence", ("number", (1, 1000000000)), "cnf", "lrat"], {}),
     "drill": ([("seed", (0, GREATEST)), ("size", (1, 1000))], {"jobs": (1, 64)}),
+    "roles": (["file"], {"jobs": (1, 64), "focus": GROUPS}),
+    "carry": (["file", "known", "longer"], {"jobs": (1, 64), "evidence": None}),
 }
 
 
 def value_of(text, numbers):
-    """The number of a text as Rust reads a u64, where it is in range; the text itself where any is taken; else None."""
+    """The number of a text as Rust reads a u64, where it is in range; the text itself where any is taken; the set of a LIST
+    whose numbers are in range; else None."""
     if numbers is None:
         return text
+    if numbers is GROUPS:
+        groups = {value_of(piece, (1, GROUPS[1])) for piece in text.split(",")}
+        return None if None in groups else groups
     if not re.fullmatch(r"\+?[0-9]+", text, re.ASCII) or not numbers[0] <= int(text) <= numbers[1]:
         return None
     return int(text)
