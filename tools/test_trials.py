@@ -31,8 +31,8 @@ def tried():
 
 
 def whole_reports(text):
-    """The file `f`, the groups in focus or None, and the report that has to be printed, for each run that gives a report in
-    which no set is missing."""
+    """The file that is listed, the groups in focus or None, and the report that has to be printed, for each run that gives a
+    report in which no set is missing."""
     problem, focus, printed = None, None, []
     for line, more, texts in trials.walk(text + "\nend"):
         if more and not line.startswith("== "):
@@ -43,7 +43,8 @@ def whole_reports(text):
                 yield problem, focus, report
             named = re.search(r" --focus[ =](\S+)", line)
             focus = {int(number) for number in re.findall(r"\d+", named.group(1))} if named else None
-            problem, printed = texts.files.get("f"), []
+            listed = re.search(r" (?:list|check|carry \S+ \S+) ([a-z])\b", line)
+            problem, printed = texts.files.get(listed.group(1) if listed else "f"), []
 
 
 def is_small(problem):
