@@ -3,7 +3,8 @@
 //! What an old correction leaves out is satisfied by its witness, in the longer problem too, where new variables are false.
 //! So it is grown from there: the groups of the correction and the new ones are tried, one after the other. Of the groups of
 //! the correction all stay out, since none of them could be put in before.
-ghost use Rattle.std.specs.Prelude.{◌≡◌, IfOk};
+ghost use Rattle.std.specs.Prelude.{◌≡◌, ◌<◌, true, length, IfOk, IfSome};
+ghost use Rattle.gm_base.specs.Evidence.{is_witness};
 ghost use Rattle.evidence_rec.specs.Records.{AllAccepted};
 ghost use Rattle.evidence_rec.specs.Asking.{IsSpent, IsHonestOver};
 ghost use Rattle.edit_session.specs.Extends.{Extends};
@@ -12,9 +13,59 @@ ghost use Rattle.edit_session.specs.Opening.{IsKnown, TellsRegrown, TellsAllRegr
 
 use crate::witnesses::carried_witness;
 use evidence_rec::{Oracle, Record, Records};
-use gm_base::{GroupSet, Problem, Purse};
+use gm_base::{Assign, GroupSet, Problem, Purse};
 use mss_grow::{Grown, grow};
 use std::alloc::{AllocError, Global};
+
+/// A set of groups, and an assignment that satisfies it.
+#[derive(Drop)]
+pub struct Start {
+    pub set: GroupSet,
+    pub witness: Assign,
+}
+
+/// What the record at this place is grown from, where it is a correction: the old groups that it leaves out.
+pub fn start_at(
+    alloc: Global,
+    old: &Problem,
+    records: &Records,
+    at: usize,
+    new: &Problem,
+) -> Result<Option<Start>, AllocError>
+    requires extends { Extends old.now new.now }
+    requires accepted { AllAccepted old.now records.now }
+    requires within { at < length records.now }
+    ensures { IfOk result (λ found. IfSome found (λ start. is_witness new.now start.set start.witness ≡ true)) }
+{
+    let _groups = old.groups(); // The problem is well-formed.
+    start_of(alloc, old, records.at(at), new)
+}
+
+fn start_of(
+    alloc: Global,
+    old: &Problem,
+    known: &Record,
+    new: &Problem,
+) -> Result<Option<Start>, AllocError>
+    requires extends { Extends old.now new.now }
+    requires known { IsKnown old.now known.now }
+    ensures { IfOk result (λ found. IfSome found (λ start. is_witness new.now start.set start.witness ≡ true)) }
+{
+    let Record::Correction {
+        set,
+        witness,
+        proofs: _,
+    } = known
+    else {
+        return Ok(None);
+    };
+    let left = set.complement(alloc, old.groups())?;
+    let assign = carried_witness(alloc, new, witness)?;
+    Ok(Some(Start {
+        set: left,
+        witness: assign,
+    }))
+}
 
 /// Adds what the corrections of records grow into, in order, and gives the set asked where the purse is empty.
 pub fn regrow_all<O: Oracle>(

@@ -30,4 +30,5 @@ mod witnesses;
 
 pub use carried::Carried;
 pub use carrying::{carry, keep_conflicts, regrow_corrections};
+pub use corrections::{Start, start_at};
 pub use extension::first_break;
