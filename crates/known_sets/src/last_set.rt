@@ -32,6 +32,14 @@ impl LastSet {
         self.marks.as_slice()
     }
 
+    /// Whether it is this set.
+    pub fn is(&self, set: &GroupSet) -> bool {
+        match &self.set {
+            Some(last) => last.as_slice() == set.as_slice(),
+            None => false,
+        }
+    }
+
     /// The one group that the set has more than the last one.
     pub fn missing_of(&self, set: &GroupSet) -> Option<u32> {
         let Some(last) = &self.set else {

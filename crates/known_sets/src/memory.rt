@@ -36,6 +36,8 @@ pub struct Memory {
     satisfied: SatisfiedSets,
     critical: CriticalGroups,
     models: ModelMaker,
+    // How many assignments stand before the first one that an answer brought, where some were told.
+    told: usize,
 }
 
 impl Memory {
@@ -49,6 +51,7 @@ impl Memory {
             satisfied: SatisfiedSets::new(alloc, groups, most / 2)?,
             critical: CriticalGroups::new(alloc),
             models: ModelMaker::new(alloc, problem)?,
+            told: 0,
         })
     }
 
@@ -64,12 +67,15 @@ impl Memory {
     }
 
     /// A refuted set within a set with one group more, where one is found: the one that was refuted last, or by that group.
-    /// It is looked for by the group where the set is the last satisfied one.
+    /// It is looked for by the group where the set is the last satisfied one. Where sets were told it is made that one first.
     pub fn refuted_with(&mut self, alloc: Global, set: &GroupSet, group: u32) -> Option<Refuted>
         ensures right { (p : Problem) → IsRightFor p self.old → IsRightFor p self.new }
         ensures within { IfSome result (λ entry. IsSubset entry.set (with_group set.now group)) }
         ensures refuted { (p : Problem) → IsRightFor p self.old → IfSome result (IsRefuted p) }
     {
+        if self.told > 0 && !self.satisfied.is_last(set) {
+            self.satisfied.answered(alloc, set);
+        }
         let growing = self.satisfied.last_marks();
         self.refuted.within_more(alloc, set, group, growing)
     }
@@ -128,7 +134,37 @@ impl Memory {
         ensures right { (p : Problem) → IsRightFor p self.old → IsRightFor p self.new }
         ensures witness { (p : Problem) → IsRightFor p self.old → IsSubset set.now (all_groups p.groups) → IfSome result (λ assign. is_witness p set.now assign ≡ true) }
     {
-        let Ok(found) = self.models.repaired(alloc, &self.satisfied, set) else {
+        let last = self.satisfied.len().checked_sub(1)?;
+        self.repaired_at(alloc, last, set)
+    }
+
+    /// An assignment that satisfies the background and a set, where some flips make one of the assignment that was told of a
+    /// smaller set.
+    pub fn repaired_from(
+        &mut self,
+        alloc: Global,
+        smaller: &GroupSet,
+        set: &GroupSet,
+    ) -> Option<Assign>
+        ensures right { (p : Problem) → IsRightFor p self.old → IsRightFor p self.new }
+        ensures witness { (p : Problem) → IsRightFor p self.old → IsSubset set.now (all_groups p.groups) → IfSome result (λ assign. is_witness p set.now assign ≡ true) }
+    {
+        if self.told == 0 {
+            return None;
+        }
+        let number = self.satisfied.outside(smaller)?;
+        if number >= self.told {
+            return None;
+        }
+        self.repaired_at(alloc, number, set)
+    }
+
+    // The same, of the assignment of this number.
+    fn repaired_at(&mut self, alloc: Global, number: usize, set: &GroupSet) -> Option<Assign>
+        ensures right { (p : Problem) → IsRightFor p self.old → IsRightFor p self.new }
+        ensures witness { (p : Problem) → IsRightFor p self.old → IsSubset set.now (all_groups p.groups) → IfSome result (λ assign. is_witness p set.now assign ≡ true) }
+    {
+        let Ok(found) = self.models.repaired(alloc, &self.satisfied, number, set) else {
             return None;
         };
         let Turned { out, assign } = found?;
@@ -247,6 +283,17 @@ impl Memory {
     {
         self.models.count_answer();
         self.refuted.hold(alloc, set, proof)
+    }
+
+    /// Remembers that an assignment satisfies the background and a set, as one that was told.
+    pub fn keep_told(&mut self, alloc: Global, set: &GroupSet, assign: &Assign)
+        ensures { (p : Problem) → IsRightFor p self.old → is_witness p set.now assign.now ≡ true → IsRightFor p self.new }
+    {
+        let groups = self.models.groups();
+        let kept = self.satisfied.insert_set(alloc, groups, set, assign);
+        if kept.is_ok() {
+            self.told = self.satisfied.len();
+        }
     }
 
     /// Remembers a record: what refutes a conflict, or what satisfies all groups but a correction. A refutation in a

@@ -100,12 +100,13 @@ impl ModelMaker {
         self.answers.saturating_mul(each)
     }
 
-    /// Flips variables of the assignment that was remembered last, so that it satisfies the set. It isn't tried on small
+    /// Flips variables of the assignment of this number, so that it satisfies the set. It isn't tried on small
     /// problems, nor where repairs have cost more so far than the questions have, and seldom where many in a row failed.
     pub fn repaired(
         &mut self,
         alloc: Global,
         satisfied: &SatisfiedSets,
+        number: usize,
         set: &GroupSet,
     ) -> Result<Option<Turned>, AllocError>
         ensures right { (p : Problem) → MakesModelsOf p self.old → MakesModelsOf p self.new }
@@ -120,11 +121,12 @@ impl ModelMaker {
         }
         let rotation = taken(alloc, &mut self.rotation, &self.problem)?;
         mark_all(&mut self.marks, set.as_slice(), true);
-        let found = repair_last(
+        let found = repair_one(
             alloc,
             &rotation,
             &self.problem,
             satisfied,
+            number,
             &self.marks,
             &mut self.repairs,
             most,
@@ -256,22 +258,20 @@ fn lent(alloc: Global, kept: &mut Option<Flips>, problem: &Problem) -> Result<Fl
     }
 }
 
-// What comes of repairing the assignment that was remembered last, so that it satisfies the marked groups.
-fn repair_last(
+// What comes of repairing the assignment of this number, so that it satisfies the marked groups.
+fn repair_one(
     alloc: Global,
     rotation: &Rotation,
     problem: &Problem,
     satisfied: &SatisfiedSets,
+    number: usize,
     marks: &[bool],
     looks: &mut u64,
     most: u64,
 ) -> Result<Option<Turned>, AllocError>
     ensures { IsListing problem.now.clauses rotation.now → All (IsSatisfied problem.now) satisfied.now → IfOk result (λ found. IfSome found (λ turned. Satisfies problem.now turned.out turned.assign)) }
 {
-    let Some(last) = satisfied.len().checked_sub(1) else {
-        return Ok(None);
-    };
-    let Some(lent) = satisfied.get(last) else {
+    let Some(lent) = satisfied.get(number) else {
         return Ok(None);
     };
     let Some(out) = set_of(alloc, lent.set) else {

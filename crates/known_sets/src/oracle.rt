@@ -19,7 +19,7 @@ ghost use Rattle.known_sets.specs.Inside.{refuted_set, IsProved};
 use crate::entry::Refuted;
 use crate::memory::Memory;
 use evidence_rec::{Asked, Oracle, Record};
-use gm_base::{Derivation, GroupSet, Problem, Purse};
+use gm_base::{Assign, Derivation, GroupSet, Problem, Purse};
 use lrat_steps::Log;
 use std::alloc::{AllocError, Global};
 use std::marker::Model;
@@ -82,6 +82,15 @@ impl<O: Oracle> KnownSets<O> {
         ensures { self.new ≡ self.old }
     {
         self.memory.keep_record(alloc, found);
+    }
+
+    /// Remembers an assignment that satisfies the background and a set, before any question: where growing asks about the set
+    /// with a group more, the assignment is repaired first.
+    pub fn witnessed(&mut self, alloc: Global, set: &GroupSet, assign: &Assign)
+        requires { is_witness self.old.problem set.now assign.now ≡ true }
+        ensures { self.new ≡ self.old }
+    {
+        self.memory.keep_told(alloc, set, assign);
     }
 }
 
@@ -218,6 +227,9 @@ impl<O: Oracle> Oracle for KnownSets<O> {
         }
         let more = set.with(alloc, group)?;
         if let Some(assign) = self.memory.satisfying(alloc, &more) {
+            return Ok(Asked::Sat(assign));
+        }
+        if let Some(assign) = self.memory.repaired_from(alloc, set, &more) {
             return Ok(Asked::Sat(assign));
         }
         self.ask_within(alloc, &more, turn, purse)

@@ -90,6 +90,16 @@ impl SatisfiedSets {
         self.last.marks()
     }
 
+    /// Whether the set is the one that was answered last.
+    pub fn is_last(&self, set: &GroupSet) -> bool {
+        self.last.is(set)
+    }
+
+    /// The number of a complement that may have just the groups that the set lacks.
+    pub fn outside(&self, set: &GroupSet) -> Option<usize> {
+        self.numbers.outside(set.as_slice())
+    }
+
     /// The one group that the set has more than the one that was answered last.
     pub fn missing_of(&self, set: &GroupSet) -> Option<u32> {
         self.last.missing_of(set)

@@ -5,7 +5,7 @@ use Rattle.gm_base.specs.Sets.{has}
 use Rattle.model_flips.specs.declared.rotation.Turned.{Turned}
 use Rattle.model_flips.specs.Rotation.{Satisfies}
 use Rattle.known_sets.proofs.MemoryLemmas.{is_witness-missing}
-use Rattle.known_sets.proofs.memory.Memory.repaired.Goals as goal
+use Rattle.known_sets.proofs.memory.Memory.repaired_at.Goals as goal
 
 -- the set has none of the groups that are left out
 pub returns-clause-witness : goal.returns-clause-witness

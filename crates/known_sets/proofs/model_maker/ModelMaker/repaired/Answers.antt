@@ -13,5 +13,5 @@ returns-clause-found c = λ p right all.
     let listing =
     subst (λ (q : Problem). IsListing q.clauses rotation) same
     (c.in_ok-rotation.ensures.whole (subst (λ (q : Problem). IfSome c.args.self.now.rotation (IsListing q.clauses)) (sym same) right.rotation)) in
-    subst (λ (q : Problem). IfOk c.repair_last-found.result (λ found. IfSome found (λ turned. Satisfies q turned.out turned.assign))) same
-    (c.repair_last-found.ensures (subst (λ (q : Problem). IsListing q.clauses rotation) (sym same) listing) (subst (λ (q : Problem). All (IsSatisfied q) c.args.satisfied.now) (sym same) all))
+    subst (λ (q : Problem). IfOk c.repair_one-found.result (λ found. IfSome found (λ turned. Satisfies q turned.out turned.assign))) same
+    (c.repair_one-found.ensures (subst (λ (q : Problem). IsListing q.clauses rotation) (sym same) listing) (subst (λ (q : Problem). All (IsSatisfied q) c.args.satisfied.now) (sym same) all))

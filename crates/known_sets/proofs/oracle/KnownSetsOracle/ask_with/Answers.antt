@@ -39,7 +39,7 @@ returns-in-Some-clause-honest g c = λ before. subst (λ (s : OracleState). IsHo
 pub with-requires : goal.with-requires
 with-requires g c = with_group-positive _ c.args.set.now c.args.group c.requires
 
--- an answer of a satisfied set leaves problem and log too, and nothing is refuted
+-- an answer of a satisfied set, or of a repair, leaves problem and log too, and nothing is refuted
 pub returns-in-Some-satisfying-clause-refuted : goal.returns-in-Some-satisfying-clause-refuted
 returns-in-Some-satisfying-clause-refuted g c = ap (λ (s : OracleState). s.refuted) (c.self.view_is ∙ c.begin.ensures)
 
@@ -56,3 +56,20 @@ returns-in-Some-satisfying-clause-spent g c =
 
 pub returns-in-Some-satisfying-clause-honest : goal.returns-in-Some-satisfying-clause-honest
 returns-in-Some-satisfying-clause-honest g c = λ before. c.self.invariant.honest
+
+pub returns-in-Some-repaired_from-clause-refuted : goal.returns-in-Some-repaired_from-clause-refuted
+returns-in-Some-repaired_from-clause-refuted g c = ap (λ (s : OracleState). s.refuted) (c.self.view_is ∙ c.begin.ensures)
+
+pub returns-in-Some-repaired_from-clause-asks : goal.returns-in-Some-repaired_from-clause-asks
+returns-in-Some-repaired_from-clause-asks g c = ap (λ (s : OracleState). s.asks) (c.self.view_is ∙ c.begin.ensures)
+
+pub returns-in-Some-repaired_from-clause-at_most_once : goal.returns-in-Some-repaired_from-clause-at_most_once
+returns-in-Some-repaired_from-clause-at_most_once g c = asked_once-within _ c.args.self.now.asks (ap (λ (s : OracleState). s.asks) (c.self.view_is ∙ c.begin.ensures))
+
+pub returns-in-Some-repaired_from-clause-spent : goal.returns-in-Some-repaired_from-clause-spent
+returns-in-Some-repaired_from-clause-spent g c =
+    let began = c.self.view_is ∙ c.begin.ensures in
+    IsSpent-known _ _ c.args.purse.now.left (ap (λ (s : OracleState). s.problem) began) (ap (λ (s : OracleState). s.log) began)
+
+pub returns-in-Some-repaired_from-clause-honest : goal.returns-in-Some-repaired_from-clause-honest
+returns-in-Some-repaired_from-clause-honest g c = λ before. c.self.invariant.honest
