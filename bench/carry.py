@@ -24,7 +24,8 @@ import tempfile
 
 HERE = os.path.dirname(os.path.abspath(__file__))
 TOP = os.path.dirname(HERE)
-FAMILIES = [("chain", 4000), ("types", 40), ("adder", 2000), ("tripled", 180), ("feature", 4000), ("colour", 70)]
+# Each takes half a second and more to list, with its seed.
+FAMILIES = [("chain", 1000, 1), ("types", 60, 5), ("tripled", 180, 1), ("multiplier", 64, 3), ("plan", 16000, 1), ("random", 34, 1)]
 
 
 def text_of(variables, groups, clauses):
@@ -85,8 +86,8 @@ def table(program, rounds):
     print("| Problem | More | Sets | New | list NEW | check OLD | carry | beyond the check | of list |")
     print("|---|---|---|---|---|---|---|---|---|")
     ratios = []
-    for family, size in FAMILIES:
-        made = subprocess.run([sys.executable, os.path.join(HERE, "generate.py"), family, "--size", str(size)],
+    for family, size, seed in FAMILIES:
+        made = subprocess.run([sys.executable, os.path.join(HERE, "generate.py"), family, "--size", str(size), "--seed", str(seed)],
                               stdout=subprocess.PIPE, universal_newlines=True, check=True).stdout
         for last in (1, 10, 100):
             old, new = parted(made, last)
@@ -96,12 +97,12 @@ def table(program, rounds):
             checking, _ = timed(program, rounds, "check", "old", "known")
             carrying, carried = timed(program, rounds, "carry", "old", "known", "new")
             if carried != report:
-                sys.exit(f"{family} and {last} more: carry gives another report")
+                sys.exit(f"{family} {seed} and {last} more: carry gives another report")
             fresh, all_sets = new_sets(before, report)
             part = (carrying - checking) / listing
             if last == 1 and fresh * 10 < all_sets:
                 ratios.append(part)
-            print(f"| {family} {size} | {last} | {all_sets} | {fresh} | {listing:.2f} | {checking:.2f} | {carrying:.2f} |"
+            print(f"| {family} {size} {seed} | {last} | {all_sets} | {fresh} | {listing:.2f} | {checking:.2f} | {carrying:.2f} |"
                   f" {carrying - checking:.2f} | {part:.2f} |", flush=True)
     if ratios:
         mean = math.exp(sum(math.log(max(part, 0.01)) for part in ratios) / len(ratios))
