@@ -1,18 +1,20 @@
 -- Lemmas on candidates.
 use Rattle.std.proofs.Common.{◌≡◌, ℕ, ◌<◌, ◌≤◌, Bool, true, false, not, ◌&&◌, ◌||◌, List, [], ◌∷◌, ◌++◌, length, refl, sym, ◌∙◌, ap, subst, inl, inr, arith, eqb, append-nil}
-use Rattle.std.specs.Prelude.{All}
+use Rattle.std.specs.Prelude.{All, Option, None}
 use Rattle.std.specs.List.{filter, AllByRecursion}
 use Rattle.std.proofs.lemmas.Bool.{false≢true, and_parts, and_from, cond-true, cond-false, cases_Bool, cases_lt, eqb-true, eq-eqb, false_from_ne_true}
 use Rattle.std.proofs.lemmas.List.Elements.{filter-append, All-from_recursion}
 use Rattle.gm_base.specs.Sets.{AscendsAbove, IsGroupSet, has, IsSubset, without}
 use Rattle.sat_base.specs.Derivation.{Derivation}
-use Rattle.gm_base.specs.Problem.{Problem, Sat, satisfies}
+use Rattle.gm_base.specs.Problem.{Problem, IsProblem, Sat, satisfies}
 use Rattle.gm_base.specs.Evidence.{refutes, is_witness, each_passes, AcceptsConflict}
 use Rattle.gm_base.proofs.SetLemmas.{has-without, has-filter, AscendsAbove-filter}
+use Rattle.gm_base.proofs.EvidenceLemmas.{refutes-sound}
 use Rattle.gm_base.proofs.Singles.{IsSubset-without}
 use Rattle.evidence_rec.proofs.EvidenceLemmas.{is_witness-subset, Sat-from_witness, each_passes-push, length-each_passes}
 use Rattle.mus_shrink.specs.declared.candidate.Candidate.{Candidate}
-use Rattle.mus_shrink.specs.Candidate.{IsCandidate}
+use Rattle.evidence_rec.specs.Asking.{OracleState}
+use Rattle.mus_shrink.specs.Candidate.{IsCandidate, TellsTried}
 
 pub IsSubset-from_without : (set : List ℕ) (g : ℕ) → IsSubset (without set g) set
 IsSubset-from_without set g h i = (and_parts (not (eqb h g)) (has set h) (sym (has-without set g h) ∙ i)).1
@@ -152,15 +154,26 @@ same_groups low (x ∷ xs) (y ∷ ys) hx hy same =
               sym (ap (λ b. b || has xs g) not_x) ∙ same g ∙ ap (λ b. b || has ys g) not_y
         ]
 
--- the groups of a set that are in a part of it are that part
-kept-part : (set part : List ℕ) → IsGroupSet set → IsGroupSet part → IsSubset part set → filter (has part) set ≡ part
-kept-part set part ascends part_ascends sub =
-    same_groups 0 (filter (has part) set) part (AscendsAbove-filter (has part) 0 set ascends) part_ascends
-    (λ g. has-filter (has part) set g ∙
-    elim (cases_Bool (has part g)) [
-      | inl inside ↦ and_from (has part g) (has set g) inside (sub g inside) ∙ sym inside
-      | inr out ↦ ap (λ b. b && has set g) out ∙ sym out
-    ])
+-- the groups of a set that pass a test and are in a part of it are those of the part that pass it
+kept-passing : (q : ℕ → Bool) (set part : List ℕ) → IsGroupSet set → IsGroupSet part → IsSubset part set
+    → filter (has part) (filter q set) ≡ filter q part
+kept-passing q set part ascends part_ascends sub =
+    same_groups 0 (filter (has part) (filter q set)) (filter q part)
+    (AscendsAbove-filter (has part) 0 (filter q set) (AscendsAbove-filter q 0 set ascends)) (AscendsAbove-filter q 0 part part_ascends)
+    (λ g. has-filter (has part) (filter q set) g ∙ ap (λ b. has part g && b) (has-filter q set g) ∙ both g ∙ sym (has-filter q part g))
+  where
+    both : (g : ℕ) → (has part g && (q g && has set g)) ≡ (q g && has part g)
+    both g =
+        elim (cases_Bool (has part g)) [
+          | inl inside ↦
+              ap (λ b. b && (q g && has set g)) inside ∙ ap (λ b. q g && b) (sub g inside ∙ sym inside)
+          | inr out ↦
+              ap (λ b. b && (q g && has set g)) out ∙ sym (ap (λ b. q g && b) out ∙ none (q g))
+        ]
+      where
+        none : (b : Bool) → (b && false) ≡ false
+        none true = refl
+        none false = refl
 
 widths : (p : Problem) (set gs : List ℕ) (ws : List (List Bool)) → each_passes (λ g w. is_witness p (without set g) w) gs ws ≡ true
     → AllByRecursion (λ (w : List Bool). length w ≡ p.vars) ws
@@ -172,19 +185,55 @@ widths p set (g ∷ gs) (w ∷ ws) h =
     let width = (and_parts (eqb (length w) p.vars) (satisfies p (without set g) w) parts.0).0 in
     (eqb-true (length w) p.vars width, widths p set gs ws parts.1)
 
--- each group of the set was tried
-whole : (p : Problem) (set : List ℕ) (c : Candidate) → IsGroupSet set → IsCandidate p set set c
-    → each_passes (λ g w. is_witness p (without c.set g) w) c.set c.witnesses ≡ true
-whole p set c ascends h =
-    subst (λ gs. each_passes (λ g w. is_witness p (without c.set g) w) gs c.witnesses ≡ true) (kept-part set c.set ascends h.is_set h.within) h.witnessed
+-- no group was tried yet
+pub candidate-untried : (p : Problem) (c : Candidate) → IsGroupSet c.set → refutes p c.set c.proof ≡ true → c.witnesses ≡ []
+    → IsCandidate p c.set [] c
+candidate-untried p c is_set refuted none =
+    record {
+      is_set = is_set;
+      within = λ g i. i;
+      refuted = refuted;
+      witnessed = ap (each_passes (λ g w. is_witness p (without c.set g) w) []) none;
+    }
 
-pub AcceptsConflict-from_candidate : (p : Problem) (set : List ℕ) (c : Candidate) → IsGroupSet set → IsCandidate p set set c → AcceptsConflict p c.set c.proof c.witnesses
-AcceptsConflict-from_candidate p set c ascends h = record { is_set = h.is_set; refuted = h.refuted; witnessed = whole p set c ascends h }
+-- these groups were tried
+pub candidate-tried : (o : OracleState) (old new : Candidate) (groups : List ℕ) (left : ℕ) (dry : Option (List ℕ)) → IsCandidate o.problem old.set [] old
+    → dry ≡ None → TellsTried o old groups new left dry → IsCandidate o.problem old.set groups new
+candidate-tried o old new groups left dry untried none told = subst (TellsTried o old groups new left) none told old.set [] untried
 
-pub IsShaped-from_candidate : (p : Problem) (set : List ℕ) (c : Candidate) → IsGroupSet set → IsCandidate p set set c
-    → (length c.witnesses ≡ length c.set) × All (λ (w : List Bool). length w ≡ p.vars) c.witnesses
-IsShaped-from_candidate p set c ascends h =
-    let passes = whole p set c ascends h in (
-      length-each_passes (λ g w. is_witness p (without c.set g) w) c.set c.witnesses passes,
-      All-from_recursion (λ (w : List Bool). length w ≡ p.vars) c.witnesses (widths p c.set c.set c.witnesses passes),
+-- two lists of witnesses become one for all groups of the set
+abbrev pub Merges : List ℕ → List ℕ → List (List Bool) → List (List Bool) → List (List Bool) → Type 0
+Merges last set others lasts all =
+    (test : ℕ → List Bool → Bool) → each_passes test (filter (λ g. not (has last g)) set) others ≡ true
+    → each_passes test (filter (has last) set) lasts ≡ true → each_passes test set all ≡ true
+
+-- the others were tried, and then the last ones
+witnessed-merged : (p : Problem) (set last : List ℕ) (first then : Candidate) (all : List (List Bool)) → IsProblem p → IsGroupSet set
+    → IsCandidate p set (filter (λ g. not (has last g)) set) first → IsCandidate p first.set (filter (has last) set) then
+    → Merges last then.set first.witnesses then.witnesses all
+    → each_passes (λ g w. is_witness p (without then.set g) w) then.set all ≡ true
+witnessed-merged p set last first then all good ascends h k merges =
+    let test : ℕ → List Bool → Bool = λ g w. is_witness p (without then.set g) w in
+    let unsat = refutes-sound p then.set then.proof good k.is_set k.refuted in
+    let within : IsSubset then.set set = λ g i. h.within g (k.within g i) in
+    merges test
+    (subst (λ gs. each_passes test gs first.witnesses ≡ true) (kept-passing (λ g. not (has last g)) set then.set ascends k.is_set within)
+    (witnessed-core p first.set then.set (filter (λ g. not (has last g)) set) first.witnesses k.within unsat h.witnessed))
+    (subst (λ gs. each_passes test gs then.witnesses ≡ true) (kept-passing (has last) set then.set ascends k.is_set within) k.witnessed)
+
+pub AcceptsConflict-from_candidates : (p : Problem) (set last : List ℕ) (first then : Candidate) (all : List (List Bool)) → IsProblem p → IsGroupSet set
+    → IsCandidate p set (filter (λ g. not (has last g)) set) first → IsCandidate p first.set (filter (has last) set) then
+    → Merges last then.set first.witnesses then.witnesses all
+    → AcceptsConflict p then.set then.proof all
+AcceptsConflict-from_candidates p set last first then all good ascends h k merges =
+    record { is_set = k.is_set; refuted = k.refuted; witnessed = witnessed-merged p set last first then all good ascends h k merges }
+
+pub IsShaped-from_candidates : (p : Problem) (set last : List ℕ) (first then : Candidate) (all : List (List Bool)) → IsProblem p → IsGroupSet set
+    → IsCandidate p set (filter (λ g. not (has last g)) set) first → IsCandidate p first.set (filter (has last) set) then
+    → Merges last then.set first.witnesses then.witnesses all
+    → (length all ≡ length then.set) × All (λ (w : List Bool). length w ≡ p.vars) all
+IsShaped-from_candidates p set last first then all good ascends h k merges =
+    let passes = witnessed-merged p set last first then all good ascends h k merges in (
+      length-each_passes (λ g w. is_witness p (without then.set g) w) then.set all passes,
+      All-from_recursion (λ (w : List Bool). length w ≡ p.vars) all (widths p then.set then.set all passes),
     )

@@ -1,1 +1,3 @@
+pub mod AskedLemmas
 pub mod CandidateLemmas
+pub mod OrderLemmas

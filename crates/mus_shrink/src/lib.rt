@@ -11,13 +11,16 @@
 //! }
 //! ```
 //!
+//! `shrink_keeping` does the same and is given groups that it tries last, for who looks for conflicts that have them.
+//!
 //! Start reading at `specs/Shrunk.antt`. Which of several minimal conflicts is found is not told, nor that it is a
-//! smallest one.
+//! smallest one, or has a group that was tried last.
 #![tactic(auto)]
 
 mod candidate;
 mod deletion;
+mod order;
 mod shrunk;
 
-pub use deletion::shrink;
+pub use deletion::{shrink, shrink_keeping};
 pub use shrunk::Shrunk;
