@@ -1,7 +1,7 @@
 -- All groups but an unsettled one.
-use Rattle.std.proofs.Common.{◌≡◌, ℕ, ◌+◌, ◌<◌, Bool, true, false, not, ◌||◌, eqb, List, [], ◌∷◌, ◌++◌, length, take, get_or, refl, sym, ◌∙◌, ap, subst, inl, inr}
+use Rattle.std.proofs.Common.{◌≡◌, ℕ, ◌+◌, ◌<◌, ◌≤◌, Bool, true, false, not, ◌||◌, eqb, List, [], ◌∷◌, ◌++◌, length, take, get_or, refl, sym, ◌∙◌, ap, subst, inl, inr, arith}
 use Rattle.std.specs.List.{list_all, list_any, filter}
-use Rattle.std.proofs.lemmas.Bool.{false≢true, false_from_ne_true, true_from_ne_false, or_left, or_right, and_parts, cases_Bool, eqb-true, eq-eqb, not-true}
+use Rattle.std.proofs.lemmas.Bool.{false≢true, false_from_ne_true, true_from_ne_false, or_left, or_right, and_parts, cases_Bool, cond-true, eqb-true, eq-eqb, not-true}
 use Rattle.std.proofs.lemmas.List.{take_more}
 use Rattle.std.proofs.lemmas.List.Folds.{list_any-append}
 use Rattle.gm_base.specs.declared.kind.Side.{Side}
@@ -158,3 +158,26 @@ pub one_here : (g : ℕ) (xs : List ℕ) (i : ℕ) → i < length xs → (get_or
 one_here g xs i within other =
     any_at (λ h. not (eqb h g)) xs (get_or xs i 0) (get_in xs i 0 within)
     (ap not (false_from_ne_true (eqb (get_or xs i 0) g) (λ e. other (eqb-true (get_or xs i 0) g e))))
+
+-- a correction of two groups has another one than each
+
+pub has_other : (g : ℕ) (set : List ℕ) → IsGroupSet set → 2 ≤ length set → list_any (λ h. not (eqb h g)) set ≡ true
+has_other g [] ascends two = absurd (omega arith)
+has_other g (a ∷ []) ascends two = absurd (omega arith)
+has_other g (a ∷ b ∷ rest) ascends two =
+    elim (cases_Bool (eqb a g)) [
+      | inr differs ↦ or_left (not (eqb a g)) (list_any (λ h. not (eqb h g)) (b ∷ rest)) (ap not differs)
+      | inl first ↦
+          let same : a ≡ g = eqb-true a g first in
+          let above : a < b = ascends.1.0 in
+          let other : eqb b g ≡ false = false_from_ne_true (eqb b g) (λ e. let too : b ≡ g = eqb-true b g e in absurd (omega arith)) in
+          or_right (not (eqb a g)) (list_any (λ h. not (eqb h g)) (b ∷ rest)) (or_left (not (eqb b g)) (list_any (λ h. not (eqb h g)) rest) (ap not other))
+    ]
+
+pub filter-each : (test : ℕ → Bool) (xs : List ℕ) → ((g : ℕ) → test g ≡ true) → filter test xs ≡ xs
+filter-each test [] each = refl
+filter-each test (x ∷ xs) each = cond-true (test x) (x ∷ filter test xs) (filter test xs) (each x) ∙ ap (λ ys. x ∷ ys) (filter-each test xs each)
+
+-- nothing is unsettled
+pub none_unsettled : (groups : ℕ) (found : List Found) (unsettled : List ℕ) → unsettled ≡ [] → AreUnsettled groups found unsettled
+none_unsettled groups found unsettled none g i = absurd (false≢true (sym (ap (λ gs. has gs g) none) ∙ i))

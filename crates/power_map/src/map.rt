@@ -24,6 +24,7 @@ use gm_base::{Derivation, GroupSet, Purse, Side};
 use lrat_steps::Log;
 use std::alloc::{AllocError, Global};
 use std::marker::Model;
+use std::mem;
 
 /// Finds sets of groups that nothing explores, by the learning solver.
 #[derive(Drop)]
@@ -94,7 +95,9 @@ impl MapEngine for PowerMap {
         // Room first, so that all is as it was where there is none.
         self.sides.reserve(1)?;
         let begins = is_beginning(self.for_roles, self.sides.as_slice());
-        let left = unsettled_behind(alloc, begins, self.unsettled.as_slice(), set, side)?;
+        // Without memory none comes first any more.
+        let unsettled = mem::replace(&mut self.unsettled, Vec::new(alloc));
+        let left = unsettled_behind(alloc, begins, unsettled, set, side)?;
         let clause = block_lits(alloc, set, side)?;
         self.solver.add(alloc, &clause)?;
         self.sides.push_reserved(side);

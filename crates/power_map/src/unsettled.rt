@@ -7,7 +7,7 @@
 //!
 //! The groups of a conflict that is the first block of all are unsettled. Each later block settles those that it tells of,
 //! and a group is handed out once.
-ghost use Rattle.std.specs.Prelude.{◌≡◌, ◌<◌, not, ◌==◌, [], ◌∷◌, true, IfOk};
+ghost use Rattle.std.specs.Prelude.{◌≡◌, ◌<◌, ℕ, not, ◌==◌, [], ◌∷◌, true, IfOk};
 ghost use Rattle.std.specs.List.{list_any};
 ghost use Rattle.gm_base.specs.Sets.{complement};
 ghost use Rattle.power_map.specs.Unsettled.{leaves, unsettled_behind};
@@ -22,15 +22,15 @@ pub fn is_beginning(for_roles: bool, sides: &[Side]) -> bool
     for_roles && sides.is_empty()
 }
 
-/// The groups that are unsettled behind a block. Where there were none it takes no memory, but for the first block.
+/// The groups that are unsettled behind a block. Where it settles none it takes no memory, but for the first block.
 pub fn unsettled_behind(
     alloc: Global,
     begins: bool,
-    groups: &[u32],
+    groups: Vec<u32>,
     set: &GroupSet,
     side: Side,
 ) -> Result<Vec<u32>, AllocError>
-    ensures { IfOk result (λ left. left.items ≡ unsettled_behind begins side set.now groups.now) }
+    ensures { IfOk result (λ left. left.items ≡ unsettled_behind begins side set.now groups.items) }
 {
     if begins {
         return match side {
@@ -38,13 +38,26 @@ pub fn unsettled_behind(
             Side::Down => Ok(Vec::new(alloc)),
         };
     }
+    if settles_none(set, side) {
+        return Ok(groups);
+    }
     let mut left = Vec::new(alloc);
-    for g in groups {
+    for g in groups.as_slice() {
         if leaves(set, side, *g) {
             left.push(*g)?;
         }
     }
     Ok(left)
+}
+
+// Whether that of a correction has two groups, so that it has another one than each.
+fn settles_none(set: &GroupSet, side: Side) -> bool
+    ensures { result ≡ true → (g : ℕ) → leaves side set.now g ≡ true }
+{
+    match side {
+        Side::Up => false,
+        Side::Down => set.as_slice().len() >= 2,
+    }
 }
 
 // Whether a block leaves all groups but this one.

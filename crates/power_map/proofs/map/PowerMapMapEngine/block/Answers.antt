@@ -67,7 +67,7 @@ invariant_of-self-2 c =
     let pushed = c.push_reserved.ensures.items ∙ ap (λ (ss : List Side). ss ++ c.args.side ∷ []) c.in_ok-reserve.ensures.items in
     let lits = c.deref.ensures.value ∙ c.in_ok-clause.ensures in
     let next : c.in_ok-left.left.items ≡ unsettled_behind c.is_beginning-begins.result c.args.side c.args.set.now a.unsettled.items =
-    c.in_ok-left.ensures ∙ ap (unsettled_behind c.is_beginning-begins.result c.args.side c.args.set.now) c.as_slice-2.ensures.value in
+    c.in_ok-left.ensures ∙ ap (unsettled_behind c.is_beginning-begins.result c.args.side c.args.set.now) (ap (λ (v : _). v.items) c.replace-unsettled.ensures.value) in
     let both =
     told_block a.solver c.add.new.self a.sides.items c.push_reserved.new.self.items a.empty c.args.side
     c.args.set.now c.deref.result.now c.self.invariant.kept c.in_ok-add.ensures.ok lits pushed in
