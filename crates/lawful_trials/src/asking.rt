@@ -28,7 +28,7 @@ use known_sets::KnownSets;
 use lawful_fakes::{Lacking, TableOracle};
 use lrat_steps::Log;
 use mss_grow::{Grown, grow};
-use mus_shrink::{Shrunk, shrink};
+use mus_shrink::{Shrunk, shrink_keeping};
 use std::alloc::{AllocError, Global};
 use trial_script::Step;
 
@@ -222,19 +222,26 @@ impl<O: Counted> Asker<'_, O> {
         }
     }
 
-    /// Asks about a set, and shrinks or grows it.
+    /// Asks about a set, and shrinks or grows it. The groups of a second part are tried last.
     fn explore(&mut self, alloc: Global, step: &Step<'_>, out: &mut String) -> Played {
         let set = set_in(alloc, step, 0, self.problem.groups())?;
-        self.find(alloc, &set, out)?;
+        let last = set_in(alloc, step, 1, self.problem.groups())?;
+        self.find(alloc, &set, &last, out)?;
         self.tell_asked(out)
     }
 
     /// Tells what a set is shrunk or grown to, or why it isn't.
-    fn find(&mut self, alloc: Global, set: &GroupSet, out: &mut String) -> Result<(), AllocError>
+    fn find(
+        &mut self,
+        alloc: Global,
+        set: &GroupSet,
+        last: &GroupSet,
+        out: &mut String,
+    ) -> Result<(), AllocError>
         requires { IsSubset set.now (all_groups self.old.problem.now.groups) }
     {
         match self.oracle.ask(alloc, set, 0, &mut self.purse) {
-            Ok(Asked::Unsat(core)) => self.shrink(alloc, &core, out),
+            Ok(Asked::Unsat(core)) => self.shrink(alloc, &core, last, out),
             Ok(Asked::Sat(assign)) => self.grow(alloc, set, &assign, out),
             Ok(Asked::Dry) => out.push_str("dry"),
             Err(AllocError) => out.push_str("no memory"),
@@ -242,12 +249,18 @@ impl<O: Counted> Asker<'_, O> {
     }
 
     /// Tells the conflict that the last core is shrunk to.
-    fn shrink(&mut self, alloc: Global, core: &GroupSet, out: &mut String) -> Result<(), AllocError>
+    fn shrink(
+        &mut self,
+        alloc: Global,
+        core: &GroupSet,
+        last: &GroupSet,
+        out: &mut String,
+    ) -> Result<(), AllocError>
         requires refuted { (O.state self.old.oracle).refuted ≡ Some core.now }
         requires within { IsSubset core.now (all_groups self.old.problem.now.groups) }
     {
         let oracle = &mut self.oracle;
-        match shrink(alloc, oracle, self.problem, core, 0, &mut self.purse) {
+        match shrink_keeping(alloc, oracle, self.problem, core, last, 0, &mut self.purse) {
             Ok(Shrunk::Done(record)) => tell_record(&record, out),
             Ok(Shrunk::Dry(_)) => out.push_str("dry"),
             Err(AllocError) => out.push_str("no memory"),

@@ -4,3 +4,4 @@ pub mod Steps
 pub mod Learned
 pub mod Crewed
 pub mod CutOff
+pub mod Unmet

@@ -13,6 +13,7 @@ use evidence_rec::{MapEngine, Oracle};
 use gm_base::Problem;
 use gm_ports::Gate;
 use lrat_steps::Log;
+use map_core::Goal;
 use std::alloc::{AllocError, Global};
 use std::sync::Wait;
 use std::thread::{self, Threads};
@@ -73,6 +74,7 @@ pub fn work_all<O: Oracle + Send, M: MapEngine + Send, G: Gate, R: Threads + Wai
     alloc: Global,
     board: &Board<M>,
     problem: &Problem,
+    goal: Goal,
     workers: &mut [Worker<O>],
     gate: &G,
 )
@@ -94,7 +96,7 @@ pub fn work_all<O: Oracle + Send, M: MapEngine + Send, G: Gate, R: Threads + Wai
             ensures { HasWorked board.entry.now problem.entry.now O.state worker.old worker.new }
         {
             let pace = Pace::new(place == leader, problem.len());
-            work_beside(rt, alloc, board, problem, worker, gate, pace, &signs)
+            work_beside(rt, alloc, board, problem, goal, worker, gate, pace, &signs)
         },
     );
 }

@@ -21,6 +21,7 @@
 
 mod crew;
 mod marco;
+mod met;
 mod pace;
 mod pool;
 mod signs;

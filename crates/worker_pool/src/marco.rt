@@ -18,6 +18,7 @@ ghost use Rattle.worker_pool.specs.Course.{Free, At, IsGiven};
 ghost use Rattle.worker_pool.specs.Exploring.{TellsExplored};
 ghost use Rattle.worker_pool.specs.Workers.{IsNew, IsAt, IsOver};
 
+use crate::met::Met;
 use crate::pace::Pace;
 use crate::signs::Signs;
 use crate::worker::Worker;
@@ -25,9 +26,9 @@ use board::Board;
 use evidence_rec::{Asked, MapEngine, Oracle, Record};
 use gm_base::{Assign, GroupSet, Problem, Purse};
 use gm_ports::Gate;
-use map_core::{Posted, Refilled, Retirement, Taken};
+use map_core::{Goal, Posted, Refilled, Retirement, Taken};
 use mss_grow::{Grown, grow};
-use mus_shrink::{Shrunk, shrink};
+use mus_shrink::{Shrunk, shrink_keeping};
 use std::alloc::{AllocError, Global};
 use std::sync::Wait;
 
@@ -46,6 +47,7 @@ pub fn explore<O: Oracle>(
     oracle: &mut O,
     problem: &Problem,
     seed: &GroupSet,
+    met: &Met,
     turn: u64,
     purse: &mut Purse,
 ) -> Result<Explored, AllocError>
@@ -56,7 +58,7 @@ pub fn explore<O: Oracle>(
 {
     match oracle.ask(alloc, seed, turn, purse)? {
         Asked::Sat(assign) => grow_seed(alloc, oracle, problem, seed, &assign, turn, purse),
-        Asked::Unsat(core) => shrink_core(alloc, oracle, problem, seed, &core, turn, purse),
+        Asked::Unsat(core) => shrink_core(alloc, oracle, problem, seed, &core, met, turn, purse),
         Asked::Dry => Ok(Explored::Dry(seed.copy(alloc)?)),
     }
 }
@@ -91,6 +93,7 @@ fn shrink_core<O: Oracle>(
     problem: &Problem,
     seed: &GroupSet,
     core: &GroupSet,
+    met: &Met,
     turn: u64,
     purse: &mut Purse,
 ) -> Result<Explored, AllocError>
@@ -101,7 +104,8 @@ fn shrink_core<O: Oracle>(
     ensures explored { IfOk result (TellsExplored (O.state oracle.new) seed.now purse.new.left) }
     ensures spent { IsSpent (O.state oracle.old) (O.state oracle.new) purse.old.left purse.new.left }
 {
-    match shrink(alloc, oracle, problem, core, turn, purse)? {
+    let last = met.unmet_of(alloc, core)?;
+    match shrink_keeping(alloc, oracle, problem, core, &last, turn, purse)? {
         Shrunk::Done(record) => Ok(Explored::Found(record)),
         Shrunk::Dry(asked) => Ok(Explored::Dry(asked)),
     }
@@ -117,6 +121,7 @@ fn work_on<O: Oracle, M: MapEngine, R: Wait>(
     turn: u64,
     seed: &GroupSet,
     grant: u64,
+    met: &mut Met,
     signs: &Signs,
 ) -> bool
     requires board { board.now.opening.problem ≡ problem.now }
@@ -132,10 +137,19 @@ fn work_on<O: Oracle, M: MapEngine, R: Wait>(
     let mut purse = Purse { left: grant };
     let mut granted = grant;
     loop {
-        let explored = explore(alloc, &mut worker.oracle, problem, seed, turn, &mut purse);
+        let explored = explore(
+            alloc,
+            &mut worker.oracle,
+            problem,
+            seed,
+            met,
+            turn,
+            &mut purse,
+        );
         let used = granted - purse.left;
         match explored {
             Ok(Explored::Found(record)) => {
+                met.mark(record.set());
                 signs.come();
                 let posted = board.post(rt, &mut worker.seat, used, record);
                 signs.go();
@@ -159,12 +173,14 @@ fn work_on<O: Oracle, M: MapEngine, R: Wait>(
 
 /// Explores one seed after the other, until the board has no more work for this worker.
 ///
-/// The gate is passed before each job. Want of memory ends the worker. Before and between jobs it may rest (`pace.rt`).
+/// Where roles are wanted, the board's goal too, conflicts with groups that it has not met are looked for (`met.rt`). The gate
+/// is passed before each job. Want of memory ends the worker. Before and between jobs it may rest (`pace.rt`).
 pub fn work<O: Oracle, M: MapEngine, G: Gate, R: Wait>(
     rt: &R,
     alloc: Global,
     board: &Board<M>,
     problem: &Problem,
+    goal: Goal,
     worker: &mut Worker<O>,
     gate: &G,
 )
@@ -179,6 +195,7 @@ pub fn work<O: Oracle, M: MapEngine, G: Gate, R: Wait>(
         alloc,
         board,
         problem,
+        goal,
         worker,
         gate,
         Pace::new(true, problem.len()),
@@ -192,6 +209,7 @@ pub fn work_beside<O: Oracle, M: MapEngine, G: Gate, R: Wait>(
     alloc: Global,
     board: &Board<M>,
     problem: &Problem,
+    goal: Goal,
     worker: &mut Worker<O>,
     gate: &G,
     mut pace: Pace,
@@ -203,12 +221,15 @@ pub fn work_beside<O: Oracle, M: MapEngine, G: Gate, R: Wait>(
     ensures same { IsSameSeat worker.old.seat worker.new.seat }
     ensures over { IsOver board.now problem.now (O.state worker.new.oracle) worker.new.seat }
 {
+    let mut met = Met::new(alloc, goal, problem.groups());
     pace.begin(rt, signs);
     signs.come();
     while let Taken::Job { turn, seed, grant } = board.take(rt, &mut worker.seat, 0) {
         signs.go();
         gate.pass(worker.seat.number(), turn);
-        if !work_on(rt, alloc, board, problem, worker, turn, &seed, grant, signs) {
+        if !work_on(
+            rt, alloc, board, problem, worker, turn, &seed, grant, &mut met, signs,
+        ) {
             signs.end();
             return;
         }

@@ -103,7 +103,15 @@ fn share<O: Oracle + Send + Drop, M: MapEngine + Send + Drop, G: Gate, R: Thread
     )?;
     let mut logs = Vec::with_capacity(alloc, count + 1)?;
     let mut workers = hire(alloc, oracles, &mut seats)?;
-    work_all(rt, alloc, &board, problem, workers.as_mut_slice(), gate);
+    work_all(
+        rt,
+        alloc,
+        &board,
+        problem,
+        goal,
+        workers.as_mut_slice(),
+        gate,
+    );
     dismiss(problem, workers, &mut seats, &mut logs);
     Ok(settle(board, seats, logs))
 }
