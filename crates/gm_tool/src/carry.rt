@@ -2,7 +2,9 @@
 //! file, and lists that from there. What is known of the old file is let go before the enumeration begins.
 ghost use Rattle.std.specs.Prelude.{◌≡◌, Some, IfOk};
 ghost use Rattle.edit_session.specs.Extends.{Extends};
+ghost use Rattle.evidence_rec.specs.Records.{AllAccepted};
 ghost use Rattle.gm_words.specs.Requests.{AreGoodJobs, asked_by, text_of};
+ghost use Rattle.worker_pool.specs.Workers.{IsFresh};
 ghost use Rattle.gm_tool.specs.CarrySteps.{Carries, Dries, IsDryReady, TellsOver, dried_by};
 ghost use Rattle.gm_tool.specs.Outside.{outside};
 ghost use Rattle.gm_tool.specs.Resuming.{AreGoodFirst};
@@ -16,11 +18,13 @@ use crate::longer::{Longer, begin_longer};
 use crate::prepared::Prepared;
 use crate::records_report::report_of;
 use crate::writing::{Stop, write_outputs};
-use edit_session::{Carried, keep_conflicts, regrow_corrections};
-use evidence_rec::{Oracle, Records};
+use edit_session::{Carried, keep_conflicts, regrow_corrections, start_at};
+use evidence_rec::{Oracle, Record, Records};
 use gm_base::{Problem, Purse};
 use gm_ports::{Files, Gate, Sink};
 use gm_words::{Carrying, Request};
+use group_oracle::GroupOracle;
+use known_sets::KnownSets;
 use lrat_steps::{Log, Logs};
 use map_core::{Closing, Goal, History, Verdict};
 use std::alloc::{AllocError, Global};
@@ -104,8 +108,8 @@ fn list_longer<F: Files, O: Sink, G: Gate, R: Threads + Wait + Sync>(
     }
 }
 
-/// Carries records of the old problem over to the new one, by an oracle that is told the conflicts first. What is known of the
-/// old one is let go here.
+/// Carries records of the old problem over to the new one, by an oracle that is told all that is known before it is asked. What
+/// is known of the old one is let go here.
 fn carry_over(
     alloc: Global,
     old: Problem,
@@ -117,7 +121,7 @@ fn carry_over(
     ensures { IfOk result (TellsOver old new.now records) }
 {
     let conflicts = keep_conflicts(alloc, &old, &records, new)?;
-    let mut oracle = fresh_oracle(alloc, new, conflicts.as_slice())?;
+    let mut oracle = told_oracle(alloc, &old, &records, new, conflicts.as_slice())?;
     let mut purse = Purse { left: u64::MAX };
     let carried = regrow_corrections(
         alloc,
@@ -133,6 +137,45 @@ fn carry_over(
         Carried::Opening(first) => Ok(Over::Opening(log, first, purse.left)),
         Carried::Dry(_) => Ok(Over::Dry(log)),
     }
+}
+
+/// An oracle that is told the kept conflicts, and what each correction grows from.
+fn told_oracle(
+    alloc: Global,
+    old: &Problem,
+    records: &Records,
+    new: &Problem,
+    conflicts: &[Record],
+) -> Result<KnownSets<GroupOracle>, AllocError>
+    requires extends { Extends old.now new.now }
+    requires known { AreGoodFirst old.now records.now }
+    requires kept { AllAccepted new.now conflicts.now }
+    ensures { IfOk result (IsFresh new.now) }
+{
+    let mut oracle = fresh_oracle(alloc, new, conflicts)?;
+    tell_starts(alloc, &mut oracle, old, records, new)?;
+    Ok(oracle)
+}
+
+/// Tells an oracle the sets from which corrections of the old problem are grown, and what satisfies them.
+fn tell_starts(
+    alloc: Global,
+    oracle: &mut KnownSets<GroupOracle>,
+    old: &Problem,
+    records: &Records,
+    new: &Problem,
+) -> Result<(), AllocError>
+    requires problem { oracle.old.problem ≡ new.now }
+    requires extends { Extends old.now new.now }
+    requires known { AreGoodFirst old.now records.now }
+    ensures { oracle.new ≡ oracle.old }
+{
+    for at in 0..records.len() {
+        if let Some(start) = start_at(alloc, old, records, at, new)? {
+            oracle.witnessed(alloc, &start.set, &start.witness);
+        }
+    }
+    Ok(())
 }
 
 /// Writes what is known where the purse was empty before the enumeration began: no records.
