@@ -19,25 +19,27 @@ use std::alloc::{AllocError, Global};
 use std::marker::Model;
 use std::snapshot::Snapshot;
 use std::sync::Wait;
-use turn_lock::{LockClosing, NoRoom, TurnLock};
+use turn_lock::{Book, LockClosing, NoRoom, TurnLock};
 
 /// The right to append, one record after the other.
 pub type Seat = turn_lock::Seat<Entry, Opening>;
 
-/// A journal on a disk, one append at a time.
+/// A book behind a lock of its own, whatever the book is: so it is seen that threads may share it.
 #[derive(Drop)]
-pub struct Journal<D: Disk> {
-    lock: TurnLock<JournalBook<D>>,
+pub struct BookLock<B: Book> {
+    lock: TurnLock<B>,
 }
 
-impl<D: Disk> Model for Journal<D> {
+impl<B: Book> Model for BookLock<B> {
     ghost use Rattle.turn_lock.specs.Seats.{LockView};
-    ghost use Rattle.gm_journal.specs.Entries.{OpeningView};
 
-    ghost Value = { LockView OpeningView };
+    ghost Value = { LockView B.Opening };
 
     ghost view = { λ j. j.lock };
 }
+
+/// A journal on a disk, one append at a time.
+pub type Journal<D> = BookLock<JournalBook<D>>;
 
 /// What came of starting a journal.
 #[derive(Drop)]
@@ -122,10 +124,10 @@ impl<D: Disk> Journal<D> {
         requires { AreAll self seats.items }
         ensures { TellsClosing D.state self.opening seats.items result }
     {
-        let Journal { lock } = self;
+        let BookLock { lock } = self;
         match lock.close(seats) {
             LockClosing::Closed(book) => JournalClosing::Ended(book.into_disk()),
-            LockClosing::Held(lock, seats) => JournalClosing::Held(Journal { lock }, seats),
+            LockClosing::Held(lock, seats) => JournalClosing::Held(BookLock { lock }, seats),
         }
     }
 }
@@ -143,7 +145,7 @@ fn share<D: Disk + Drop>(
 {
     match TurnLock::start(alloc, book, seats) {
         Ok((lock, seats)) => Started::Opened {
-            journal: Journal { lock },
+            journal: BookLock { lock },
             seats,
             records,
         },

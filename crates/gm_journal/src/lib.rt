@@ -45,5 +45,5 @@ mod salvaging;
 
 pub use book::JournalBook;
 pub use entry::{Appended, Entry, Opening};
-pub use journal::{Journal, JournalClosing, Seat, Started};
+pub use journal::{BookLock, Journal, JournalClosing, Seat, Started};
 pub use salvaging::{JournalRead, Salvaged, salvage};

@@ -5,7 +5,7 @@ use Rattle.disk_frames.specs.Frames.{IsSettled}
 use Rattle.disk_frames.specs.Salvage.{IsReadTo}
 use Rattle.gm_journal.specs.Salvage.{HoldsRecords}
 use Rattle.gm_journal.proofs.StartLemmas.{kept_opened}
-use Rattle.gm_journal.proofs.journal.Journal.start.Goals as goal
+use Rattle.gm_journal.proofs.journal.Journal+D.start.Goals as goal
 
 -- the disk was made ready for what a salvage found on it
 pub open-requires-clause-kept : goal.open-requires-clause-kept

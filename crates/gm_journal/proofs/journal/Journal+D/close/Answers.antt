@@ -3,7 +3,7 @@ use Rattle.turn_lock.specs.Seats.{LockView, HasAll}
 use Rattle.gm_journal.specs.Entries.{OpeningView, who_of}
 use Rattle.gm_journal.specs.Histories.{IsLegal}
 use Rattle.gm_journal.proofs.Orders.{is_left}
-use Rattle.gm_journal.proofs.journal.Journal.close.Goals as goal
+use Rattle.gm_journal.proofs.journal.Journal+D.close.Goals as goal
 
 -- the book has the history that the seats made
 pub returns-in-Closed : goal.returns-in-Closed
