@@ -40,7 +40,7 @@ opening_for p first b = record { problem = p; records = first; workers = b.jobs;
 -- what is left of a board that its history makes of this opening: an honest log of each worker, in their order, and last the
 -- map's, in which as much was learnt as the history says that was used
 pub record IsClosedFor (p : Problem) (first : List Record) (b : Bounds) (logs : List (List LogStep)) (closing : Closing) : Type 0 where
-  pub left : pool.IsLeft (opening_for p first b) logs closing
+  pub left : pool.IsLeft (opening_for p first b) false logs closing
 
 -- the enumeration is closed, and its count is that of its logs
 pub record IsLeft (p : Problem) (first : List Record) (b : Bounds) (left : Enumerated) : Type 0 where

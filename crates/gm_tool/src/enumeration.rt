@@ -9,7 +9,8 @@ ghost use Rattle.gm_tool.specs.Resuming.{AreGoodFirst};
 
 use evidence_rec::{Record, Records};
 use gm_base::Problem;
-use gm_ports::Gate;
+use gm_journal::Journal;
+use gm_ports::{Gate, NoDisk};
 use group_oracle::GroupOracle;
 use known_sets::KnownSets;
 use lrat_steps::Logs;
@@ -79,12 +80,15 @@ pub fn list_sets<G: Gate, R: Threads + Wait + Sync>(
         bounds.limit,
         bounds.goal,
         gate,
+        None::<(Journal<NoDisk>, Vec<gm_journal::Seat>)>,
     );
     let Outcome {
         verdict: _,
         spent,
         logs,
         closing,
+        broken: _,
+        journal: _,
     } = outcome;
     let Some(closing) = closing else {
         return Err(AllocError);

@@ -24,6 +24,7 @@ mod asking;
 mod boards;
 mod cores;
 mod flips;
+mod journalled;
 mod maps;
 mod moves;
 mod oracles;

@@ -8,6 +8,7 @@
 //! | `map` | makes a map and searches it for seeds: see `maps.rt` |
 //! | `core`, `board` | plays the calls of workers: see `cores.rt` and `boards.rt` |
 //! | `workers`, `either` | has workers enumerate: see `workers.rt` |
+//! | `journalled` | has workers enumerate that keep a journal: see `journalled.rt` |
 //! | `flips` | changes assignments: see `flips.rt` |
 use crate::cores::play_core;
 use crate::flips::play_flips;

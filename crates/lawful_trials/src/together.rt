@@ -3,6 +3,7 @@
 //! That is done only where the runtime is at hand, in `main`. A player is handed none, so it holds what `main` makes of it: a
 //! closure that plays these calls.
 use crate::boards::play_board;
+use crate::journalled::play_journalled;
 use crate::moves::Played;
 use crate::workers::{play_either, play_workers};
 use gm_base::Problem;
@@ -50,6 +51,7 @@ pub fn play_together<R: Threads + Wait + Sync>(
     match step.word(0) {
         "board" => play_board(rt, alloc, problem, step, out),
         "workers" => play_workers(rt, alloc, problem, step, out),
+        "journalled" => play_journalled(rt, alloc, problem, step, out),
         "either" => play_either(rt, alloc, problem, step, out),
         _ => Err(Lacking::Evidence),
     }

@@ -20,7 +20,8 @@ use crate::telling::{add_numbers, say};
 use crate::words::{lines_of, part_of, without_digit};
 use evidence_rec::Records;
 use gm_base::{GroupSet, Kind, Problem};
-use gm_ports::OpenGate;
+use gm_journal::Journal;
+use gm_ports::{Disk, NoDisk, OpenGate};
 use lawful_fakes::example::table_of;
 use lawful_fakes::{Lacking, ShyMap, ShyOracle};
 use map_core::{Call, Closing, Entry, Goal, Reply, Verdict};
@@ -47,9 +48,9 @@ pub fn play_workers<R: Threads + Wait + Sync>(
     played(tell_outcome(alloc, &outcome, lines_of(step), out))
 }
 
-fn tell_outcome(
+pub(crate) fn tell_outcome<D: Disk>(
     alloc: Global,
-    outcome: &Outcome,
+    outcome: &Outcome<D>,
     lines: &str,
     out: &mut String,
 ) -> Result<(), AllocError> {
@@ -101,7 +102,7 @@ fn enumerated<R: Threads + Wait + Sync>(
     alloc: Global,
     problem: &Problem,
     step: &Step<'_>,
-) -> Result<Outcome, Lacking> {
+) -> Result<Outcome<NoDisk>, Lacking> {
     let _groups = problem.groups(); // The problem is well-formed.
     let map = map_of(alloc, problem, step)?;
     let oracles = oracles_of(alloc, problem, step)?;
@@ -112,12 +113,22 @@ fn enumerated<R: Threads + Wait + Sync>(
         Goal::All
     };
     Ok(enumerate(
-        rt, alloc, problem, records, oracles, map, 100, 9, goal, &OpenGate,
+        rt,
+        alloc,
+        problem,
+        records,
+        oracles,
+        map,
+        100,
+        9,
+        goal,
+        &OpenGate,
+        None::<(Journal<NoDisk>, Vec<gm_journal::Seat>)>,
     ))
 }
 
 /// The map, which is shy from the block on that the call names.
-fn map_of(alloc: Global, problem: &Problem, step: &Step<'_>) -> Result<ShyMap, Lacking>
+pub(crate) fn map_of(alloc: Global, problem: &Problem, step: &Step<'_>) -> Result<ShyMap, Lacking>
     ensures { IfOk result (λ map. map ≡ new_engine problem.now.groups) }
 {
     let blocks = numbers_of(alloc, step, 1)?;
@@ -128,7 +139,11 @@ fn map_of(alloc: Global, problem: &Problem, step: &Step<'_>) -> Result<ShyMap, L
 }
 
 /// An oracle for each question that the call names.
-fn oracles_of(alloc: Global, problem: &Problem, step: &Step<'_>) -> Result<Vec<ShyOracle>, Lacking>
+pub(crate) fn oracles_of(
+    alloc: Global,
+    problem: &Problem,
+    step: &Step<'_>,
+) -> Result<Vec<ShyOracle>, Lacking>
     ensures some { IfOk result (λ oracles. 0 < length oracles.items) }
     ensures few { IfOk result (λ oracles. length oracles.items ≤ 64) }
     ensures fresh { IfOk result (λ oracles. All (IsFresh problem.now) oracles.items) }
@@ -141,7 +156,7 @@ fn oracles_of(alloc: Global, problem: &Problem, step: &Step<'_>) -> Result<Vec<S
 }
 
 /// The numbers of calls in a part.
-fn numbers_of(alloc: Global, step: &Step<'_>, part: usize) -> Result<Vec<u64>, Lacking> {
+pub(crate) fn numbers_of(alloc: Global, step: &Step<'_>, part: usize) -> Result<Vec<u64>, Lacking> {
     let mut numbers = Vec::new(alloc);
     for word in part_of(step.words(), part) {
         match number_of(word) {
@@ -174,7 +189,11 @@ fn shy_of(alloc: Global, problem: &Problem, questions: &[u64]) -> Result<Vec<Shy
 }
 
 /// Adds a line of the conflicts and one of the corrections.
-fn say_records(alloc: Global, out: &mut String, records: &Records) -> Result<(), AllocError> {
+pub(crate) fn say_records(
+    alloc: Global,
+    out: &mut String,
+    records: &Records,
+) -> Result<(), AllocError> {
     out.push_str("conflicts")?;
     say_sets(alloc, out, records, Kind::Conflict)?;
     out.push_str("corrections")?;
@@ -246,7 +265,11 @@ fn reply_word(entry: &Entry) -> &'static str {
 
 /// Whether all five records were found, or memory was wanting and there are five at most; and so many logs, in which nothing
 /// was learnt.
-fn ends_as_it_may(alloc: Global, outcome: &Outcome, logs: usize) -> Result<bool, AllocError> {
+fn ends_as_it_may(
+    alloc: Global,
+    outcome: &Outcome<NoDisk>,
+    logs: usize,
+) -> Result<bool, AllocError> {
     let Some(closing) = &outcome.closing else {
         return Ok(false);
     };

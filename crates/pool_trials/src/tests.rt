@@ -6,7 +6,8 @@ ghost use Rattle.worker_pool.specs.Workers.{IsFresh};
 use crate::meeting::{Meeting, MeetingOracle};
 use evidence_rec::Records;
 use gm_base::{Kind, Problem};
-use gm_ports::OpenGate;
+use gm_journal::Journal;
+use gm_ports::{NoDisk, OpenGate};
 use lawful_fakes::example::{derivation, four_clauses, set_of, table_of};
 use lawful_fakes::{Lacking, ScriptedMap};
 use map_core::{Closing, Goal, Verdict};
@@ -59,7 +60,7 @@ fn list_in_meeting<R: Threads + Wait + Sync>(
     rt: &R,
     alloc: Global,
     meeting: &Meeting,
-) -> Result<Outcome, Lacking> {
+) -> Result<Outcome<NoDisk>, Lacking> {
     let problem = four_clauses(alloc)?;
     let _groups = problem.groups(); // The problem is well-formed.
     let pair = pair_of(alloc, &problem, meeting)?;
@@ -76,6 +77,7 @@ fn list_in_meeting<R: Threads + Wait + Sync>(
         9,
         Goal::All,
         &OpenGate,
+        None::<(Journal<NoDisk>, Vec<gm_journal::Seat>)>,
     ))
 }
 

@@ -1,11 +1,11 @@
 -- From new workers to workers that are over, and what is left of them.
-use Rattle.std.proofs.Common.{◌≡◌, ℕ, zero, suc, ◌-◌, ◌^◌, ◌<◌, ◌≤◌, List, [], ◌∷◌, ◌++◌, min, length, map, get_or, take, drop, All, Some, append_assoc, refl, sym, ◌∙◌, ap, subst, arith}
+use Rattle.std.proofs.Common.{◌≡◌, ℕ, zero, suc, ◌-◌, Bool, Option, is_some, ◌^◌, ◌<◌, ◌≤◌, List, [], ◌∷◌, ◌++◌, min, length, map, get_or, take, drop, All, Some, append_assoc, refl, sym, ◌∙◌, ap, subst, arith}
 use Rattle.std.proofs.lemmas.List.{get_or-map, length-map, map-append, append-nil}
 use Rattle.std.proofs.Math.Seq.{take-append_seam}
 use Rattle.gm_base.specs.Problem.{Problem}
 use Rattle.lrat_steps.specs.Log.{LogStep}
 use Rattle.turn_lock.specs.Calls.{calls_by}
-use Rattle.turn_lock.specs.Seats.{AreNew, made_at, new_seat}
+use Rattle.turn_lock.specs.Seats.{AreAll, AreNew, made_at, new_seat}
 use Rattle.evidence_rec.specs.Asking.{OracleState, IsHonestOver}
 use Rattle.map_core.specs.declared.entry.Entry.{Entry}
 use Rattle.map_core.specs.declared.entry.Opening.{Opening}
@@ -14,8 +14,9 @@ use Rattle.map_core.specs.Closings.{is_cut_off}
 use Rattle.map_core.specs.Own.{caller_of, calls_of, worker_of, used_in}
 use Rattle.board.specs.Boards.{LockView, SeatView, IsSeatOf, IsClosed}
 use Rattle.worker_pool.specs.declared.worker.Worker.{Worker}
+use Rattle.worker_pool.specs.Pens.{JournalView}
 use Rattle.worker_pool.specs.Workers.{IsFresh, IsNew, IsOver, HasWorked, IsDone, AreOver, oracle_of, seat_of, log_of}
-use Rattle.worker_pool.specs.Outcomes.{IsLeft, learned_in}
+use Rattle.worker_pool.specs.Outcomes.{IsLeft, HaveCalls, learned_in}
 use Rattle.worker_pool.proofs.Learned.{used_in-all, learned_in-push}
 use Rattle.worker_pool.proofs.CutOff.{none_cut_off, not_journal}
 
@@ -24,7 +25,7 @@ pub written : {X : Type 0} (xs ys : List X) (n : ℕ) → length xs ≡ n → ta
 written xs ys n e = ap (λ (k : ℕ). take k (xs ++ ys)) (sym e) ∙ take-append_seam xs ys
 
 -- the value at a place, whatever stands for a place that is not there
-at_place : {A B : Type 0} (f : A → B) (xs : List A) (k : ℕ) → k < length xs → (a : A) × ((d : A) → get_or xs k d ≡ a) × ((d : B) → get_or (map f xs) k d ≡ f a)
+pub at_place : {A B : Type 0} (f : A → B) (xs : List A) (k : ℕ) → k < length xs → (a : A) × ((d : A) → get_or xs k d ≡ a) × ((d : B) → get_or (map f xs) k d ≡ f a)
 at_place f [] k low = absurd (omega arith)
 at_place f (x ∷ xs) zero low = (x, (λ d. refl), λ d. refl)
 at_place f (x ∷ xs) (suc k) low = at_place f xs k (omega arith)
@@ -50,7 +51,7 @@ pub told_of : {A B : Type 0} (f : A → B) (ws more : List A) (rest new : List B
 told_of f ws more rest new w all was next pushed =
     ap (λ l. map f l ++ new) pushed ∙ ap (λ l. l ++ new) (map-append f ws (w ∷ [])) ∙ append_assoc (map f ws) (f w ∷ []) new ∙ ap (λ l. map f ws ++ l) (sym next) ∙ was
 
-module _ {O : Type 0} (b : LockView Opening) (p : Problem) (state : O → OracleState) (count : ℕ) (seats : List (SeatView Entry Opening)) (new : AreNew b count seats) (workers : b.opening.workers ≡ count) where
+module _ {O : Type 0} (j : Option JournalView) (b : LockView Opening) (p : Problem) (state : O → OracleState) (count : ℕ) (seats : List (SeatView Entry Opening)) (new : AreNew b count seats) (workers : b.opening.workers ≡ count) where
   seat_at : (ws : List (Worker O)) → map seat_of ws ≡ seats → (k : ℕ) (d : Worker O) → k < length ws → (get_or ws k d).seat ≡ new_seat b.id b.opening (made_at k count) k
   seat_at ws same k d low =
       let size = length-map ws seat_of in
@@ -78,9 +79,9 @@ module _ {O : Type 0} (b : LockView Opening) (p : Problem) (state : O → Oracle
 
   -- the worker at a place, when it is over: its seat has the number of the place
   abbrev IsOverAt : ℕ → Worker O → Type 0
-  IsOverAt k t = (t.seat.number ≡ k) × (t.seat.made ≡ made_at k count) × IsOver b p (state t.oracle) t.seat
+  IsOverAt k t = (t.seat.number ≡ k) × (t.seat.made ≡ made_at k count) × IsOver (is_some j) b p (state t.oracle) t.seat
 
-  over_at : (ws ts : List (Worker O)) → map seat_of ws ≡ seats → length ts ≡ length ws → ((k : ℕ) (d : Worker O) → k < length ws → HasWorked b p state (get_or ws k d) (get_or ts k d))
+  over_at : (ws ts : List (Worker O)) → map seat_of ws ≡ seats → length ts ≡ length ws → ((k : ℕ) (d : Worker O) → k < length ws → HasWorked j b p state (get_or ws k d) (get_or ts k d))
       → (k : ℕ) → k < length ts → (t : Worker O) × IsOverAt k t × ((d : SeatView Entry Opening) → get_or (map seat_of ts) k d ≡ t.seat) × ((d : List LogStep) → get_or (map (log_of state) ts) k d ≡ (state t.oracle).log)
   over_at ws ts same size each k low =
       let a = at_place seat_of ts k low in
@@ -88,7 +89,7 @@ module _ {O : Type 0} (b : LockView Opening) (p : Problem) (state : O → Oracle
       let t : Worker O = a.0 in
       let inside : k < length ws = omega arith in
       let seat = seat_at ws same k t inside in
-      let worked : HasWorked b p state (get_or ws k t) t = subst (HasWorked b p state (get_or ws k t)) (a.1 t) (each k t inside) in
+      let worked : HasWorked j b p state (get_or ws k t) t = subst (HasWorked j b p state (get_or ws k t)) (a.1 t) (each k t inside) in
       let same_worker : l.0 ≡ t = sym (l.1 t) ∙ a.1 t in (
         t,
         (worked.same.number ∙ ap (λ (s : SeatView Entry Opening). s.number) seat, worked.same.made ∙ ap (λ (s : SeatView Entry Opening). s.made) seat, worked.over),
@@ -98,7 +99,7 @@ module _ {O : Type 0} (b : LockView Opening) (p : Problem) (state : O → Oracle
 
   -- all workers are over
   pub are_over : (ws ts : List (Worker O)) (ends : List (SeatView Entry Opening)) (logs : List (List LogStep)) → 0 < count → b.opening.problem ≡ p → map seat_of ws ≡ seats → length ts ≡ length ws
-      → ((k : ℕ) (d : Worker O) → k < length ws → HasWorked b p state (get_or ws k d) (get_or ts k d)) → ends ≡ map seat_of ts → logs ≡ map (log_of state) ts → All (IsHonestOver p) logs → AreOver b ends logs
+      → ((k : ℕ) (d : Worker O) → k < length ws → HasWorked j b p state (get_or ws k d) (get_or ts k d)) → ends ≡ map seat_of ts → logs ≡ map (log_of state) ts → All (IsHonestOver p) logs → AreOver (is_some j) b ends logs
   are_over ws ts ends logs some of same size each ends_are logs_are honest =
       let at = over_at ws ts same size each in
       let total : length ends ≡ count = ap length ends_are ∙ length-map ts seat_of ∙ size ∙ sym (length-map ws seat_of) ∙ ap length same ∙ new.count_is in
@@ -121,22 +122,26 @@ module _ {O : Type 0} (b : LockView Opening) (p : Problem) (state : O → Oracle
             let i : k < length ts = omega arith in
             let over = (at k i).1.2 in
             let inside : k < length logs = omega arith in
-            subst (λ q. IsDone q b.opening.tops (get_or logs k d) (get_or ends k s).mine) (sym of)
-            (subst (λ (z : SeatView Entry Opening). IsDone p b.opening.tops (get_or logs k d) z.mine) (sym (seat_is k s i))
-            (subst (λ l. IsDone p b.opening.tops l (at k i).0.seat.mine) (sym (log_is k d i))
+            subst (λ q. IsDone (is_some j) q b.opening.tops (get_or logs k d) (get_or ends k s).mine) (sym of)
+            (subst (λ (z : SeatView Entry Opening). IsDone (is_some j) p b.opening.tops (get_or logs k d) z.mine) (sym (seat_is k s i))
+            (subst (λ l. IsDone (is_some j) p b.opening.tops l (at k i).0.seat.mine) (sym (log_is k d i))
             record { honest = subst (IsHonestOver p) (log_is k d i) (honest k d inside); paid = over.worker.paid; course = over.worker.course; over = over.stands; undecided = over.undecided }));
       }
 
+-- the entries of each seat are those of its number
+pub have_calls : (b : LockView Opening) (seats : List (SeatView Entry Opening)) (left : Closing) (map_log : List LogStep) → AreAll b seats → IsClosed b.opening seats left map_log → HaveCalls left.history seats
+have_calls b seats left map_log all is w d low = ap (λ n. calls_by caller_of n left.history) (sym (all.number w d low)) ∙ is.seats_are.mine w d low
+
 -- what is left when the board is closed
-pub is_left : (b : LockView Opening) (seats : List (SeatView Entry Opening)) (logs : List (List LogStep)) (left : Closing) (map_log : List LogStep) → AreOver b seats logs → IsClosed b.opening seats left map_log
-    → IsLeft b.opening (logs ++ map_log ∷ []) left
-is_left b seats logs left map_log over is =
+pub is_left : (keeps : Bool) (b : LockView Opening) (seats : List (SeatView Entry Opening)) (logs : List (List LogStep)) (left : Closing) (map_log : List LogStep) → AreOver keeps b seats logs → IsClosed b.opening seats left map_log
+    → IsLeft b.opening keeps (logs ++ map_log ∷ []) left
+is_left keeps b seats logs left map_log over is =
     let d : SeatView Entry Opening = record { lock = b.id; opening = Some b.opening; number = 0; made = 0; seen = []; mine = [] } in
     let size : length logs ≡ b.opening.workers = over.logs_count ∙ over.count in
     let count = over.count in
-    let mine : (w : ℕ) → w < length seats → (get_or seats w d).mine ≡ calls_of w left.history = λ w low. sym (ap (λ n. calls_by caller_of n left.history) (sym (over.all.number w d low)) ∙ is.seats_are.mine w d low) in
-    let done : (w : ℕ) (l : List LogStep) → w < b.opening.workers → IsDone b.opening.problem b.opening.tops (get_or logs w l) (calls_of w left.history) =
-    λ w l low. let inside : w < length seats = omega arith in subst (IsDone b.opening.problem b.opening.tops (get_or logs w l)) (mine w inside) (over.done w d l inside) in
+    let mine : (w : ℕ) → w < length seats → (get_or seats w d).mine ≡ calls_of w left.history = λ w low. sym (have_calls b seats left map_log over.all is w d low) in
+    let done : (w : ℕ) (l : List LogStep) → w < b.opening.workers → IsDone keeps b.opening.problem b.opening.tops (get_or logs w l) (calls_of w left.history) =
+    λ w l low. let inside : w < length seats = omega arith in subst (IsDone keeps b.opening.problem b.opening.tops (get_or logs w l)) (mine w inside) (over.done w d l inside) in
     let named : All (λ (e : Entry). e.worker < b.opening.workers) left.history = subst (λ n. All (λ (e : Entry). e.worker < n) left.history) over.count is.seats_are.named in
     let used = used_in-all logs left.history (subst (λ n. All (λ (e : Entry). e.worker < n) left.history) (sym size) named) (λ k l low. (done k l (omega arith)).paid) in
     let all = learned_in-push logs map_log in
@@ -154,14 +159,14 @@ is_left b seats logs left map_log over is =
       named = named;
       workers = done;
       learned = let same = ap used_in history in omega arith;
-      no_journal =
+      no_journal = λ no. let alone = subst (λ k. (w : ℕ) (d : List LogStep) → w < b.opening.workers → IsDone k b.opening.problem b.opening.tops (get_or logs w d) (calls_of w left.history)) no done in
           not_journal is.state.exhausted is.state.settled (is_cut_off is.state.history) is.state.stopped is.state.limited is.closing.verdict
-          (ap is_cut_off (sym history) ∙ none_cut_off b.opening.problem b.opening.tops b.opening.workers left.history named (λ w low. (done w [] low).course));
+          (ap is_cut_off (sym history) ∙ none_cut_off b.opening.problem b.opening.tops b.opening.workers left.history named (λ w low. (alone w [] low).course));
     }
 
 -- the sum of what was learnt does not wrap, since it is within the budget
-pub counted : (o : Opening) (all slice : List (List LogStep)) (left : Closing) (n : ℕ) → IsLeft o all left → o.budget < 2 ^ 64 → slice ≡ all → n ≡ min (learned_in slice) (2 ^ 64 - 1) → n ≡ learned_in all
-counted o all slice left n is small same sum =
+pub counted : (o : Opening) (keeps : Bool) (all slice : List (List LogStep)) (left : Closing) (n : ℕ) → IsLeft o keeps all left → o.budget < 2 ^ 64 → slice ≡ all → n ≡ min (learned_in slice) (2 ^ 64 - 1) → n ≡ learned_in all
+counted o keeps all slice left n is small same sum =
     let learned = is.learned in
     let budget = is.closing_is.sound.budget in
     let opening = ap (λ (x : Opening). x.budget) is.opening in

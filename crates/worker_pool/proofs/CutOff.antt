@@ -13,16 +13,19 @@ use Rattle.map_core.specs.Closings.{verdict_by, is_cut_off}
 use Rattle.worker_pool.specs.Course.{Place, Free, At, Over, MayCome, IsCourse, place_after}
 use Rattle.worker_pool.proofs.Learned.{by_recursion}
 
--- a call that may come is no retirement for a journal
-may_come : (p : Problem) (tops : Bool) (here : Place) (call : Call) → MayCome p tops here call → is_for_journal call ≡ false
-may_come p tops Free call is = ap is_for_journal is
-may_come p tops (At seed) Take may = absurd may
+-- a call that may come where no journal is kept is no retirement for one
+may_come : (p : Problem) (tops : Bool) (here : Place) (call : Call) → MayCome false p tops here call → is_for_journal call ≡ false
+may_come p tops Free Take may = refl
+may_come p tops Free (Refill asked) may = refl
+may_come p tops Free (Post kind set) may = refl
+may_come p tops Free (Retire why) never = absurd (cc)
+may_come p tops (At seed) Take may = refl
 may_come p tops (At seed) (Refill asked) may = refl
 may_come p tops (At seed) (Post kind set) may = refl
 may_come p tops (At seed) (Retire why) is = ap (λ r. is_for_journal (Retire r)) is
 may_come p tops Over call may = absurd may
 
-course_not : (p : Problem) (tops : Bool) (here : Place) (es : List Entry) → IsCourse p tops here es → is_cut_off es ≡ false
+course_not : (p : Problem) (tops : Bool) (here : Place) (es : List Entry) → IsCourse false p tops here es → is_cut_off es ≡ false
 course_not p tops here [] course = refl
 course_not p tops here (e ∷ es) course =
     or_from (is_for_journal e.call) (is_cut_off es) (may_come p tops here e.call course.0)
@@ -54,7 +57,7 @@ none_in n (e ∷ es) named each =
 
 -- where the own entries of each worker are a course of jobs
 pub none_cut_off : (p : Problem) (tops : Bool) (n : ℕ) (es : List Entry) → All (λ (e : Entry). e.worker < n) es
-    → ((w : ℕ) → w < n → IsCourse p tops Free (calls_of w es)) → is_cut_off es ≡ false
+    → ((w : ℕ) → w < n → IsCourse false p tops Free (calls_of w es)) → is_cut_off es ≡ false
 none_cut_off p tops n es named each =
     none_in n es (by_recursion (λ (e : Entry). e.worker < n) es named) (λ w low. course_not p tops Free (calls_of w es) (each w low))
 

@@ -5,3 +5,7 @@ pub mod Learned
 pub mod Crewed
 pub mod CutOff
 pub mod Unmet
+pub mod Written
+pub mod Penned
+pub mod Kept
+pub mod Unbroken

@@ -46,20 +46,23 @@ pub record Settles (p : Problem) (tops : Bool) (seed : List ℕ) (kind : Kind) (
   pub explored : explores (record { kind = kind; set = set }) seed ≡ true
   pub whole : tops ≡ true → Sat p seed → (kind ≡ Correction) × (set ≡ complement p.groups seed)
 
--- what a worker may call there: without a job it takes one; at a job it refills, posts a record that settles the seed, or
--- retires for want of memory; at its end, nothing
-abbrev pub MayCome : Problem → Bool → Place → Call → Type 0
-MayCome p tops Free call = call ≡ Take
-MayCome p tops (At seed) Take = ⊥
-MayCome p tops (At seed) (Refill asked) = Unit {0}
-MayCome p tops (At seed) (Post kind set) = Settles p tops seed kind set
-MayCome p tops (At seed) (Retire why) = why ≡ retirement.Memory
-MayCome p tops Over call = ⊥
+-- what a worker may call there: without a job it takes one, or retires if it keeps a journal; at a job it refills, posts a
+-- record that settles the seed, or retires for want of memory; at its end, nothing
+abbrev pub MayCome : Bool → Problem → Bool → Place → Call → Type 0
+MayCome keeps p tops Free Take = Unit {0}
+MayCome keeps p tops Free (Refill asked) = ⊥
+MayCome keeps p tops Free (Post kind set) = ⊥
+MayCome keeps p tops Free (Retire why) = keeps ≡ true
+MayCome keeps p tops (At seed) Take = ⊥
+MayCome keeps p tops (At seed) (Refill asked) = Unit {0}
+MayCome keeps p tops (At seed) (Post kind set) = Settles p tops seed kind set
+MayCome keeps p tops (At seed) (Retire why) = why ≡ retirement.Memory
+MayCome keeps p tops Over call = ⊥
 
 -- each entry's call may come where the replies before it led
-abbrev pub IsCourse : Problem → Bool → Place → List Entry → Type 0
-IsCourse p tops here [] = Unit {0}
-IsCourse p tops here (e ∷ es) = MayCome p tops here e.call × IsCourse p tops (place_after here e.reply) es
+abbrev pub IsCourse : Bool → Problem → Bool → Place → List Entry → Type 0
+IsCourse keeps p tops here [] = Unit {0}
+IsCourse keeps p tops here (e ∷ es) = MayCome keeps p tops here e.call × IsCourse keeps p tops (place_after here e.reply) es
 
 -- where these entries lead
 abbrev pub place_from : Place → List Entry → Place

@@ -1,8 +1,9 @@
 //! The crew: all workers, from the oracles and the seats, to the seats and the logs.
-ghost use Rattle.std.specs.Prelude.{◌≡◌, ◌<◌, ◌≤◌, ◌++◌, [], ℕ, map, All, IfOk, length, slice_index_or, vec_capacity, vec_len};
+ghost use Rattle.std.specs.Prelude.{◌≡◌, ◌⊎◌, ◌+◌, ◌<◌, ◌≤◌, ◌++◌, ◌∷◌, [], ℕ, List, map, All, Some, None, IfOk, IfErr, IfNone, IfSome, length, slice_index_or, vec_capacity, vec_len, option_copied};
 ghost use Rattle.evidence_rec.specs.Asking.{IsHonestOver};
 ghost use Rattle.map_core.specs.Sound.{IsOpening};
-ghost use Rattle.worker_pool.specs.Workers.{IsNew, HasWorked, oracle_of, seat_of, log_of};
+ghost use Rattle.worker_pool.specs.Pens.{one_each, all_some, first_some};
+ghost use Rattle.worker_pool.specs.Workers.{IsNew, HasNewPen, HasWorked, oracle_of, seat_of, pen_of, broken_of, log_of};
 
 use crate::marco::work_beside;
 use crate::pace::Pace;
@@ -11,31 +12,57 @@ use crate::worker::Worker;
 use board::{Board, Seat};
 use evidence_rec::{MapEngine, Oracle};
 use gm_base::Problem;
-use gm_ports::Gate;
+use gm_journal::Journal;
+use gm_ports::{Disk, Gate};
 use lrat_steps::Log;
 use map_core::Goal;
 use std::alloc::{AllocError, Global};
 use std::sync::Wait;
 use std::thread::{self, Threads};
 
-/// A worker for each oracle, with the seat at its place. The list of seats keeps its room.
+/// A worker for each oracle, with the seat at its place, and the pen, while there are any. The lists of seats and of pens
+/// keep their room.
 pub fn hire<O: Oracle + Drop>(
     alloc: Global,
     oracles: Vec<O>,
     seats: &mut Vec<Seat>,
+    pens: &mut Vec<gm_journal::Seat>,
 ) -> Result<Vec<Worker<O>>, AllocError>
-    requires { length seats.old.items ≡ length oracles.items }
+    requires seats { length seats.old.items ≡ length oracles.items }
+    requires pens { length pens.old.items ≤ length oracles.items }
     ensures oracles { IfOk result (λ workers. map oracle_of workers.items ≡ oracles.items) }
     ensures seats { IfOk result (λ workers. map seat_of workers.items ≡ seats.old.items) }
-    ensures empty { IfOk result (λ _. seats.new.items ≡ []) }
-    ensures room { vec_capacity seats.new ≡ vec_capacity seats.old }
+    ensures pens { IfOk result (λ workers. map pen_of workers.items ≡ one_each (length oracles.items) pens.old.items) }
+    ensures whole { IfOk result (λ workers. All (λ w. w.broken ≡ None) workers.items) }
+    ensures empty { IfOk result (λ _. (seats.new.items ≡ []) × (pens.new.items ≡ [])) }
+    ensures room { (vec_capacity seats.new ≡ vec_capacity seats.old) × (vec_capacity pens.new ≡ vec_capacity pens.old) }
+    ensures untouched { IfErr result (λ _. pens.new ≡ pens.old) }
 {
     let mut workers = Vec::with_capacity(alloc, oracles.len())?;
     for oracle in oracles {
         let seat = seats.remove(0);
-        workers.push_reserved(Worker { oracle, seat });
+        let pen = first_of(pens);
+        workers.push_reserved(Worker {
+            oracle,
+            seat,
+            pen,
+            broken: None,
+        });
     }
     Ok(workers)
+}
+
+// The first of a list, which leaves it.
+fn first_of(pens: &mut Vec<gm_journal::Seat>) -> Option<gm_journal::Seat>
+    ensures some { IfSome result (λ pen. pens.old.items ≡ pen ∷ pens.new.items) }
+    ensures none { IfNone result ((pens.old.items ≡ []) × (pens.new.items ≡ [])) }
+    ensures room { vec_capacity pens.new ≡ vec_capacity pens.old }
+{
+    if pens.is_empty() {
+        None
+    } else {
+        Some(pens.remove(0))
+    }
 }
 
 // So many workers have a thread each, also where there are fewer processors.
@@ -69,7 +96,13 @@ fn leader_of(workers: usize, threads: usize) -> usize
 
 /// All workers at once, in threads. Where there are more workers than processors, a thread has several, which work one
 /// after the other: a seat that waits takes from those that work. Where no thread can be had, all workers do so.
-pub fn work_all<O: Oracle + Send, M: MapEngine + Send, G: Gate, R: Threads + Wait + Sync>(
+pub fn work_all<
+    O: Oracle + Send,
+    M: MapEngine + Send,
+    G: Gate,
+    D: Disk + Send,
+    R: Threads + Wait + Sync,
+>(
     rt: &R,
     alloc: Global,
     board: &Board<M>,
@@ -77,12 +110,14 @@ pub fn work_all<O: Oracle + Send, M: MapEngine + Send, G: Gate, R: Threads + Wai
     goal: Goal,
     workers: &mut [Worker<O>],
     gate: &G,
+    journal: Option<&Journal<D>>,
 )
     requires board { board.now.opening.problem ≡ problem.now }
     requires opening { IsOpening board.now.opening }
     requires new { All (λ w. IsNew board.now problem.now (O.state w.oracle) w.seat) workers.old }
+    requires pens { All (λ w. HasNewPen (option_copied journal) problem.now w) workers.old }
     ensures same { length workers.new ≡ length workers.old }
-    ensures each { (i : ℕ) (d : _) → i < length workers.old → HasWorked board.now problem.now O.state (slice_index_or workers.old i d) (slice_index_or workers.new i d) }
+    ensures each { (i : ℕ) (d : _) → i < length workers.old → HasWorked (option_copied journal.entry) board.now problem.now O.state (slice_index_or workers.old i d) (slice_index_or workers.new i d) }
 {
     let threads = threads_for(rt, workers.len());
     let leader = leader_of(workers.len(), threads);
@@ -92,33 +127,70 @@ pub fn work_all<O: Oracle + Send, M: MapEngine + Send, G: Gate, R: Threads + Wai
         workers,
         threads,
         &|place: usize, worker: &mut Worker<O>|
-            requires { (board.now.opening.problem ≡ problem.now) × IsOpening board.now.opening × IsNew board.now problem.now (O.state worker.old.oracle) worker.old.seat }
-            ensures { HasWorked board.entry.now problem.entry.now O.state worker.old worker.new }
+            requires { (board.now.opening.problem ≡ problem.now) × IsOpening board.now.opening × IsNew board.now problem.now (O.state worker.old.oracle) worker.old.seat × HasNewPen (option_copied journal) problem.now worker.old }
+            ensures { HasWorked (option_copied journal.entry) board.entry.now problem.entry.now O.state worker.old worker.new }
         {
             let pace = Pace::new(place == leader, problem.len());
-            work_beside(rt, alloc, board, problem, goal, worker, gate, pace, &signs)
+            work_beside(
+                rt, alloc, board, problem, goal, worker, gate, journal, pace, &signs,
+            )
         },
     );
 }
 
-/// The seats of all workers go back to their list, and the logs of their oracles to theirs.
+/// The seats of all workers go back to their list, so do their pens, and the logs of their oracles go to theirs. It gives the
+/// count with which an append failed, if one did.
 pub fn dismiss<O: Oracle + Drop>(
     problem: &Problem,
     workers: Vec<Worker<O>>,
     seats: &mut Vec<Seat>,
+    pens: &mut Vec<gm_journal::Seat>,
     logs: &mut Vec<Log>,
-)
+) -> Option<u64>
     requires problem { All (λ w. (O.state w.oracle).problem ≡ problem.now) workers.items }
-    requires empty { (seats.old.items ≡ []) × (logs.old.items ≡ []) }
+    requires empty { (seats.old.items ≡ []) × (pens.old.items ≡ []) × (logs.old.items ≡ []) }
     requires room { (length workers.items ≤ vec_capacity seats.old) × (length workers.items ≤ vec_capacity logs.old) }
+    requires pens { length (all_some (map pen_of workers.items)) ≤ vec_capacity pens.old }
     ensures seats { seats.new.items ≡ map seat_of workers.items }
+    ensures pens { pens.new.items ≡ all_some (map pen_of workers.items) }
     ensures logs { logs.new.items ≡ map (log_of O.state) workers.items }
     ensures honest { All (IsHonestOver problem.now) logs.new.items }
+    ensures broken { result ≡ first_some (map broken_of workers.items) }
     ensures room { vec_capacity logs.new ≡ vec_capacity logs.old }
 {
+    let mut first = None;
     for worker in workers {
-        let Worker { oracle, seat } = worker;
+        let Worker {
+            oracle,
+            seat,
+            pen,
+            broken,
+        } = worker;
         seats.push_reserved(seat);
+        put_back(pen, pens);
         logs.push_reserved(oracle.into_log());
+        first = either(first, broken);
+    }
+    first
+}
+
+// The first count, where there is one, or else the other.
+fn either(first: Option<u64>, other: Option<u64>) -> Option<u64>
+    ensures { result ≡ first_some (first ∷ other ∷ []) }
+{
+    match first {
+        Some(count) => Some(count),
+        None => other,
+    }
+}
+
+// A pen goes to the end of its list, where there is one.
+fn put_back(pen: Option<gm_journal::Seat>, pens: &mut Vec<gm_journal::Seat>)
+    requires { length pens.old.items + length (all_some (pen ∷ [])) ≤ vec_capacity pens.old }
+    ensures items { pens.new.items ≡ pens.old.items ++ all_some (pen ∷ []) }
+    ensures room { vec_capacity pens.new ≡ vec_capacity pens.old }
+{
+    if let Some(pen) = pen {
+        pens.push_reserved(pen);
     }
 }

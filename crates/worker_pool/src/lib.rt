@@ -1,7 +1,7 @@
 //! Workers that enumerate the minimal conflicts and minimal corrections of a problem, at once, over one map.
 //!
 //! ```text
-//! let outcome = enumerate(rt, alloc, &problem, records, oracles, engine, budget, limit, Goal::All, &OpenGate);
+//! let outcome = enumerate(rt, alloc, &problem, records, oracles, engine, budget, limit, Goal::All, &OpenGate, journal);
 //! match outcome.closing {
 //!     Some(closing) => .., // closing.verdict says why it ended; outcome.logs are the oracles', in their order, and last the map's
 //!     None => ..,          // there was no memory
@@ -20,6 +20,7 @@
 #![tactic(auto)]
 
 mod crew;
+mod handing;
 mod marco;
 mod met;
 mod pace;

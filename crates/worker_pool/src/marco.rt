@@ -7,7 +7,7 @@
 //!
 //! Workers do this at the same time. What one of them posts meanwhile can explore the seed of another, which then posts a
 //! record that is held already, or one more of the same seed.
-ghost use Rattle.std.specs.Prelude.{◌≡◌, ◌<◌, ◌≤◌, ◌^◌, true, false, Some, IfOk, length};
+ghost use Rattle.std.specs.Prelude.{◌≡◌, ◌<◌, ◌≤◌, ◌^◌, true, false, Some, IfOk, length, is_some, option_copied};
 ghost use Rattle.gm_base.specs.Sets.{IsSubset, all_groups};
 ghost use Rattle.gm_base.specs.Evidence.{is_witness};
 ghost use Rattle.evidence_rec.specs.Asking.{IsSpent};
@@ -16,8 +16,9 @@ ghost use Rattle.map_core.specs.Own.{worker_of};
 ghost use Rattle.board.specs.Boards.{IsSameSeat};
 ghost use Rattle.worker_pool.specs.Course.{Free, At, IsGiven};
 ghost use Rattle.worker_pool.specs.Exploring.{TellsExplored};
-ghost use Rattle.worker_pool.specs.Workers.{IsNew, IsAt, IsOver};
+ghost use Rattle.worker_pool.specs.Workers.{IsNew, HasNewPen, IsAt, IsOver, IsKeeping, HasKept};
 
+use crate::handing::hand_in;
 use crate::met::Met;
 use crate::pace::Pace;
 use crate::signs::Signs;
@@ -25,8 +26,9 @@ use crate::worker::Worker;
 use board::Board;
 use evidence_rec::{Asked, MapEngine, Oracle, Record};
 use gm_base::{Assign, GroupSet, Problem, Purse};
-use gm_ports::Gate;
-use map_core::{Goal, Posted, Refilled, Retirement, Taken};
+use gm_journal::Journal;
+use gm_ports::{Disk, Gate};
+use map_core::{Goal, Refilled, Retirement, Taken};
 use mss_grow::{Grown, grow};
 use mus_shrink::{Shrunk, shrink_keeping};
 use std::alloc::{AllocError, Global};
@@ -112,7 +114,7 @@ fn shrink_core<O: Oracle>(
 }
 
 /// Explores a seed until its record is posted, and tells whether the worker goes on.
-fn work_on<O: Oracle, M: MapEngine, R: Wait>(
+fn work_on<O: Oracle, M: MapEngine, D: Disk, R: Wait>(
     rt: &R,
     alloc: Global,
     board: &Board<M>,
@@ -122,15 +124,19 @@ fn work_on<O: Oracle, M: MapEngine, R: Wait>(
     seed: &GroupSet,
     grant: u64,
     met: &mut Met,
+    journal: Option<&Journal<D>>,
     signs: &Signs,
 ) -> bool
     requires board { board.now.opening.problem ≡ problem.now }
     requires given { IsGiven problem.now board.now.opening.tops seed.now }
-    requires at { IsAt board.now problem.now (At seed.now) (O.state worker.old.oracle) worker.old.seat }
+    requires at { IsAt (is_some (option_copied journal)) board.now problem.now (At seed.now) (O.state worker.old.oracle) worker.old.seat }
     requires granted { (worker_of worker.old.seat.mine).purse ≡ grant }
+    requires keeps { IsKeeping (option_copied journal) problem.now worker.old }
     ensures same { IsSameSeat worker.old.seat worker.new.seat }
-    ensures goes_on { result ≡ true → IsAt board.now problem.now Free (O.state worker.new.oracle) worker.new.seat }
-    ensures ends { result ≡ false → IsOver board.now problem.now (O.state worker.new.oracle) worker.new.seat }
+    ensures goes_on { result ≡ true → IsAt (is_some (option_copied journal.entry)) board.now problem.now Free (O.state worker.new.oracle) worker.new.seat }
+    ensures keeps { result ≡ true → IsKeeping (option_copied journal.entry) problem.now worker.new }
+    ensures ends { result ≡ false → IsOver (is_some (option_copied journal.entry)) board.now problem.now (O.state worker.new.oracle) worker.new.seat }
+    ensures kept { HasKept (option_copied journal.entry) worker.old worker.new }
     ensures longer { length worker.old.seat.seen < length worker.new.seat.seen }
     ensures short { length worker.new.seat.seen < 2 ^ 63 }
 {
@@ -150,10 +156,9 @@ fn work_on<O: Oracle, M: MapEngine, R: Wait>(
         match explored {
             Ok(Explored::Found(record)) => {
                 met.mark(record.set());
-                signs.come();
-                let posted = board.post(rt, &mut worker.seat, used, record);
-                signs.go();
-                return matches!(posted, Posted::New | Posted::Already);
+                return hand_in(
+                    rt, alloc, board, problem, journal, worker, seed, used, record, signs,
+                );
             }
             Ok(Explored::Dry(asked)) => {
                 let refilled = board.refill(rt, &mut worker.seat, used, asked);
@@ -174,8 +179,9 @@ fn work_on<O: Oracle, M: MapEngine, R: Wait>(
 /// Explores one seed after the other, until the board has no more work for this worker.
 ///
 /// Where roles are wanted, the board's goal too, conflicts with groups that it has not met are looked for (`met.rt`). The gate
-/// is passed before each job. Want of memory ends the worker. Before and between jobs it may rest (`pace.rt`).
-pub fn work<O: Oracle, M: MapEngine, G: Gate, R: Wait>(
+/// is passed before each job. Want of memory ends the worker, and so does a journal that takes no more. Before and between jobs
+/// it may rest (`pace.rt`).
+pub fn work<O: Oracle, M: MapEngine, G: Gate, D: Disk, R: Wait>(
     rt: &R,
     alloc: Global,
     board: &Board<M>,
@@ -183,12 +189,15 @@ pub fn work<O: Oracle, M: MapEngine, G: Gate, R: Wait>(
     goal: Goal,
     worker: &mut Worker<O>,
     gate: &G,
+    journal: Option<&Journal<D>>,
 )
     requires board { board.now.opening.problem ≡ problem.now }
     requires opening { IsOpening board.now.opening }
     requires new { IsNew board.now problem.now (O.state worker.old.oracle) worker.old.seat }
+    requires pen { HasNewPen (option_copied journal) problem.now worker.old }
     ensures same { IsSameSeat worker.old.seat worker.new.seat }
-    ensures over { IsOver board.now problem.now (O.state worker.new.oracle) worker.new.seat }
+    ensures over { IsOver (is_some (option_copied journal.entry)) board.now problem.now (O.state worker.new.oracle) worker.new.seat }
+    ensures kept { HasKept (option_copied journal.entry) worker.old worker.new }
 {
     work_beside(
         rt,
@@ -198,13 +207,14 @@ pub fn work<O: Oracle, M: MapEngine, G: Gate, R: Wait>(
         goal,
         worker,
         gate,
+        journal,
         Pace::new(true, problem.len()),
         &Signs::new(),
     )
 }
 
 /// Works as `work` does, at this pace, beside others that see the same signs: whoever ends wakes those that sleep.
-pub fn work_beside<O: Oracle, M: MapEngine, G: Gate, R: Wait>(
+pub fn work_beside<O: Oracle, M: MapEngine, G: Gate, D: Disk, R: Wait>(
     rt: &R,
     alloc: Global,
     board: &Board<M>,
@@ -212,14 +222,17 @@ pub fn work_beside<O: Oracle, M: MapEngine, G: Gate, R: Wait>(
     goal: Goal,
     worker: &mut Worker<O>,
     gate: &G,
+    journal: Option<&Journal<D>>,
     mut pace: Pace,
     signs: &Signs,
 )
     requires board { board.now.opening.problem ≡ problem.now }
     requires opening { IsOpening board.now.opening }
     requires new { IsNew board.now problem.now (O.state worker.old.oracle) worker.old.seat }
+    requires pen { HasNewPen (option_copied journal) problem.now worker.old }
     ensures same { IsSameSeat worker.old.seat worker.new.seat }
-    ensures over { IsOver board.now problem.now (O.state worker.new.oracle) worker.new.seat }
+    ensures over { IsOver (is_some (option_copied journal.entry)) board.now problem.now (O.state worker.new.oracle) worker.new.seat }
+    ensures kept { HasKept (option_copied journal.entry) worker.old worker.new }
 {
     let mut met = Met::new(alloc, goal, problem.groups());
     pace.begin(rt, signs);
@@ -228,7 +241,7 @@ pub fn work_beside<O: Oracle, M: MapEngine, G: Gate, R: Wait>(
         signs.go();
         gate.pass(worker.seat.number(), turn);
         if !work_on(
-            rt, alloc, board, problem, worker, turn, &seed, grant, &mut met, signs,
+            rt, alloc, board, problem, worker, turn, &seed, grant, &mut met, journal, signs,
         ) {
             signs.end();
             return;

@@ -1,17 +1,20 @@
 //! The enumeration, from its oracles and its engine to what is left of it.
-ghost use Rattle.std.specs.Prelude.{◌≡◌, ◌+◌, ◌-◌, ◌^◌, ◌<◌, ◌≤◌, [], min, All, IfOk, length, map, vec_capacity};
+ghost use Rattle.std.specs.Prelude.{◌≡◌, ◌+◌, ◌-◌, ◌^◌, ◌<◌, ◌≤◌, ℕ, Bool, true, false, Some, None, [], min, All, IfOk, IfErr, IfSome, IfNone, length, map, vec_capacity, slice_index_or, is_some, option_map, option_copied};
 ghost use Rattle.turn_lock.specs.Seats.{AreAll};
 ghost use Rattle.map_core.specs.Sound.{IsOpening};
 ghost use Rattle.map_core.specs.Opens.{opening_of};
-ghost use Rattle.board.specs.Boards.{HaveAllEnded};
+ghost use Rattle.map_core.specs.declared.entry.Opening.{Opening};
+ghost use Rattle.board.specs.Boards.{SeatView, HaveAllEnded};
+ghost use Rattle.worker_pool.specs.Pens.{IsReady};
 ghost use Rattle.worker_pool.specs.Workers.{IsFresh, AreOver};
-ghost use Rattle.worker_pool.specs.Outcomes.{IsOutcome, learned_in};
+ghost use Rattle.worker_pool.specs.Outcomes.{IsOutcome, TellsKept, IsEnded, HaveCalls, ArePensFor, TellsPens, learned_in};
 
 use crate::crew::{dismiss, hire, work_all};
 use board::{Board, BoardClosing, Seat};
 use evidence_rec::{MapEngine, Oracle, Records};
 use gm_base::Problem;
-use gm_ports::Gate;
+use gm_journal::Journal;
+use gm_ports::{Disk, Gate};
 use lrat_steps::{Log, Logs};
 use map_core::{Closing, Goal, Verdict};
 use std::alloc::{AllocError, Global};
@@ -20,7 +23,7 @@ use std::thread::Threads;
 
 /// What is left of an enumeration.
 #[derive(Drop)]
-pub struct Outcome {
+pub struct Outcome<D: Disk> {
     pub verdict: Verdict,
     /// How many clauses were learnt in all logs.
     pub spent: u64,
@@ -28,16 +31,30 @@ pub struct Outcome {
     pub logs: Logs,
     /// What is left of the board; nothing where there was no memory to begin.
     pub closing: Option<Closing>,
+    /// The disk's count of faults, where an append failed.
+    pub broken: Option<u64>,
+    /// The journal, with all its seats.
+    pub journal: Option<(Journal<D>, Vec<gm_journal::Seat>)>,
+}
+
+// What is left of the board and the oracles.
+#[derive(Drop)]
+pub(crate) struct Ended {
+    closing: Closing,
+    logs: Logs,
+    spent: u64,
 }
 
 /// Enumerates the minimal conflicts and minimal corrections of a problem, with a worker for each oracle.
 ///
-/// Where roles alone are wanted it ends once the records tell each group's. All lists that it needs at its end are made
-/// before the workers begin.
+/// Where roles alone are wanted it ends once the records tell each group's. With a journal each new record is appended there
+/// before its worker goes on, and the journal comes back, with its seats in their order. All lists that it needs at its end
+/// are made before the workers begin.
 pub fn enumerate<
     O: Oracle + Send + Drop,
     M: MapEngine + Send + Drop,
     G: Gate,
+    D: Disk + Send + Drop,
     R: Threads + Wait + Sync,
 >(
     rt: &R,
@@ -50,28 +67,101 @@ pub fn enumerate<
     limit: u64,
     goal: Goal,
     gate: &G,
-) -> Outcome
+    journal: Option<(Journal<D>, Vec<gm_journal::Seat>)>,
+) -> Outcome<D>
     requires opening { IsOpening (opening_of problem.now records (length oracles.items) budget limit goal M.TOPS) }
     requires oracles { All (λ o. IsFresh problem.now (O.state o)) oracles.items }
     requires groups { (M.state engine).groups ≡ problem.now.groups }
     requires blocks { (M.state engine).blocks ≡ [] }
     requires log { (M.state engine).log ≡ [] }
-    ensures { IsOutcome (opening_of problem.now records (length oracles.items) budget limit goal M.TOPS) result }
+    requires journal { IfSome journal (λ x. IsReady (opening_of problem.now records (length oracles.items) budget limit goal M.TOPS) x.0 x.1.items) }
+    ensures outcome { IsOutcome (opening_of problem.now records (length oracles.items) budget limit goal M.TOPS) (is_some journal) result }
+    ensures journal { TellsKept (opening_of problem.now records (length oracles.items) budget limit goal M.TOPS) (option_map (λ x. (x.0, x.1.items)) journal) result.closing result.broken (option_map (λ x. (x.0, x.1.items)) result.journal) }
 {
-    match share(
-        rt, alloc, problem, records, oracles, engine, budget, limit, goal, gate,
-    ) {
-        Ok(outcome) => outcome,
+    let (journal, mut pens) = parts_of(alloc, journal);
+    let ended = share(
+        rt,
+        alloc,
+        problem,
+        records,
+        oracles,
+        engine,
+        budget,
+        limit,
+        goal,
+        gate,
+        journal.as_ref(),
+        &mut pens,
+    );
+    outcome_of(alloc, ended, journal, pens)
+}
+
+// The journal and its seats, or none.
+fn parts_of<D: Disk>(
+    alloc: Global,
+    journal: Option<(Journal<D>, Vec<gm_journal::Seat>)>,
+) -> (Option<Journal<D>>, Vec<gm_journal::Seat>)
+    ensures some { IfSome journal (λ x. (result.0 ≡ Some x.0) × (result.1 ≡ x.1)) }
+    ensures none { IfNone journal ((result.0 ≡ None) × (result.1.items ≡ [])) }
+{
+    match journal {
+        Some((journal, pens)) => (Some(journal), pens),
+        None => (None, Vec::new(alloc)),
+    }
+}
+
+// What is left, with the journal.
+fn outcome_of<D: Disk + Drop>(
+    alloc: Global,
+    ended: Result<(Ended, Option<u64>), AllocError>,
+    journal: Option<Journal<D>>,
+    pens: Vec<gm_journal::Seat>,
+) -> Outcome<D>
+    ensures outcome { (o : Opening) (keeps : Bool) → IfOk ended (λ e. IsEnded o keeps e.0) → IsOutcome o keeps result }
+    ensures closed { IfOk ended (λ e. (result.closing ≡ Some e.0.closing) × (result.broken ≡ e.1)) }
+    ensures memory { IfErr ended (λ _. (result.closing ≡ None) × (result.broken ≡ None)) }
+    ensures journal { result.journal ≡ option_map (λ j. (j, pens)) journal }
+{
+    let journal = match journal {
+        Some(journal) => Some((journal, pens)),
+        None => None,
+    };
+    match ended {
+        Ok((ended, broken)) => {
+            let Ended {
+                closing,
+                logs,
+                spent,
+            } = ended;
+            Outcome {
+                verdict: closing.verdict,
+                spent,
+                logs,
+                closing: Some(closing),
+                broken,
+                journal,
+            }
+        }
         Err(AllocError) => Outcome {
             verdict: Verdict::Memory,
             spent: 0,
             logs: Logs::new(alloc),
             closing: None,
+            broken: None,
+            journal,
         },
     }
 }
 
-fn share<O: Oracle + Send + Drop, M: MapEngine + Send + Drop, G: Gate, R: Threads + Wait + Sync>(
+// All that happens between the start of the board and its end, and the count with which an append failed. Where there is no
+// memory for it nothing was done.
+fn share<
+    O: Oracle + Send + Drop,
+    M: MapEngine + Send + Drop,
+    G: Gate,
+    D: Disk + Send,
+    R: Threads + Wait + Sync,
+>(
     rt: &R,
     alloc: Global,
     problem: &Problem,
@@ -82,13 +172,18 @@ fn share<O: Oracle + Send + Drop, M: MapEngine + Send + Drop, G: Gate, R: Thread
     limit: u64,
     goal: Goal,
     gate: &G,
-) -> Result<Outcome, AllocError>
+    journal: Option<&Journal<D>>,
+    pens: &mut Vec<gm_journal::Seat>,
+) -> Result<(Ended, Option<u64>), AllocError>
     requires opening { IsOpening (opening_of problem.now records (length oracles.items) budget limit goal M.TOPS) }
     requires oracles { All (λ o. IsFresh problem.now (O.state o)) oracles.items }
     requires groups { (M.state engine).groups ≡ problem.now.groups }
     requires blocks { (M.state engine).blocks ≡ [] }
     requires log { (M.state engine).log ≡ [] }
-    ensures { IfOk result (IsOutcome (opening_of problem.now records (length oracles.items) budget limit goal M.TOPS)) }
+    requires pens { ArePensFor (opening_of problem.now records (length oracles.items) budget limit goal M.TOPS) (option_copied journal) pens.old.items }
+    ensures ended { IfOk result (λ e. IsEnded (opening_of problem.now records (length oracles.items) budget limit goal M.TOPS) (is_some (option_copied journal.entry)) e.0) }
+    ensures pens { IfOk result (λ e. TellsPens (opening_of problem.now records (length oracles.items) budget limit goal M.TOPS) (option_copied journal.entry) pens.old.items e.0.closing e.1 pens.new.items) }
+    ensures untouched { IfErr result (λ _. pens.new ≡ pens.old) }
 {
     let count = oracles.len();
     let (board, mut seats) = Board::start(
@@ -102,7 +197,7 @@ fn share<O: Oracle + Send + Drop, M: MapEngine + Send + Drop, G: Gate, R: Thread
         engine,
     )?;
     let mut logs = Vec::with_capacity(alloc, count + 1)?;
-    let mut workers = hire(alloc, oracles, &mut seats)?;
+    let mut workers = hire(alloc, oracles, &mut seats, pens)?;
     work_all(
         rt,
         alloc,
@@ -111,26 +206,32 @@ fn share<O: Oracle + Send + Drop, M: MapEngine + Send + Drop, G: Gate, R: Thread
         goal,
         workers.as_mut_slice(),
         gate,
+        journal,
     );
-    dismiss(problem, workers, &mut seats, &mut logs);
-    Ok(settle(board, seats, logs))
+    let broken = dismiss(problem, workers, &mut seats, pens, &mut logs);
+    Ok((settle(board, seats, logs, journal.is_some()), broken))
 }
 
 // Closes the board when all workers are over, and counts what was learnt.
-fn settle<M: MapEngine>(board: Board<M>, seats: Vec<Seat>, mut logs: Vec<Log>) -> Outcome
-    requires over { AreOver board seats.items logs.items }
+fn settle<M: MapEngine>(
+    board: Board<M>,
+    seats: Vec<Seat>,
+    mut logs: Vec<Log>,
+    _keeps: bool,
+) -> Ended
+    requires over { AreOver _keeps board seats.items logs.items }
     requires room { length logs.items + 1 ≤ vec_capacity logs }
     requires budget { board.opening.budget < 2 ^ 64 }
-    ensures { IsOutcome board.opening result }
+    ensures ended { IsEnded board.opening _keeps result }
+    ensures calls { HaveCalls result.closing.history seats.items }
 {
     match board.close(seats) {
         BoardClosing::Closed(closing, map_log) => {
             logs.push_reserved(map_log);
-            Outcome {
-                verdict: closing.verdict,
+            Ended {
                 spent: learned_sum(logs.as_slice()),
                 logs: Logs::from_vec(logs),
-                closing: Some(closing),
+                closing,
             }
         }
         // A board needs no memory to close.

@@ -1,4 +1,4 @@
-use Rattle.std.proofs.Common.{◌≡◌, ℕ, true, List, Option, length, ap, subst}
+use Rattle.std.proofs.Common.{◌≡◌, ℕ, true, false, List, Option, length, ap, subst}
 use Rattle.std.specs.Prelude.{MatchOption}
 use Rattle.evidence_rec.specs.declared.record.Record.{Record}
 use Rattle.map_core.specs.declared.closing.Closing.{Closing}
@@ -18,10 +18,10 @@ returns g c =
     let records = c.args.first in
     let workers = length c.in_ok-oracles.oracles.items in
     let told =
-    subst (λ (m : Option Closing). MatchOption m (outcome.verdict ≡ Memory) (λ k. IsLeft (opened records workers) outcome.logs k × (outcome.verdict ≡ k.verdict))) c.in-Some.is
-    c.enumerate-outcome.ensures.closing in
+    subst (λ (m : Option Closing). MatchOption m (outcome.verdict ≡ Memory) (λ k. IsLeft (opened records workers) false outcome.logs k × (outcome.verdict ≡ k.verdict))) c.in-Some.is
+    c.enumerate-outcome.ensures.outcome.closing in
     let opening = ap (opened records) count in
     record {
-      closed = record { left = subst (λ o. IsLeft o outcome.logs c.in-Some.closing) opening told.0 };
-      spent = c.enumerate-outcome.ensures.spent;
+      closed = record { left = subst (λ o. IsLeft o false outcome.logs c.in-Some.closing) opening told.0 };
+      spent = c.enumerate-outcome.ensures.outcome.spent;
     }

@@ -3,6 +3,7 @@ use Rattle.std.proofs.lemmas.List.Elements.{All-push, All-head, All-tail}
 use Rattle.evidence_rec.specs.Asking.{IsHonestOver}
 use Rattle.worker_pool.specs.Workers.{seat_of, log_of}
 use Rattle.worker_pool.proofs.Crewed.{taken_over, all_taken}
+use Rattle.worker_pool.proofs.Penned.{pens_back, pens_room, broken_back, pen_room, all_back, first_left}
 use Rattle.worker_pool.proofs.crew.dismiss.Goals as goal
 
 -- the worker's seat and its oracle's log come to the end of their lists
@@ -30,6 +31,9 @@ loop-worker-preserved g c =
       subst (All (IsHonestOver c.args.problem.now)) (sym logs.items) (All-push (IsHonestOver c.args.problem.now) c.loop-worker.logs.items c.into_log.result i.4 honest),
       All-tail (λ u. (state u.oracle).problem ≡ c.args.problem.now) w rest asks,
       logs.capacity ∙ i.6,
+      pens_back c.loop-worker.pens.items c.put_back.new.pens.items old rest w _ i.7 next c.put_back.ensures.items,
+      pens_room c.loop-worker.pens.items c.put_back.new.pens.items old rest w i.8 next c.put_back.ensures.items c.put_back.ensures.room,
+      broken_back c.loop-worker.first c.either-first.result old rest w _ i.9 next c.either-first.ensures,
     )
 
 -- there is room for those that are left
@@ -47,6 +51,10 @@ push_reserved-requires-in-loop-worker g c =
     let size = c.loop-worker.logs.ok.0 in
     omega arith
 
+-- and for the pen, if there is one
+pub put_back-requires : goal.put_back-requires
+put_back-requires g c = pen_room c.loop-worker.pens.items c.loop-worker.worker-iterator.rest.items c.next.new.self.rest.items c.in-Some.worker c.loop-worker.invariant.8 c.in-Some.ensures.steps.0
+
 -- none is left
 pub returns-clause-seats : goal.returns-clause-seats
 returns-clause-seats g c =
@@ -59,3 +67,15 @@ returns-clause-logs g c =
     let size = c.loop-worker.worker-iterator.rest.ok.0 in
     let none = c.in-None.ensures.steps.0 in
     all_taken (log_of g.O.Oracle.state) c.loop-worker.logs.items c.loop-worker.worker-iterator.rest.items _ c.loop-worker.invariant.1 (omega arith)
+
+pub returns-clause-pens : goal.returns-clause-pens
+returns-clause-pens g c =
+    let size = c.loop-worker.worker-iterator.rest.ok.0 in
+    let none = c.in-None.ensures.steps.0 in
+    all_back c.loop-worker.pens.items c.loop-worker.worker-iterator.rest.items _ c.loop-worker.invariant.7 (omega arith)
+
+pub returns-clause-broken : goal.returns-clause-broken
+returns-clause-broken g c =
+    let size = c.loop-worker.worker-iterator.rest.ok.0 in
+    let none = c.in-None.ensures.steps.0 in
+    first_left c.loop-worker.first c.loop-worker.worker-iterator.rest.items _ c.loop-worker.invariant.9 (omega arith)

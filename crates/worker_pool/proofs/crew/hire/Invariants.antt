@@ -1,8 +1,9 @@
-use Rattle.std.proofs.Common.{◌≡◌, ◌+◌, ◌≤◌, ◌++◌, length, map, vec_capacity}
-use Rattle.worker_pool.specs.Workers.{oracle_of, seat_of}
+use Rattle.std.proofs.Common.{◌≡◌, ◌+◌, ◌≤◌, ◌++◌, length, map, All, None, vec_capacity}
+use Rattle.worker_pool.specs.Pens.{one_each}
+use Rattle.worker_pool.specs.Workers.{oracle_of, seat_of, pen_of}
 use Rattle.worker_pool.proofs.crew.hire.Given as goal
 
--- the oracles and the seats so far have workers, and there are as many left of both
+-- the oracles, the seats and the pens so far have workers, and there are as many left of the first two
 abbrev pub invariant-loop-oracle : goal.invariant-loop-oracle
 invariant-loop-oracle g l =
     (map oracle_of l.workers.items ++ l.oracle-iterator.rest.items ≡ l.fn.oracles.items)
@@ -10,3 +11,7 @@ invariant-loop-oracle g l =
     × (length l.seats.items ≡ length l.oracle-iterator.rest.items)
     × (length l.workers.items + length l.oracle-iterator.rest.items ≤ vec_capacity l.workers)
     × (vec_capacity l.seats ≡ vec_capacity l.fn.seats)
+    × (map pen_of l.workers.items ++ one_each (length l.oracle-iterator.rest.items) l.pens.items ≡ one_each (length l.fn.oracles.items) l.fn.pens.items)
+    × (length l.pens.items ≤ length l.oracle-iterator.rest.items)
+    × (vec_capacity l.pens ≡ vec_capacity l.fn.pens)
+    × All (λ w. w.broken ≡ None) l.workers.items

@@ -1,9 +1,9 @@
-use Rattle.std.proofs.Common.{slice_index_or, subst}
+use Rattle.std.proofs.Common.{slice_index_or, subst, option_copied}
 use Rattle.worker_pool.specs.Workers.{HasWorked}
 use Rattle.worker_pool.proofs.crew.work_all.Goals as goal
 
 -- each call got the worker at its place, and left the one that is there now
 pub returns-clause-each : goal.returns-clause-each
 returns-clause-each g c i d low = let h = (c.for_each_mut.ensures i d low).1 in
-    subst (λ z. HasWorked c.args.board.now c.args.problem.now g.O.Oracle.state z (slice_index_or c.for_each_mut.new.s i d)) h.argument_is
-    (subst (λ z. HasWorked c.args.board.now c.args.problem.now g.O.Oracle.state h.argument.now z) h.left h.call)
+    subst (λ z. HasWorked (option_copied c.args.journal) c.args.board.now c.args.problem.now g.O.Oracle.state z (slice_index_or c.for_each_mut.new.s i d)) h.argument_is
+    (subst (λ z. HasWorked (option_copied c.args.journal) c.args.board.now c.args.problem.now g.O.Oracle.state h.argument.now z) h.left h.call)

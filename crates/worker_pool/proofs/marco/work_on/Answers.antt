@@ -1,34 +1,42 @@
-use Rattle.std.proofs.Common.{rules, arith, subst, refl}
+use Rattle.std.proofs.Common.{rules, arith, subst, refl, sym, ◌∙◌, option_copied}
+use Rattle.map_core.specs.declared.entry.Retirement.TheVariants as retirement
+use Rattle.worker_pool.specs.Pens.{IsSamePen}
 use Rattle.worker_pool.specs.Exploring.{TellsExplored}
-use Rattle.worker_pool.proofs.Steps.{spent-within, longer, same-seat, refill_goes_on, refill_ends, post_goes_on, post_ends, retire_ends}
+use Rattle.evidence_rec.specs.Records.{IsAcceptedAlone}
+use Rattle.worker_pool.proofs.Steps.{spent-within, longer, same-seat, owing, refill_goes_on, refill_ends, retire_ends}
+use Rattle.worker_pool.proofs.Written.{same_pen}
+use Rattle.worker_pool.proofs.Kept.{keeps_on, has_kept, kept_from}
 use Rattle.worker_pool.proofs.marco.work_on.Goals as goal
 
 -- what was used is what is no more in the purse
 pub overflow_sub-used : goal.overflow_sub-used
 overflow_sub-used g c = let within = spent-within c.explore-explored.ensures.spent in let full = c.loop-record.invariant.full in omega arith
 
--- a record that is kept, or was already, ends the job
-pub returns-in-New-clause-goes_on : goal.returns-in-New-clause-goes_on
-returns-in-New-clause-goes_on g c =
+-- the worker owes what was used
+pub hand_in-requires-clause-owing : goal.hand_in-requires-clause-owing
+hand_in-requires-clause-owing g c =
     let i = c.loop-record.invariant in
     let e = c.explore-explored.ensures in
     let within = spent-within e.spent in
     let full = i.full in
-    let told = subst (TellsExplored (g.O.Oracle.state c.explore-explored.new.oracle) c.args.seed.now c.explore-explored.new.purse.left) c.in-Ok-Found.field-0-is c.in-Ok-Found.ensures.explored in
-    λ _. post_goes_on c.in-Ok-Found.record c.post-posted.result c.requires.given i.at e.spent (omega arith) told c.post-posted.ensures.call c.post-posted.ensures.worker c.in-New.is
+    let granted = i.granted in
+    owing i.at e.spent (omega arith) (omega arith)
 
-pub returns-in_default-clause-ends : goal.returns-in_default-clause-ends
-returns-in_default-clause-ends g c =
-    let i = c.loop-record.invariant in
+-- the record explores the seed
+pub hand_in-requires-clause-accepted : goal.hand_in-requires-clause-accepted
+hand_in-requires-clause-accepted g c =
     let e = c.explore-explored.ensures in
-    let within = spent-within e.spent in
-    let full = i.full in
     let told = subst (TellsExplored (g.O.Oracle.state c.explore-explored.new.oracle) c.args.seed.now c.explore-explored.new.purse.left) c.in-Ok-Found.field-0-is c.in-Ok-Found.ensures.explored in
-    λ _. post_ends c.in-Ok-Found.record c.post-posted.result c.requires.given i.at e.spent (omega arith) told c.post-posted.ensures.call c.post-posted.ensures.worker c.in_default.not-New c.in_default.not-Already
+    subst (λ q. IsAcceptedAlone q c.in-Ok-Found.record) (e.spent.problem ∙ c.loop-record.invariant.at.worker.asks_of) told.0
+
+pub hand_in-requires-clause-explored : goal.hand_in-requires-clause-explored
+hand_in-requires-clause-explored g c =
+    let told = subst (TellsExplored (g.O.Oracle.state c.explore-explored.new.oracle) c.args.seed.now c.explore-explored.new.purse.left) c.in-Ok-Found.field-0-is c.in-Ok-Found.ensures.explored in
+    told.1
 
 -- without a grant the search stands where the purse was found empty
-pub returns-in_default-refilled : goal.returns-in_default-refilled
-returns-in_default-refilled g c =
+pub returns-in_default : goal.returns-in_default
+returns-in_default g c =
     let i = c.loop-record.invariant in
     let e = c.explore-explored.ensures in
     let within = spent-within e.spent in
@@ -36,11 +44,14 @@ returns-in_default-refilled g c =
     let call = c.refill-refilled.ensures.call in
     let more = longer call in
     let before = i.longer in
+    let w = c.loop-record.worker in
     let told = subst (TellsExplored (g.O.Oracle.state c.explore-explored.new.oracle) c.args.seed.now c.explore-explored.new.purse.left) c.in-Ok-Dry.field-0-is c.in-Ok-Dry.ensures.explored in
     record {
       same = same-seat i.same call;
       goes_on = λ no. cc;
-      ends = λ _. refill_ends c.refill-refilled.result i.at e.spent (omega arith) told.undecided call c.refill-refilled.ensures.worker c.in_default-refilled.not-Grant;
+      keeps = λ no. (let never : ⊥ = cc in absurd never);
+      ends = λ _. refill_ends c.refill-refilled.result i.at e.spent (omega arith) told.undecided call c.refill-refilled.ensures.worker c.in_default.not-Grant;
+      kept = has_kept c.args.worker.now _ (keeps_on w _ i.keeps refl refl call refl refl) (subst (λ x. IsSamePen x w.pen) i.pen (same_pen w.pen));
       longer = omega arith;
       short = call.short;
     }
@@ -61,41 +72,28 @@ loop-record-preserved g c =
       full = refl;
       same = same-seat i.same call;
       longer = omega arith;
+      keeps = keeps_on c.loop-record.worker _ i.keeps refl refl call refl refl;
+      pen = i.pen;
     }
 
 -- want of memory ends the worker
-pub returns-in-Err-clause-ends : goal.returns-in-Err-clause-ends
-returns-in-Err-clause-ends g c =
+pub returns-in-Err : goal.returns-in-Err
+returns-in-Err g c =
     let i = c.loop-record.invariant in
     let e = c.explore-explored.ensures in
     let within = spent-within e.spent in
     let full = i.full in
-    λ _. retire_ends i.at e.spent (omega arith) c.retire.ensures.call c.retire.ensures.worker
-
--- each call adds an entry to what the seat has seen
-pub returns-in-New-clause-same : goal.returns-in-New-clause-same
-returns-in-New-clause-same g c = same-seat c.loop-record.invariant.same c.post-posted.ensures.call
-
-pub returns-in-New-clause-longer : goal.returns-in-New-clause-longer
-returns-in-New-clause-longer g c = let more = longer c.post-posted.ensures.call in let before = c.loop-record.invariant.longer in omega arith
-
-pub returns-in-New-clause-short : goal.returns-in-New-clause-short
-returns-in-New-clause-short g c = c.post-posted.ensures.call.short
-
-pub returns-in_default-clause-same : goal.returns-in_default-clause-same
-returns-in_default-clause-same g c = same-seat c.loop-record.invariant.same c.post-posted.ensures.call
-
-pub returns-in_default-clause-longer : goal.returns-in_default-clause-longer
-returns-in_default-clause-longer g c = let more = longer c.post-posted.ensures.call in let before = c.loop-record.invariant.longer in omega arith
-
-pub returns-in_default-clause-short : goal.returns-in_default-clause-short
-returns-in_default-clause-short g c = c.post-posted.ensures.call.short
-
-pub returns-in-Err-clause-same : goal.returns-in-Err-clause-same
-returns-in-Err-clause-same g c = same-seat c.loop-record.invariant.same c.retire.ensures.call
-
-pub returns-in-Err-clause-longer : goal.returns-in-Err-clause-longer
-returns-in-Err-clause-longer g c = let more = longer c.retire.ensures.call in let before = c.loop-record.invariant.longer in omega arith
-
-pub returns-in-Err-clause-short : goal.returns-in-Err-clause-short
-returns-in-Err-clause-short g c = c.retire.ensures.call.short
+    let granted = i.granted in
+    let call = c.retire.ensures.call in
+    let more = longer call in
+    let before = i.longer in
+    let w = c.loop-record.worker in
+    record {
+      same = same-seat i.same call;
+      goes_on = λ no. (let never : ⊥ = cc in absurd never);
+      keeps = λ no. (let never : ⊥ = cc in absurd never);
+      ends = λ _. retire_ends retirement.Memory (owing i.at e.spent (omega arith) (omega arith)) refl call c.retire.ensures.worker;
+      kept = has_kept c.args.worker.now _ (keeps_on w _ i.keeps refl refl call refl refl) (subst (λ x. IsSamePen x w.pen) i.pen (same_pen w.pen));
+      longer = omega arith;
+      short = call.short;
+    }
