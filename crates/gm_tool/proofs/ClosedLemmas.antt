@@ -61,7 +61,7 @@ reported-by verdict.Journal none enough = absurd (none refl)
 reported-by verdict.Memory none enough = absurd (enough refl)
 
 pub is_reported : {p : Problem} {first : List Record} {b : Bounds} {logs : List (List LogStep)} {c : Closing} → IsClosedFor p first b logs c → c.verdict ≢ verdict.Memory → IsReported (status_by c.verdict)
-is_reported {c = c} h = reported-by c.verdict (h.left.no_journal refl)
+is_reported {c = c} h = reported-by c.verdict h.no_journal
 
 -- a partial report is not complete
 partial-not : (v : Verdict) → IsPartial (status_by v) → is_complete v ≡ false
@@ -147,7 +147,7 @@ enumerated h enough = record {
   begins = first-in h;
   minimal = held-minimal h;
   enough_memory = enough;
-  no_journal = h.left.no_journal refl;
+  no_journal = h.no_journal;
   settled = settled-told h;
   all = holds-all h;
   budget = budget-spent h;

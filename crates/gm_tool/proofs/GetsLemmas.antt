@@ -42,7 +42,7 @@ module _ (Gets Has : List ℕ → Type 0) (f : (line : List ℕ) → Gets line �
     names = h.names;
   }
 
-  refusal : (held : Option (Option (List ℕ))) → IsRefusal held Gets → IsRefusal held Has
+  pub refusal : (held : Option (Option (List ℕ))) → IsRefusal held Gets → IsRefusal held Has
   refusal held h = record { offence = h.offence; first = h.first; line = f (refusal_line h.offence) h.line }
 
   judged-gets : (file : List ℕ) (focus evidence : Option (List ℕ)) (old new : FilesState) (status : ℕ) → IsJudged file focus evidence old new Gets status
@@ -84,7 +84,7 @@ module _ (Gets Has : List ℕ → Type 0) (f : (line : List ℕ) → Gets line �
     memory = h.memory;
   }
 
-  listed-gets : (p : Problem) (first : List Record) (b : Bounds) (logs : List (List LogStep)) (evidence : Option (List ℕ)) (old new : Outside) (finish : Finish)
+  pub listed-gets : (p : Problem) (first : List Record) (b : Bounds) (logs : List (List LogStep)) (evidence : Option (List ℕ)) (old new : Outside) (finish : Finish)
       → IsListed p first b logs evidence old new Gets finish → IsListed p first b logs evidence old new Has finish
   listed-gets p first b logs evidence old new finish h = record {
     closing = h.closing;

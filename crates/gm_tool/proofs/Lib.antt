@@ -19,3 +19,6 @@ pub mod ExportLemmas
 pub mod RolesLemmas
 pub mod GetsLemmas
 pub mod JudgedLemmas
+pub mod HistoryLemmas
+pub mod JournalLemmas
+pub mod KeptLemmas

@@ -28,7 +28,7 @@ logs-before : (before : Option (List LogStep)) (own left : Enumerated) → left 
 logs-before None own left is = ap (λ (e : Enumerated). e.logs) is
 logs-before (Some log) own left is = ap (λ (e : Enumerated). e.logs) is
 
-closing-before : (before : Option (List LogStep)) (own left : Enumerated) → left ≡ all_logs before own → left.closing ≡ own.closing
+pub closing-before : (before : Option (List LogStep)) (own left : Enumerated) → left ≡ all_logs before own → left.closing ≡ own.closing
 closing-before None own left is = ap (λ (e : Enumerated). e.closing) is
 closing-before (Some log) own left is = ap (λ (e : Enumerated). e.closing) is
 

@@ -1,5 +1,5 @@
 -- What a carrying tells: what each status says, its cause, and what has to come.
-use Rattle.std.specs.Prelude.{◌≡◌, ◌⊎◌, ℕ, ◌+◌, ◌<◌, Bool, List, [], ◌∷◌, length, Some, None, IfSome}
+use Rattle.std.specs.Prelude.{◌≡◌, ◌⊎◌, ℕ, ◌+◌, ◌<◌, Bool, false, List, [], ◌∷◌, length, Some, None, IfSome}
 use Rattle.gm_base.specs.Sets.{IsGroupSet, IsSubset, all_groups}
 use Rattle.gm_base.specs.Problem.{Problem}
 use Rattle.gm_ports.specs.FilesState.{ReadingLeaves}
@@ -26,7 +26,7 @@ use Rattle.gm_tool.specs.Statuses.{IsAmong, IsAfterwards}
 
 -- the greatest limit, for so many workers and so many clauses that may be learnt
 abbrev pub carry_bounds : ℕ → ℕ → Bounds
-carry_bounds jobs conflicts = record { jobs = jobs; conflicts = conflicts; limit = greatest_limit; goal = All }
+carry_bounds jobs conflicts = record { jobs = jobs; conflicts = conflicts; limit = greatest_limit; goal = All; journal = false }
 
 -- the log of what was asked of the new problem while records were carried over; with what is left, it is the whole budget
 pub record IsCarryLog (p : Problem) (log : List LogStep) (left : ℕ) : Type 0 where

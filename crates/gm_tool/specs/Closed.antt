@@ -31,7 +31,7 @@ use Rattle.worker_pool.specs.Outcomes as pool
 
 -- the greatest bounds, where this is wanted of so many workers
 abbrev pub greatest_bounds : Goal → ℕ → Bounds
-greatest_bounds goal jobs = record { jobs = jobs; conflicts = greatest_conflicts; limit = greatest_limit; goal = goal }
+greatest_bounds goal jobs = record { jobs = jobs; conflicts = greatest_conflicts; limit = greatest_limit; goal = goal; journal = false }
 
 -- these records first, as many workers as are wanted, what is wanted, and a map that gives tops alone
 abbrev pub opening_for : Problem → List Record → Bounds → Opening
@@ -40,7 +40,9 @@ opening_for p first b = record { problem = p; records = first; workers = b.jobs;
 -- what is left of a board that its history makes of this opening: an honest log of each worker, in their order, and last the
 -- map's, in which as much was learnt as the history says that was used
 pub record IsClosedFor (p : Problem) (first : List Record) (b : Bounds) (logs : List (List LogStep)) (closing : Closing) : Type 0 where
-  pub left : pool.IsLeft (opening_for p first b) false logs closing
+  pub left : pool.IsLeft (opening_for p first b) b.journal logs closing
+  -- no journal failed
+  pub no_journal : closing.verdict ≢ verdict.Journal
 
 -- the enumeration is closed, and its count is that of its logs
 pub record IsLeft (p : Problem) (first : List Record) (b : Bounds) (left : Enumerated) : Type 0 where
@@ -95,7 +97,7 @@ pub record IsEnumerated (p : Problem) (first : List Record) (b : Bounds) (logs :
   -- the records are of minimal conflicts and minimal corrections, no two the same
   pub minimal : AreDistinctMinimal p closing.records
   pub enough_memory : closing.verdict ≢ verdict.Memory
-  -- there is no journal
+  -- no worker retired for a journal
   pub no_journal : closing.verdict ≢ verdict.Journal
   -- roles alone were wanted, and the records tell each group's; or nothing is missing, the budget is spent, or there are as many
   -- as were wanted

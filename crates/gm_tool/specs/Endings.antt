@@ -9,7 +9,7 @@ use Rattle.map_core.specs.declared.closing.Verdict.TheVariants as verdict
 use Rattle.gm_tool.specs.declared.enumeration.Bounds.{Bounds}
 use Rattle.gm_tool.specs.declared.enumeration.Enumerated.{Enumerated}
 use Rattle.gm_tool.specs.declared.ending.Ending.{Ending}
-use Rattle.gm_tool.specs.declared.ending.Ending.TheVariants.{BadWords, Refused, ReadFault, EvidenceFault, EvidenceRefused, Checked, CheckCutOff, Memory, Listed, CutOff, EvidenceCutOff, EvidenceMemory, Exported, ExportCutOff, NoConflict, NoExtension, Dried, DriedCutOff}
+use Rattle.gm_tool.specs.declared.ending.Ending.TheVariants.{BadWords, Refused, ReadFault, EvidenceFault, EvidenceRefused, Checked, CheckCutOff, Memory, Listed, CutOff, EvidenceCutOff, EvidenceMemory, Exported, ExportCutOff, NoConflict, NoExtension, JournalUnread, JournalRefused, JournalUnbegun, JournalCutOff, Dried, DriedCutOff}
 use Rattle.gm_tool.specs.declared.ending.Finish.{Finish}
 use Rattle.gm_tool.specs.declared.ending.Spent.{Spent}
 use Rattle.gm_tool.specs.declared.writing.Stop.{Stop}
@@ -61,6 +61,10 @@ finish_of Exported = bare 0
 finish_of ExportCutOff = bare 7
 finish_of (NoConflict line) = bare 11
 finish_of (NoExtension line) = bare 12
+finish_of JournalUnread = bare 6
+finish_of (JournalRefused line) = bare 10
+finish_of JournalUnbegun = bare 7
+finish_of (JournalCutOff left) = after 7 left
 finish_of (Dried line left) = dried 3 left
 finish_of (DriedCutOff stop left) = dried (status_at stop) left
 
@@ -70,6 +74,9 @@ input_fault_line = codes "gmus: read fault on input\n"
 
 abbrev pub evidence_fault_line : List ℕ
 evidence_fault_line = codes "gmus: read fault on evidence\n"
+
+abbrev pub journal_fault_line : List ℕ
+journal_fault_line = codes "gmus: read fault on journal\n"
 
 -- the texts that tell which output could not be written
 abbrev pub report_cut_line : List ℕ
@@ -81,6 +88,9 @@ evidence_cut_line = codes "gmus: write fault on evidence\n"
 abbrev pub export_cut_line : List ℕ
 export_cut_line = codes "gmus: write fault on export\n"
 
+abbrev pub journal_cut_line : List ℕ
+journal_cut_line = codes "gmus: write fault on journal\n"
+
 -- the text that comes with a status, where it has no number in it; no bytes where none comes
 abbrev pub plain_line : ℕ → List ℕ
 plain_line status =
@@ -88,7 +98,7 @@ plain_line status =
     else (if status == 6 then input_fault_line
     else (if status == 7 then report_cut_line else (if status == 8 then codes "gmus: out of memory\n" else [])))
 
--- the line on standard error that comes with a status other than 5, 6, 7, 9, 11 and 12, if any
+-- the line on standard error that comes with a status other than 5, 6, 7, 9, 10, 11 and 12, if any
 abbrev pub error_line : Bounds → ℕ → List ℕ
 error_line b status = if status == 3 then budget_line b.conflicts else (if status == 4 then limit_line b.limit else plain_line status)
 
@@ -108,6 +118,10 @@ line_of (EvidenceCutOff left) = evidence_cut_line
 line_of ExportCutOff = export_cut_line
 line_of (NoConflict line) = line.items
 line_of (NoExtension line) = line.items
+line_of JournalUnread = journal_fault_line
+line_of (JournalRefused line) = line.items
+line_of JournalUnbegun = journal_cut_line
+line_of (JournalCutOff left) = journal_cut_line
 line_of (Dried line left) = line.items
 line_of (DriedCutOff stop left) = line_at stop
 line_of ending = plain_line (finish_of ending).status

@@ -14,6 +14,7 @@ pub mod Resuming
 pub mod Evidence
 pub mod Prepared
 pub mod Listing
+pub mod Journaled
 pub mod Longer
 pub mod Carrying
 pub mod Drilling
@@ -22,4 +23,5 @@ pub mod Exporting
 pub mod Roles
 pub mod Words
 pub mod Steps
+pub mod JournalSteps
 pub mod CarrySteps

@@ -1,5 +1,5 @@
--- The lines on standard error that tell a number: which bound was reached, which conflict there isn't, and where a file extends
--- another one no more.
+-- The lines on standard error that tell a number: which bound was reached, which conflict there isn't, where a file extends
+-- another one no more, and where a journal is refused.
 use Rattle.std.specs.Prelude.{ℕ, List, ◌++◌, codes}
 use Rattle.std.specs.Fmt.{decimal}
 
@@ -16,3 +16,7 @@ no_conflict_line number = codes "gmus: no conflict " ++ decimal number ++ codes 
 -- and the line that tells at which clause a file extends another one no more
 abbrev pub no_extension_line : ℕ → List ℕ
 no_extension_line place = codes "gmus: not an extension: clause " ++ decimal place ++ codes "\n"
+
+-- and the line that tells at which byte a journal is refused
+abbrev pub foreign_line : ℕ → List ℕ
+foreign_line at = codes "gmus: journal refused at byte " ++ decimal at ++ codes "\n"

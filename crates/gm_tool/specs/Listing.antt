@@ -1,5 +1,5 @@
 -- What a listing tells: what each status says, its cause, and what has to come.
-use Rattle.std.specs.Prelude.{◌≡◌, ◌≢◌, ◌⊎◌, ℕ, Bool, List, [], ◌∷◌, Option, Some, None, IfSome}
+use Rattle.std.specs.Prelude.{◌≡◌, ◌≢◌, ◌⊎◌, ℕ, Bool, List, [], ◌∷◌, Option, Some, None, IfSome, is_some}
 use Rattle.gm_base.specs.Problem.{Problem}
 use Rattle.gm_ports.specs.FilesState.{ReadingLeaves}
 use Rattle.gm_ports.specs.Told.{ToldAppends, ToldGrowsWithin}
@@ -24,7 +24,7 @@ use Rattle.gm_tool.specs.Writing.{IsWritten, IsFront}
 
 -- the bounds that a listing is asked for
 abbrev pub bounds_for : Listing → Bounds
-bounds_for l = record { jobs = l.jobs; conflicts = l.conflicts; limit = l.limit; goal = All }
+bounds_for l = record { jobs = l.jobs; conflicts = l.conflicts; limit = l.limit; goal = All; journal = is_some l.journal }
 
 -- the report was cut off, behind evidence that stands whole where it was asked for
 pub record IsReportCut (p : Problem) (asked : Option (List ℕ)) (closing : Closing) (old new : Outside) (Gets : List ℕ → Type 0) : Type 0 where

@@ -1,7 +1,8 @@
 -- What the words of a run ask for, and what is then true.
-use Rattle.std.specs.Prelude.{◌≡◌, ℕ, List, [], ◌∷◌, map, Option, Some, None, String}
+use Rattle.std.specs.Prelude.{◌≡◌, ℕ, false, List, [], ◌∷◌, map, Option, Some, None, String}
 use Rattle.std.specs.String.{string_bytes}
-use Rattle.gm_words.specs.Reading.{Asked, greatest_conflicts, words_read, listing, checking, drilling, exporting, asking, carrying}
+use Rattle.gm_ports.specs.DiskState.{DiskState}
+use Rattle.gm_words.specs.Reading.{Asked, Listing, greatest_conflicts, words_read, listing, checking, drilling, exporting, asking, carrying}
 use Rattle.map_core.specs.declared.entry.Goal.TheVariants.{All}
 use Rattle.gm_tool.specs.declared.enumeration.Bounds.{Bounds}
 use Rattle.gm_tool.specs.declared.ending.Ending.{Ending}
@@ -11,6 +12,7 @@ use Rattle.gm_tool.specs.Checking.{IsChecking}
 use Rattle.gm_tool.specs.Drilling.{IsDrilling, drill_bounds}
 use Rattle.gm_tool.specs.Endings.{bare, finish_of, line_of}
 use Rattle.gm_tool.specs.Exporting.{IsExporting}
+use Rattle.gm_tool.specs.Journaled.{EndsJournaled}
 use Rattle.gm_tool.specs.Listing.{IsListing, bounds_for}
 use Rattle.gm_tool.specs.Outputs.{Outputs, evidence_output, export_outputs, no_outputs}
 use Rattle.gm_tool.specs.Outside.{Outside}
@@ -24,7 +26,7 @@ asked_in words = words_read (map string_bytes words)
 
 -- no bounds
 abbrev pub no_bounds : Bounds
-no_bounds = record { jobs = 0; conflicts = 0; limit = 0; goal = All }
+no_bounds = record { jobs = 0; conflicts = 0; limit = 0; goal = All; journal = false }
 
 -- the bounds that they ask for; no bound is named where they ask for no enumeration, and a drilling and a carrying have the
 -- greatest, as has who asks for roles
@@ -36,6 +38,11 @@ bounds_of (Some (drilling d)) = drill_bounds d.jobs
 bounds_of (Some (exporting x)) = no_bounds
 bounds_of (Some (asking a)) = roles_bounds a.jobs
 bounds_of (Some (carrying c)) = carry_bounds c.jobs greatest_conflicts
+
+-- the journal that they ask for
+abbrev pub journal_in : Option Asked → Option (List ℕ)
+journal_in (Some (listing l)) = l.journal
+journal_in _ = None
 
 -- the files that they ask to be written
 abbrev pub outputs_of : Option Asked → Outputs
@@ -71,3 +78,13 @@ pub record IsObeyed (asked : Option Asked) (old new : Outside) (Gets : List ℕ 
 -- the same of a run before its line is written
 abbrev pub EndsAs : Option Asked → Outside → Outside → Ending → Type 0
 EndsAs asked old new ending = IsObeyed asked old new (λ line. line_of ending ≡ line) (finish_of ending)
+
+-- a listing without a journal leaves the disk, and one with a journal tells of it
+abbrev pub ListsBy : {D : Type 0} → (D → DiskState) → Option (List ℕ) → Listing → D → D → Outside → Outside → Ending → Type 0
+ListsBy state None l disk after old new ending = (after ≡ disk) × EndsAs (Some (listing l)) old new ending
+ListsBy state (Some name) l disk after old new ending = EndsJournaled state l name disk after old new ending
+
+-- so does every other command
+abbrev pub EndsWith : {D : Type 0} → (D → DiskState) → Option Asked → D → D → Outside → Outside → Ending → Type 0
+EndsWith state (Some (listing l)) disk after old new ending = ListsBy state l.journal l disk after old new ending
+EndsWith state asked disk after old new ending = (after ≡ disk) × EndsAs asked old new ending

@@ -1,6 +1,7 @@
-//! The lines that tell which bound was reached, which conflict there isn't, and where a file extends another one no more.
+//! The lines that tell which bound was reached, which conflict there isn't, where a file extends another one no more, and where a
+//! journal is refused.
 ghost use Rattle.std.specs.Prelude.{◌≡◌, IfOk};
-ghost use Rattle.gm_tool.specs.Lines.{budget_line, limit_line, no_conflict_line, no_extension_line};
+ghost use Rattle.gm_tool.specs.Lines.{budget_line, foreign_line, limit_line, no_conflict_line, no_extension_line};
 
 use crate::line_parts::put_counted;
 use std::alloc::{AllocError, Global};
@@ -41,6 +42,16 @@ pub fn line_of_no_extension(alloc: Global, place: u64) -> Result<Vec<u8>, AllocE
 {
     let mut line = Vec::new(alloc);
     put_counted(&mut line, b"gmus: not an extension: clause ", place)?;
+    line.extend_from_slice(b"\n")?;
+    Ok(line)
+}
+
+/// That what a journal holds is none from this place on.
+pub fn line_of_foreign(alloc: Global, at: u64) -> Result<Vec<u8>, AllocError>
+    ensures { IfOk result (λ line. line.items ≡ foreign_line at) }
+{
+    let mut line = Vec::new(alloc);
+    put_counted(&mut line, b"gmus: journal refused at byte ", at)?;
     line.extend_from_slice(b"\n")?;
     Ok(line)
 }

@@ -91,6 +91,7 @@ fn list_longer<F: Files, O: Sink, G: Gate, R: Threads + Wait + Sync>(
                 conflicts: left,
                 limit: 1_000_000_000,
                 goal: Goal::All,
+                journal: false,
             };
             let course = Course {
                 first,

@@ -1,5 +1,5 @@
 //! The command `drill`: a listing of a case that two numbers make, of which only the counts are written.
-ghost use Rattle.std.specs.Prelude.{◌≡◌, ◌<◌, ◌≤◌, [], Some, IfOk};
+ghost use Rattle.std.specs.Prelude.{◌≡◌, false, ◌<◌, ◌≤◌, [], Some, IfOk};
 ghost use Rattle.gm_ports.specs.FilesState.{FilesState};
 ghost use Rattle.gm_words.specs.Requests.{AreGoodJobs, asked_by};
 ghost use Rattle.gm_words.specs.Reading.{greatest_size};
@@ -53,7 +53,8 @@ fn drill_problem<O: Sink, G: Gate, R: Threads + Wait + Sync>(
     out: &mut O,
     gate: &G,
 ) -> Ending
-    requires { AreGoodJobs bounds.jobs }
+    requires jobs { AreGoodJobs bounds.jobs }
+    requires no_journal { bounds.journal ≡ false }
     ensures { (files : FilesState) → Drills problem.now bounds (outside files (O.got out.old) (O.faults out.old))
         (outside files (O.got out.new) (O.faults out.new)) result }
 {
@@ -75,7 +76,8 @@ fn prepare<G: Gate, R: Threads + Wait + Sync>(
     bounds: Bounds,
     gate: &G,
 ) -> Result<Prepared, AllocError>
-    requires { AreGoodJobs bounds.jobs }
+    requires jobs { AreGoodJobs bounds.jobs }
+    requires no_journal { bounds.journal ≡ false }
     ensures { IfOk result (IsPrepared problem.now [] bounds (λ closing. held_counts problem.now closing.records)) }
 {
     let left = list_sets(rt, alloc, problem, Records::new(alloc), bounds, gate)?;

@@ -41,6 +41,14 @@ pub enum Ending {
     NoConflict(Vec<u8>),
     /// A file does not extend another one. With the line that tells the place.
     NoExtension(Vec<u8>),
+    /// The journal could not be read.
+    JournalUnread,
+    /// What the journal's disk holds is no journal about the problem. With the line that tells the place.
+    JournalRefused(Vec<u8>),
+    /// The journal could not be begun.
+    JournalUnbegun,
+    /// The journal's disk failed amid the enumeration, and nothing else is written.
+    JournalCutOff(Enumerated),
     /// The budget was spent before an enumeration began, and the report of no sets is written. With the line that tells it.
     Dried(Vec<u8>, Spent),
     /// The same, but evidence or report were cut off.
@@ -55,7 +63,7 @@ pub struct Spent {
 }
 
 /// How a run ended: 0 complete, told, accepted or exported, 2 bad command line, 3 budget spent, 4 limit reached, 5 input refused,
-/// 6 read fault, 7 write fault, 8 want of memory, 9 evidence refused, 11 no such conflict, 12 no extension.
+/// 6 read fault, 7 write fault, 8 want of memory, 9 evidence refused, 10 journal refused, 11 no such conflict, 12 no extension.
 ///
 /// After an enumeration, `closing` is what is left of it, `logs` are the steps of each worker's solver, in the order of the
 /// workers, and last those of the map's, and `spent` is how many clauses were learnt in them. Where something was carried over
@@ -133,18 +141,20 @@ pub fn finish_of(alloc: Global, ending: Ending) -> Finish
     match ending {
         Ending::BadWords => bare(alloc, 2),
         Ending::Refused(_) => bare(alloc, 5),
-        Ending::ReadFault | Ending::EvidenceFault => bare(alloc, 6),
+        Ending::ReadFault | Ending::EvidenceFault | Ending::JournalUnread => bare(alloc, 6),
         Ending::EvidenceRefused(_) => bare(alloc, 9),
         Ending::Checked => bare(alloc, 0),
-        Ending::CheckCutOff => bare(alloc, 7),
+        Ending::CheckCutOff | Ending::JournalUnbegun => bare(alloc, 7),
         Ending::Memory => bare(alloc, 8),
         Ending::Listed(_, left) => after(status_by(left.closing.verdict), left),
         Ending::CutOff(left) | Ending::EvidenceCutOff(left) => after(7, left),
+        Ending::JournalCutOff(left) => after(7, left),
         Ending::EvidenceMemory(left) => after(8, left),
         Ending::Exported => bare(alloc, 0),
         Ending::ExportCutOff => bare(alloc, 7),
         Ending::NoConflict(_) => bare(alloc, 11),
         Ending::NoExtension(_) => bare(alloc, 12),
+        Ending::JournalRefused(_) => bare(alloc, 10),
         Ending::Dried(_, left) => dried(3, left),
         Ending::DriedCutOff(stop, left) => dried(status_at(stop), left),
     }

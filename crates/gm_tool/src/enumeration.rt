@@ -1,5 +1,5 @@
 //! The enumeration of a problem, from its beginning to what is left of it.
-ghost use Rattle.std.specs.Prelude.{◌≡◌, ◌<◌, ◌≤◌, ◌^◌, map, All, Ok, IfOk, length};
+ghost use Rattle.std.specs.Prelude.{◌≡◌, ◌<◌, ◌≤◌, ◌^◌, false, map, All, Ok, IfOk, length};
 ghost use Rattle.evidence_rec.specs.Records.{AllAccepted};
 ghost use Rattle.evidence_rec.specs.Seeding.{new_engine};
 ghost use Rattle.gm_words.specs.Requests.{AreGoodJobs};
@@ -21,13 +21,15 @@ use std::sync::Wait;
 use std::thread::{self, Threads};
 use worker_pool::{Outcome, enumerate};
 
-/// How many workers there are, how many clauses may be learnt, how many sets recorded, and what is wanted.
+/// How many workers there are, how many clauses may be learnt, how many sets recorded, what is wanted, and whether a journal is
+/// kept.
 #[derive(Clone, Copy)]
 pub struct Bounds {
     pub jobs: u32,
     pub conflicts: u64,
     pub limit: u64,
     pub goal: Goal,
+    pub journal: bool,
 }
 
 /// The greatest bounds, where this is wanted of so many workers.
@@ -39,6 +41,7 @@ pub fn greatest_bounds(goal: Goal, jobs: u32) -> Bounds
         conflicts: u64::MAX,
         limit: 1_000_000_000,
         goal,
+        journal: false,
     }
 }
 
@@ -64,6 +67,7 @@ pub fn list_sets<G: Gate, R: Threads + Wait + Sync>(
 ) -> Result<Enumerated, AllocError>
     requires jobs { AreGoodJobs bounds.jobs }
     requires first { AreGoodFirst problem.now first }
+    requires no_journal { bounds.journal ≡ false }
     ensures { IfOk result (IsLeft problem.now first bounds) }
 {
     let _groups = problem.groups(); // The problem is well-formed.
@@ -100,8 +104,8 @@ pub fn list_sets<G: Gate, R: Threads + Wait + Sync>(
     })
 }
 
-// A map of all sets of so many groups, of which none is explored.
-fn fresh_map(alloc: Global, groups: u32, goal: Goal) -> Result<PowerMap, AllocError>
+/// A map of all sets of so many groups, of which none is explored.
+pub fn fresh_map(alloc: Global, groups: u32, goal: Goal) -> Result<PowerMap, AllocError>
     requires { groups < 2 ^ 31 }
     ensures { IfOk result (λ map. map ≡ new_engine groups) }
 {
@@ -111,8 +115,8 @@ fn fresh_map(alloc: Global, groups: u32, goal: Goal) -> Result<PowerMap, AllocEr
     }
 }
 
-// An oracle for each worker, which remembers these records and what it is answered. All are made at once, in threads.
-fn fresh_oracles<R: Threads + Sync>(
+/// An oracle for each worker, which remembers these records and what it is answered. All are made at once, in threads.
+pub fn fresh_oracles<R: Threads + Sync>(
     rt: &R,
     alloc: Global,
     problem: &Problem,

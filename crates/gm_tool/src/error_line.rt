@@ -18,9 +18,12 @@ fn text_of(ending: &Ending) -> &[u8]
         | Ending::Listed(line, _)
         | Ending::NoConflict(line)
         | Ending::NoExtension(line)
+        | Ending::JournalRefused(line)
         | Ending::Dried(line, _) => line.as_slice(),
         Ending::ReadFault => b"gmus: read fault on input\n",
         Ending::EvidenceFault => b"gmus: read fault on evidence\n",
+        Ending::JournalUnread => b"gmus: read fault on journal\n",
+        Ending::JournalUnbegun | Ending::JournalCutOff(_) => b"gmus: write fault on journal\n",
         Ending::Checked | Ending::Exported => b"",
         Ending::Memory | Ending::EvidenceMemory(_) => b"gmus: out of memory\n",
         Ending::CutOff(_) | Ending::CheckCutOff => b"gmus: write fault on report\n",

@@ -4,11 +4,12 @@
 //! and corrections, and writes the report:
 //!
 //! ```text
-//! let finish = run(&rt, alloc, &words, &mut files, &mut out, &mut err, &gate);
+//! let (finish, disk) = run(&rt, alloc, &words, &mut files, &mut out, &mut err, &gate, disk);
 //! ```
 //!
 //! Or it checks evidence about the file, or exports a conflict that it shows, or tells the role of each group, or makes a case
-//! from two numbers and counts its minimal sets, or lists a longer file from evidence about the file that it extends.
+//! from two numbers and counts its minimal sets, or lists a longer file from evidence about the file that it extends. A listing may
+//! keep a journal on a disk, which comes back.
 //!
 //! Start reading at `run` in `program`, at `specs/Run.antt`, which says what holds of every run, and at `specs/Listing.antt`,
 //! which says what each status of `list` tells of the file, the problem, the evidence and the report; `specs/Endings.antt`
@@ -32,7 +33,9 @@ mod evidence_file;
 mod export;
 mod export_files;
 mod input;
+mod journal;
 mod judging;
+mod kept;
 mod line_parts;
 mod list;
 mod longer;

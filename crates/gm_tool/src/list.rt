@@ -1,23 +1,24 @@
 //! The command `list`: it reads a file, and evidence that is to be gone on from, and lists what it began with. So does every
 //! command that lists a problem: it finds all minimal sets, and writes the evidence, where it is asked for, and then the report.
-ghost use Rattle.std.specs.Prelude.{◌≡◌, ◌<◌, ◌+◌, ◌^◌, Some, IfOk};
+ghost use Rattle.std.specs.Prelude.{◌≡◌, ◌≢◌, ◌<◌, ◌+◌, ◌^◌, false, List, Some, None, IfOk};
 ghost use Rattle.gm_words.specs.Requests.{AreGoodJobs, asked_by, text_of};
-ghost use Rattle.gm_tool.specs.Closed.{is_complete, learned_in};
+ghost use Rattle.gm_tool.specs.Closed.{IsLeft, is_complete, learned_in};
 ghost use Rattle.gm_tool.specs.Outside.{outside};
 ghost use Rattle.gm_tool.specs.Prepared.{IsReady, all_logs, logs_before};
 ghost use Rattle.gm_tool.specs.Resuming.{AreGoodFirst};
 ghost use Rattle.gm_tool.specs.Steps.{Lists, listed_by};
-ghost use Rattle.gm_tool.specs.Words.{EndsAs};
+ghost use Rattle.gm_tool.specs.Words.{EndsAs, EndsWith};
 
 use crate::beginning::{Beginning, begin};
 use crate::ending::Ending;
 use crate::enumeration::{Bounds, Enumerated, list_sets};
+use crate::journal::list_journaled;
 use crate::prepared::{Prepared, line_by};
 use crate::records_report::report_of;
 use crate::writing::{Stop, write_outputs};
 use evidence_rec::Records;
 use gm_base::Problem;
-use gm_ports::{Files, Gate, Sink};
+use gm_ports::{Disk, Files, Gate, Sink};
 use gm_words::{Listing, Request};
 use lrat_steps::{Log, Logs};
 use map_core::{Goal, Verdict};
@@ -38,8 +39,31 @@ pub struct Course {
     pub told: Bounds,
 }
 
+/// Lists the file that is named, from the records of evidence, or with a journal.
+pub fn list_by<D: Disk + Send + Drop, F: Files, O: Sink, G: Gate, R: Threads + Wait + Sync>(
+    rt: &R,
+    alloc: Global,
+    listing: Listing<'_>,
+    files: &mut F,
+    out: &mut O,
+    gate: &G,
+    disk: D,
+) -> (Ending, D)
+    requires { AreGoodJobs listing.jobs }
+    ensures { EndsWith D.state (Some (asked_by (Request.List listing.entry))) disk result.1 (outside (F.state files.old) (O.got out.old) (O.faults out.old))
+        (outside (F.state files.new) (O.got out.new) (O.faults out.new)) result.0 }
+{
+    match listing.journal {
+        None => {
+            let ending = list_file(rt, alloc, listing, files, out, gate);
+            (ending, disk)
+        }
+        Some(name) => list_journaled(rt, alloc, listing, name, files, out, gate, disk),
+    }
+}
+
 /// Lists the file that is named, from the records of the evidence that is to be gone on from.
-pub fn list_file<F: Files, O: Sink, G: Gate, R: Threads + Wait + Sync>(
+fn list_file<F: Files, O: Sink, G: Gate, R: Threads + Wait + Sync>(
     rt: &R,
     alloc: Global,
     listing: Listing<'_>,
@@ -47,7 +71,8 @@ pub fn list_file<F: Files, O: Sink, G: Gate, R: Threads + Wait + Sync>(
     out: &mut O,
     gate: &G,
 ) -> Ending
-    requires { AreGoodJobs listing.jobs }
+    requires jobs { AreGoodJobs listing.jobs }
+    requires no_journal { listing.journal ≡ None }
     ensures { EndsAs (Some (asked_by (Request.List listing.entry))) (outside (F.state files.old) (O.got out.old) (O.faults out.old))
         (outside (F.state files.new) (O.got out.new) (O.faults out.new)) result }
 {
@@ -58,6 +83,7 @@ pub fn list_file<F: Files, O: Sink, G: Gate, R: Threads + Wait + Sync>(
         limit,
         evidence,
         resume,
+        journal: _,
         focus,
     } = listing;
     let bounds = Bounds {
@@ -65,6 +91,7 @@ pub fn list_file<F: Files, O: Sink, G: Gate, R: Threads + Wait + Sync>(
         conflicts,
         limit,
         goal: Goal::All,
+        journal: false,
     };
     match begin(alloc, file, focus, resume, files) {
         Ok(
@@ -100,11 +127,41 @@ pub fn list_problem<F: Files, O: Sink, G: Gate, R: Threads + Wait + Sync>(
     requires jobs { AreGoodJobs course.bounds.jobs }
     requires first { AreGoodFirst problem.now course.first }
     requires all { course.bounds.goal ≡ Goal.All }
+    requires no_journal { course.bounds.journal ≡ false }
     requires few { learned_in (logs_before course.before) + course.bounds.conflicts < 2 ^ 64 }
     ensures { Lists problem.now course (text_of evidence.entry) (outside (F.state files.old) (O.got out.old) (O.faults out.old))
         (outside (F.state files.new) (O.got out.new) (O.faults out.new)) result }
 {
-    let Ok(prepared) = prepare(rt, alloc, problem, course, gate) else {
+    let Course {
+        first,
+        before,
+        bounds,
+        told,
+    } = course;
+    let Ok(own) = list_sets(rt, alloc, problem, first, bounds, gate) else {
+        return Ending::Memory;
+    };
+    put_out(alloc, problem, own, before, told, evidence, files, out)
+}
+
+/// Writes what is left of an enumeration: the evidence, where it is asked for, and then the report.
+pub fn put_out<F: Files, O: Sink>(
+    alloc: Global,
+    problem: &Problem,
+    own: Enumerated,
+    before: Option<Log>,
+    told: Bounds,
+    evidence: Option<&str>,
+    files: &mut F,
+    out: &mut O,
+) -> Ending
+    requires left { (first : List _) × (b : _) × IsLeft problem.now first b own }
+    requires few { learned_in (logs_before before) + own.spent < 2 ^ 64 }
+    ensures { (course : _) → course.before ≡ before → course.told ≡ told → course.bounds.goal ≡ Goal.All → IsLeft problem.now course.first course.bounds own
+        → Lists problem.now course (text_of evidence.entry) (outside (F.state files.old) (O.got out.old) (O.faults out.old))
+        (outside (F.state files.new) (O.got out.new) (O.faults out.new)) result }
+{
+    let Ok(prepared) = prepare(alloc, problem, own, before, told) else {
         return Ending::Memory;
     };
     let text = prepared.text.as_slice();
@@ -120,27 +177,20 @@ pub fn list_problem<F: Files, O: Sink, G: Gate, R: Threads + Wait + Sync>(
     listed_by(prepared, written)
 }
 
-/// Enumerates, and makes all that is to be written but the evidence.
-fn prepare<G: Gate, R: Threads + Wait + Sync>(
-    rt: &R,
+/// Makes all that is to be written but the evidence.
+fn prepare(
     alloc: Global,
     problem: &Problem,
-    course: Course,
-    gate: &G,
+    own: Enumerated,
+    before: Option<Log>,
+    told: Bounds,
 ) -> Result<Prepared, AllocError>
-    requires jobs { AreGoodJobs course.bounds.jobs }
-    requires first { AreGoodFirst problem.now course.first }
-    requires all { course.bounds.goal ≡ Goal.All }
-    requires few { learned_in (logs_before course.before) + course.bounds.conflicts < 2 ^ 64 }
-    ensures { IfOk result (IsReady problem.now course) }
+    requires left { (first : List _) × (b : _) × IsLeft problem.now first b own }
+    requires few { learned_in (logs_before before) + own.spent < 2 ^ 64 }
+    ensures ready { (course : _) → course.before ≡ before → course.told ≡ told → course.bounds.goal ≡ Goal.All → IsLeft problem.now course.first course.bounds own
+        → IfOk result (IsReady problem.now course) }
+    ensures closing { IfOk result (λ ready. ready.left.closing ≡ own.closing) }
 {
-    let Course {
-        first,
-        before,
-        bounds,
-        told,
-    } = course;
-    let own = list_sets(rt, alloc, problem, first, bounds, gate)?;
     let line = line_by(alloc, told, own.closing.verdict)?;
     let text = report_of(
         alloc,

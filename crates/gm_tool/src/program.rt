@@ -1,16 +1,17 @@
 //! The whole program, as one call.
-ghost use Rattle.std.specs.Prelude.{◌≡◌, Some, None};
+ghost use Rattle.std.specs.Prelude.{◌≡◌, ℕ, List, Some, None, IfSome, IsSome};
 ghost use Rattle.gm_words.specs.Reading.{Listing as Listed, Checking as Checked, Drilling as Drilled, Exporting as Exported, Asking as Asked, Carrying as Carried, listing, checking, drilling, exporting, asking, carrying};
 ghost use Rattle.gm_tool.specs.Carrying.{IsCarrying};
 ghost use Rattle.gm_tool.specs.Checking.{IsChecking};
 ghost use Rattle.gm_tool.specs.Drilling.{IsDrilling};
 ghost use Rattle.gm_tool.specs.Endings.{finish_of};
 ghost use Rattle.gm_tool.specs.Exporting.{IsExporting};
+ghost use Rattle.gm_tool.specs.Journaled.{IsJournaled};
 ghost use Rattle.gm_tool.specs.Listing.{IsListing};
 ghost use Rattle.gm_tool.specs.Outside.{GetsLine, outside};
 ghost use Rattle.gm_tool.specs.Roles.{IsAsking};
 ghost use Rattle.gm_tool.specs.Run.{IsRun};
-ghost use Rattle.gm_tool.specs.Words.{EndsAs, IsUnread, asked_in, bounds_of, outputs_of};
+ghost use Rattle.gm_tool.specs.Words.{EndsWith, IsUnread, asked_in, bounds_of, journal_in, outputs_of};
 
 use crate::carry::carry_file;
 use crate::check::check_file;
@@ -18,9 +19,9 @@ use crate::drill::drill_case;
 use crate::ending::{Ending, Finish, finish_of};
 use crate::error_line::write_error_line;
 use crate::export::export_conflict;
-use crate::list::list_file;
+use crate::list::list_by;
 use crate::roles::ask_file;
-use gm_ports::{Files, Gate, Sink};
+use gm_ports::{Disk, Files, Gate, Sink};
 use gm_words::{Request, read_words};
 use std::alloc::{AllocError, Global};
 use std::sync::Wait;
@@ -43,7 +44,7 @@ use std::thread::Threads;
 /// got exactly the role of each group: in every minimal conflict, in some, or in none. Where `list`, `check` or `roles` is given
 /// groups in focus, the problem of all this is the file's without the clauses of other groups but the background's. The statuses
 /// 0, 3 and 4 of `carry` say of the longer file what those of `list` do; 12 says at which clause it extends the old one no more.
-pub fn run<R: Threads + Wait + Sync, F: Files, O: Sink, E: Sink, G: Gate>(
+pub fn run<R: Threads + Wait + Sync, F: Files, O: Sink, E: Sink, G: Gate, D: Disk + Send + Drop>(
     rt: &R,
     alloc: Global,
     words: &[String],
@@ -51,60 +52,71 @@ pub fn run<R: Threads + Wait + Sync, F: Files, O: Sink, E: Sink, G: Gate>(
     out: &mut O,
     err: &mut E,
     gate: &G,
-) -> Finish
-    // What holds of every command.
-    ensures every { IsRun (bounds_of (asked_in words.now)) (outputs_of (asked_in words.now))
+    disk: D,
+) -> (Finish, Option<D>)
+    // What holds of every command without a journal.
+    ensures every { journal_in (asked_in words.now) ≡ None → IsRun (bounds_of (asked_in words.now)) (outputs_of (asked_in words.now))
         (outside (F.state files.old) (O.got out.old) (O.faults out.old)) (outside (F.state files.new) (O.got out.new) (O.faults out.new))
-        (GetsLine (E.got err.old) (E.got err.new) (E.faults err.old) (E.faults err.new)) result }
+        (GetsLine (E.got err.old) (E.got err.new) (E.faults err.old) (E.faults err.new)) result.0 }
 
     // What each command tells.
-    ensures listing { (l : Listed) → asked_in words.now ≡ Some (listing l) → IsListing l
+    ensures listing { (l : Listed) → asked_in words.now ≡ Some (listing l) → l.journal ≡ None → IsListing l
         (outside (F.state files.old) (O.got out.old) (O.faults out.old)) (outside (F.state files.new) (O.got out.new) (O.faults out.new))
-        (GetsLine (E.got err.old) (E.got err.new) (E.faults err.old) (E.faults err.new)) result }
+        (GetsLine (E.got err.old) (E.got err.new) (E.faults err.old) (E.faults err.new)) result.0 }
     ensures checking { (c : Checked) → asked_in words.now ≡ Some (checking c) → IsChecking c
         (outside (F.state files.old) (O.got out.old) (O.faults out.old)) (outside (F.state files.new) (O.got out.new) (O.faults out.new))
-        (GetsLine (E.got err.old) (E.got err.new) (E.faults err.old) (E.faults err.new)) result }
+        (GetsLine (E.got err.old) (E.got err.new) (E.faults err.old) (E.faults err.new)) result.0 }
     ensures drilling { (d : Drilled) → asked_in words.now ≡ Some (drilling d) → IsDrilling d
         (outside (F.state files.old) (O.got out.old) (O.faults out.old)) (outside (F.state files.new) (O.got out.new) (O.faults out.new))
-        (GetsLine (E.got err.old) (E.got err.new) (E.faults err.old) (E.faults err.new)) result }
+        (GetsLine (E.got err.old) (E.got err.new) (E.faults err.old) (E.faults err.new)) result.0 }
     ensures exporting { (x : Exported) → asked_in words.now ≡ Some (exporting x) → IsExporting x
         (outside (F.state files.old) (O.got out.old) (O.faults out.old)) (outside (F.state files.new) (O.got out.new) (O.faults out.new))
-        (GetsLine (E.got err.old) (E.got err.new) (E.faults err.old) (E.faults err.new)) result }
+        (GetsLine (E.got err.old) (E.got err.new) (E.faults err.old) (E.faults err.new)) result.0 }
     ensures roles { (a : Asked) → asked_in words.now ≡ Some (asking a) → IsAsking a
         (outside (F.state files.old) (O.got out.old) (O.faults out.old)) (outside (F.state files.new) (O.got out.new) (O.faults out.new))
-        (GetsLine (E.got err.old) (E.got err.new) (E.faults err.old) (E.faults err.new)) result }
+        (GetsLine (E.got err.old) (E.got err.new) (E.faults err.old) (E.faults err.new)) result.0 }
     ensures carrying { (c : Carried) → asked_in words.now ≡ Some (carrying c) → IsCarrying c
         (outside (F.state files.old) (O.got out.old) (O.faults out.old)) (outside (F.state files.new) (O.got out.new) (O.faults out.new))
-        (GetsLine (E.got err.old) (E.got err.new) (E.faults err.old) (E.faults err.new)) result }
+        (GetsLine (E.got err.old) (E.got err.new) (E.faults err.old) (E.faults err.new)) result.0 }
     ensures without_reading { asked_in words.now ≡ None → IsUnread
-        (outside (F.state files.old) (O.got out.old) (O.faults out.old)) (outside (F.state files.new) (O.got out.new) (O.faults out.new)) result }
+        (outside (F.state files.old) (O.got out.old) (O.faults out.old)) (outside (F.state files.new) (O.got out.new) (O.faults out.new)) result.0 }
+
+    // What a listing with a journal tells. The disk is that of no other command.
+    ensures journaled { (l : Listed) (name : List ℕ) → asked_in words.now ≡ Some (listing l) → l.journal ≡ Some name → IfSome result.1 (λ after. IsJournaled D.state l name disk after
+        (outside (F.state files.old) (O.got out.old) (O.faults out.old)) (outside (F.state files.new) (O.got out.new) (O.faults out.new))
+        (GetsLine (E.got err.old) (E.got err.new) (E.faults err.old) (E.faults err.new)) result.0) }
+    ensures untouched { journal_in (asked_in words.now) ≡ None → result.1 ≡ Some disk }
+    ensures disk { IsSome result.1 }
 {
-    let ending = obey(rt, alloc, words, files, out, gate);
+    let (ending, disk) = obey(rt, alloc, words, files, out, gate, disk);
     write_error_line(err, &ending);
-    finish_of(alloc, ending)
+    (finish_of(alloc, ending), Some(disk))
 }
 
 /// Does what the words ask for, up to the line that tells how it ended.
-fn obey<R: Threads + Wait + Sync, F: Files, O: Sink, G: Gate>(
+fn obey<R: Threads + Wait + Sync, F: Files, O: Sink, G: Gate, D: Disk + Send + Drop>(
     rt: &R,
     alloc: Global,
     words: &[String],
     files: &mut F,
     out: &mut O,
     gate: &G,
-) -> Ending
-    ensures { EndsAs (asked_in words.now)
-        (outside (F.state files.old) (O.got out.old) (O.faults out.old)) (outside (F.state files.new) (O.got out.new) (O.faults out.new)) result }
+    disk: D,
+) -> (Ending, D)
+    ensures { EndsWith D.state (asked_in words.now) disk result.1
+        (outside (F.state files.old) (O.got out.old) (O.faults out.old)) (outside (F.state files.new) (O.got out.new) (O.faults out.new)) result.0 }
 {
     match read_words(alloc, words) {
-        Ok(Some(Request::List(listing))) => list_file(rt, alloc, listing, files, out, gate),
-        Ok(Some(Request::Check(checking))) => check_file(alloc, checking, files, out),
-        Ok(Some(Request::Drill(drilling))) => drill_case(rt, alloc, drilling, out, gate),
-        Ok(Some(Request::Export(exporting))) => export_conflict(alloc, exporting, files),
-        Ok(Some(Request::Roles(asking))) => ask_file(rt, alloc, asking, files, out, gate),
-        Ok(Some(Request::Carry(carrying))) => carry_file(rt, alloc, carrying, files, out, gate),
-        Ok(None) => obey_none(files, out),
-        Err(AllocError) => Ending::Memory,
+        Ok(Some(Request::List(listing))) => list_by(rt, alloc, listing, files, out, gate, disk),
+        Ok(Some(Request::Check(checking))) => (check_file(alloc, checking, files, out), disk),
+        Ok(Some(Request::Drill(drilling))) => (drill_case(rt, alloc, drilling, out, gate), disk),
+        Ok(Some(Request::Export(exporting))) => (export_conflict(alloc, exporting, files), disk),
+        Ok(Some(Request::Roles(asking))) => (ask_file(rt, alloc, asking, files, out, gate), disk),
+        Ok(Some(Request::Carry(carrying))) => {
+            (carry_file(rt, alloc, carrying, files, out, gate), disk)
+        }
+        Ok(None) => (obey_none(files, out), disk),
+        Err(AllocError) => (Ending::Memory, disk),
     }
 }
 

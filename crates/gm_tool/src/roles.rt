@@ -2,7 +2,7 @@
 //!
 //! They are told where each group is in some set that was found, and each is either alone a correction or missing in a conflict;
 //! else where all sets are found. Where a bound ends the enumeration before, nothing is written.
-ghost use Rattle.std.specs.Prelude.{◌≡◌, true, [], Some, IfOk};
+ghost use Rattle.std.specs.Prelude.{◌≡◌, false, true, [], Some, IfOk};
 ghost use Rattle.gm_base.specs.Problem.{Problem};
 ghost use Rattle.gm_ports.specs.FilesState.{FilesState};
 ghost use Rattle.gm_words.specs.Requests.{AreGoodJobs, asked_by};
@@ -65,7 +65,8 @@ fn ask_problem<O: Sink, G: Gate, R: Threads + Wait + Sync>(
     out: &mut O,
     gate: &G,
 ) -> Ending
-    requires { AreGoodJobs bounds.jobs }
+    requires jobs { AreGoodJobs bounds.jobs }
+    requires no_journal { bounds.journal ≡ false }
     ensures { (files : FilesState) → Asks problem.now bounds (outside files (O.got out.old) (O.faults out.old))
         (outside files (O.got out.new) (O.faults out.new)) result }
 {
@@ -90,7 +91,8 @@ fn prepare<G: Gate, R: Threads + Wait + Sync>(
     bounds: Bounds,
     gate: &G,
 ) -> Result<Prepared, AllocError>
-    requires { AreGoodJobs bounds.jobs }
+    requires jobs { AreGoodJobs bounds.jobs }
+    requires no_journal { bounds.journal ≡ false }
     ensures { IfOk result (IsPrepared problem.now [] bounds (λ closing. text_where (are_told closing.verdict) problem.now)) }
 {
     let left = list_sets(rt, alloc, problem, Records::new(alloc), bounds, gate)?;

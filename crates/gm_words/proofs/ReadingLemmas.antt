@@ -68,12 +68,12 @@ read_of_refusal a words e (Ok x) is kinds none other = ap (option_map asked_by) 
 read_of_refusal a words e (Err _) is kinds none other = tt
 
 -- where the focus is no LIST
-pub listing_without : (file : Option Text) (jobs conflicts limit : Option ℕ) (evidence resume : Option Text) (focus : Option (Option (List ℕ))) → focus ≡ None
-    → None ≡ listing_with file jobs conflicts limit evidence resume focus
-listing_without file jobs conflicts limit evidence resume focus none =
-    subst (λ f. None ≡ listing_with file jobs conflicts limit evidence resume f) (sym none) (by file jobs conflicts limit)
+pub listing_without : (file : Option Text) (jobs conflicts limit : Option ℕ) (evidence resume journal : Option Text) (focus : Option (Option (List ℕ))) → focus ≡ None
+    → None ≡ listing_with file jobs conflicts limit evidence resume journal focus
+listing_without file jobs conflicts limit evidence resume journal focus none =
+    subst (λ f. None ≡ listing_with file jobs conflicts limit evidence resume journal f) (sym none) (by file jobs conflicts limit)
   where
-    by : (f : Option Text) (j c l : Option ℕ) → None ≡ listing_with f j c l evidence resume None
+    by : (f : Option Text) (j c l : Option ℕ) → None ≡ listing_with f j c l evidence resume journal None
     by None j c l = refl
     by (Some f) None c l = refl
     by (Some f) (Some j) None l = refl

@@ -1,7 +1,7 @@
 -- The words of the command line: the command as a value of clap's specification, and what it reads of any words.
 -- clap (docs.rs/clap): a subcommand's name comes first; an option stands before or after the other words, as
 -- `--name VALUE` or `--name=VALUE`, and at most once; `--` ends the options; `-` alone is a word.
-use Rattle.std.specs.Prelude.{◌-◌, ◌^◌, ◌==◌, ℕ, List, [], ◌∷◌, Option, Some, None, codes, if◌then◌else◌, option_and_then, option_map, true}
+use Rattle.std.specs.Prelude.{◌-◌, ◌^◌, ◌==◌, ℕ, Bool, true, false, List, [], ◌∷◌, Option, Some, None, codes, if◌then◌else◌, option_and_then, option_map}
 use Rattle.std.specs.List.{slice_split}
 use Rattle.std.specs.Option.{option_map_or}
 use Rattle.std.specs.Str.{bytes_eq}
@@ -77,6 +77,10 @@ evidence_rule = text_rule (codes "evidence")
 abbrev pub resume_rule : Rule
 resume_rule = text_rule (codes "resume")
 
+-- `--journal NAME`
+abbrev pub journal_rule : Rule
+journal_rule = text_rule (codes "journal")
+
 -- `--focus LIST`, whose text is read below
 abbrev pub focus_rule : Rule
 focus_rule = text_rule (codes "focus")
@@ -102,9 +106,9 @@ abbrev pub numbered_list_app : App
 numbered_list_app = with_rule (with_rule (with_rule (with_rule (new_app (codes "list"))
     (place_rule (codes "file"))) jobs_rule) conflicts_rule) limit_rule
 
--- `list FILE [--jobs J] [--conflicts B] [--limit L] [--evidence FILE] [--resume FILE] [--focus LIST]`
+-- `list FILE [--jobs J] [--conflicts B] [--limit L] [--evidence FILE] [--resume FILE] [--journal NAME] [--focus LIST]`
 abbrev pub list_app : App
-list_app = with_rule (with_rule (with_rule numbered_list_app evidence_rule) resume_rule) focus_rule
+list_app = with_rule (with_rule (with_rule (with_rule numbered_list_app evidence_rule) resume_rule) journal_rule) focus_rule
 
 -- `check FILE EVIDENCE [--focus LIST]`
 abbrev pub check_app : App
@@ -151,6 +155,7 @@ pub record Listing : Type 0 where
   pub limit : ℕ
   pub evidence : Option Text
   pub resume : Option Text
+  pub journal : Option Text
   -- the groups in focus, ascending, where some are named
   pub focus : Option (List ℕ)
 
@@ -233,17 +238,22 @@ set_in text = option_map set_of (numbers_in (slice_split (λ letter. letter == 4
 abbrev pub focus_in : List Row → Option (Option (List ℕ))
 focus_in rows = option_map_or (λ text. option_map Some (set_in text)) (first_of focus_rule.id rows) (Some None)
 
--- a listing, where each of its parts can be had; evidence need not be named
-abbrev pub listing_with : Option Text → Option ℕ → Option ℕ → Option ℕ → Option Text → Option Text → Option (Option (List ℕ)) → Option Asked
-listing_with (Some file) (Some jobs) (Some conflicts) (Some limit) evidence resume (Some focus) =
-    Some (listing (record { file = file; jobs = jobs; conflicts = conflicts; limit = limit; evidence = evidence; resume = resume; focus = focus }))
-listing_with _ _ _ _ _ _ _ = None
+-- both are given
+abbrev pub are_both : Option Text → Option Text → Bool
+are_both (Some one) (Some other) = true
+are_both _ _ = false
+
+-- a listing, where each of its parts can be had; evidence need not be named, and what is gone on from is evidence or a journal
+abbrev pub listing_with : Option Text → Option ℕ → Option ℕ → Option ℕ → Option Text → Option Text → Option Text → Option (Option (List ℕ)) → Option Asked
+listing_with (Some file) (Some jobs) (Some conflicts) (Some limit) evidence resume journal (Some focus) = if are_both resume journal then None
+    else Some (listing (record { file = file; jobs = jobs; conflicts = conflicts; limit = limit; evidence = evidence; resume = resume; journal = journal; focus = focus }))
+listing_with _ _ _ _ _ _ _ _ = None
 
 -- what the values of `list` ask for
 abbrev pub listing_of : List Row → Option Asked
 listing_of rows = listing_with (first_of (codes "file") rows) (number_or 1 jobs_rule rows)
     (number_or greatest_conflicts conflicts_rule rows) (number_or greatest_limit limit_rule rows)
-    (first_of (codes "evidence") rows) (first_of (codes "resume") rows) (focus_in rows)
+    (first_of (codes "evidence") rows) (first_of (codes "resume") rows) (first_of (codes "journal") rows) (focus_in rows)
 
 -- a checking, where each of its parts can be had
 abbrev pub checking_with : Option Text → Option Text → Option (Option (List ℕ)) → Option Asked

@@ -1,8 +1,8 @@
 -- What a request of the program asks for.
-use Rattle.std.specs.Prelude.{◌≢◌, ℕ, ◌<◌, ◌≤◌, Option, option_map}
+use Rattle.std.specs.Prelude.{◌≡◌, ◌≢◌, ℕ, ◌<◌, ◌≤◌, false, Option, option_map}
 use Rattle.std.specs.Borrow.{Bor}
 use Rattle.clap.specs.Walk.{Text}
-use Rattle.gm_words.specs.Reading.{Asked, greatest_jobs, greatest_limit, greatest_number, greatest_size, listing, checking, drilling, exporting, asking, carrying}
+use Rattle.gm_words.specs.Reading.{Asked, are_both, greatest_jobs, greatest_limit, greatest_number, greatest_size, listing, checking, drilling, exporting, asking, carrying}
 use Rattle.gm_words.specs.declared.request.Request.{Request}
 use Rattle.gm_words.specs.declared.request.Request.TheVariants as request
 
@@ -13,7 +13,7 @@ text_of = option_map (λ s. s.now)
 -- what the request asks for, in the words of the definition
 abbrev pub asked_by : Request → Asked
 asked_by (request.List l) =
-    listing (record { file = l.file.now; jobs = l.jobs; conflicts = l.conflicts; limit = l.limit; evidence = text_of l.evidence; resume = text_of l.resume; focus = l.focus })
+    listing (record { file = l.file.now; jobs = l.jobs; conflicts = l.conflicts; limit = l.limit; evidence = text_of l.evidence; resume = text_of l.resume; journal = text_of l.journal; focus = l.focus })
 asked_by (request.Check c) = checking (record { file = c.file.now; evidence = c.evidence.now; focus = c.focus })
 asked_by (request.Drill d) = drilling (record { seed = d.seed; size = d.size; jobs = d.jobs })
 asked_by (request.Export x) =
@@ -26,10 +26,10 @@ asked_by (request.Carry c) =
 abbrev pub AreGoodJobs : ℕ → Type 0
 AreGoodJobs jobs = (0 < jobs) × (jobs ≤ greatest_jobs)
 
--- so are the workers of a listing and its limit, the workers of a drilling and its size, the number of an export, which
+-- so are the workers of a listing, which goes on from evidence or a journal, and its limit, the workers of a drilling and its size, the number of an export, which
 -- writes to two names, and the workers of what asks for roles or carries
 abbrev pub HasGoodValues : Request → Type 0
-HasGoodValues (request.List l) = AreGoodJobs l.jobs × (0 < l.limit) × (l.limit ≤ greatest_limit)
+HasGoodValues (request.List l) = AreGoodJobs l.jobs × (0 < l.limit) × (l.limit ≤ greatest_limit) × (are_both (text_of l.resume) (text_of l.journal) ≡ false)
 HasGoodValues (request.Check c) = Unit {0}
 HasGoodValues (request.Drill d) = AreGoodJobs d.jobs × (0 < d.size) × (d.size ≤ greatest_size)
 HasGoodValues (request.Export x) = (0 < x.number) × (x.number ≤ greatest_number) × (x.cnf.now ≢ x.lrat.now)

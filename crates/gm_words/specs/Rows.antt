@@ -8,7 +8,7 @@ use Rattle.gm_words.specs.Reading.{Asked, Listing, greatest_conflicts, greatest_
 -- `list` of a file, with no option
 abbrev pub plain_listing : Text → Listing
 plain_listing file =
-    record { file = file; jobs = 1; conflicts = greatest_conflicts; limit = greatest_limit; evidence = None; resume = None; focus = None }
+    record { file = file; jobs = 1; conflicts = greatest_conflicts; limit = greatest_limit; evidence = None; resume = None; journal = None; focus = None }
 
 abbrev pub list_of : Text → Option Asked
 list_of file = Some (listing (plain_listing file))
@@ -89,6 +89,25 @@ pub read_resume :
     × (words_read (codes "check" ∷ codes "f" ∷ codes "e" ∷ codes "--resume" ∷ codes "a" ∷ []) ≡ None)
 unfolding clap_on_literals
 read_resume = (refl, refl, refl, refl, refl, refl, refl, refl)
+
+-- with a journal
+abbrev pub list_with_journal : Text → Text → Option Asked
+list_with_journal file journal =
+    Some (listing (record (plain_listing file) { journal = Some journal }))
+
+-- the name of the journal, with which none of evidence that is resumed goes; none, one that looks like an option, two
+pub read_journal :
+    (words_read (codes "list" ∷ codes "f" ∷ codes "--journal" ∷ codes "j" ∷ []) ≡ list_with_journal (codes "f") (codes "j"))
+    × (words_read (codes "list" ∷ codes "--journal=" ∷ codes "f" ∷ []) ≡ list_with_journal (codes "f") [])
+    × (words_read (codes "list" ∷ codes "f" ∷ codes "--journal" ∷ codes "a" ∷ codes "--evidence" ∷ codes "a" ∷ [])
+    ≡ Some (listing (record (plain_listing (codes "f")) { evidence = Some (codes "a"); journal = Some (codes "a") })))
+    × (words_read (codes "list" ∷ codes "f" ∷ codes "--journal" ∷ codes "j" ∷ codes "--resume" ∷ codes "a" ∷ []) ≡ None)
+    × (words_read (codes "list" ∷ codes "f" ∷ codes "--journal" ∷ []) ≡ None)
+    × (words_read (codes "list" ∷ codes "f" ∷ codes "--journal" ∷ codes "-x" ∷ []) ≡ None)
+    × (words_read (codes "list" ∷ codes "f" ∷ codes "--journal=j" ∷ codes "--journal=j" ∷ []) ≡ None)
+    × (words_read (codes "check" ∷ codes "f" ∷ codes "e" ∷ codes "--journal" ∷ codes "j" ∷ []) ≡ None)
+unfolding clap_on_literals
+read_journal = (refl, refl, refl, refl, refl, refl, refl, refl)
 
 -- groups in focus: in any order, also more than once, and read as other numbers are
 abbrev pub list_about : List ℕ → Option Asked

@@ -1,7 +1,8 @@
 -- Wrong lines: clap itself finds a fault in each of them, computed from its specification.
 --
 -- The reading of the words is none also where clap finds no fault and yet a part of the request can't be had. Known are those of
--- an export whose two outputs have one name, and those with a focus that is no list of groups.
+-- an export whose two outputs have one name, those of a listing that goes on from evidence and from a journal, and those with a
+-- focus that is no list of groups.
 -- What these lines and others are read as is tried by the script `words` of text_trials, which has the same lines.
 use Rattle.std.specs.Prelude.{◌≡◌, ◌++◌, ◌==◌, ℕ, List, [], ◌∷◌, codes, filter, if◌then◌else◌}
 use Rattle.std.proofs.Common.{refl}
@@ -115,6 +116,11 @@ pub unknown_options :
     codes "drill|7|12|--evidence|e|" ∷
     codes "drill|7|12|--resume|a|" ∷
     codes "check|f|e|--resume|a|" ∷
+    codes "list|f|--journa|j|" ∷
+    codes "check|f|e|--journal|j|" ∷
+    codes "drill|7|12|--journal|j|" ∷
+    codes "roles|f|--journal|j|" ∷
+    codes "carry|f|e|g|--journal|j|" ∷
     codes "drill|7|12|--seed|7|" ∷
     codes "export|f|e|1|a|b|--jobs|2|" ∷
     codes "export|f|e|1|a|b|--number|1|" ∷
@@ -212,6 +218,9 @@ pub missing_values :
     codes "list|f|--resume|" ∷
     codes "list|f|--resume|-x|" ∷
     codes "list|f|--resume=a|--resume=a|" ∷
+    codes "list|f|--journal|" ∷
+    codes "list|f|--journal|-x|" ∷
+    codes "list|f|--journal=j|--journal=j|" ∷
     codes "drill|7|12|--jobs|" ∷
     codes "drill|7|12|--jobs|2|--jobs|2|" ∷
     codes "list|f|--focus|" ∷

@@ -29,12 +29,13 @@ fn gmus_top_command<'a>(alloc: Global) -> Command<'a>
         .subcommand_required(true)
 }
 
-/// `list FILE [--jobs J] [--conflicts B] [--limit L] [--evidence FILE] [--resume FILE] [--focus LIST]`
+/// `list FILE [--jobs J] [--conflicts B] [--limit L] [--evidence FILE] [--resume FILE] [--journal NAME] [--focus LIST]`
 fn list_command<'a>(alloc: Global) -> Result<Command<'a>, AllocError>
     ensures { IfOk result (IsLocal list_app) }
 {
     let command = with_text(numbered_list_command(alloc), alloc, "evidence");
     let command = with_text(command, alloc, "resume");
+    let command = with_text(command, alloc, "journal");
     with_text(command, alloc, "focus")
 }
 

@@ -95,7 +95,7 @@ fn listing<'a>(alloc: Global, matches: &ArgMatches<'a>) -> Result<Option<Request
 fn listing_about<'a>(matches: &ArgMatches<'a>, focus: Option<GroupSet>) -> Option<Request<'a>>
     ensures asked { let rows = rows_of (found_of matches.now) in option_map asked_by result
         ≡ listing_with (first_of (codes "file") rows) (number_or 1 jobs_rule rows) (number_or greatest_conflicts conflicts_rule rows)
-        (number_or greatest_limit limit_rule rows) (first_of (codes "evidence") rows) (first_of (codes "resume") rows) (Some focus) }
+        (number_or greatest_limit limit_rule rows) (first_of (codes "evidence") rows) (first_of (codes "resume") rows) (first_of (codes "journal") rows) (Some focus) }
     ensures values { IfSome result HasGoodValues }
 {
     let file = text_given(matches, "file")?;
@@ -103,7 +103,8 @@ fn listing_about<'a>(matches: &ArgMatches<'a>, focus: Option<GroupSet>) -> Optio
     listing_by(matches, file, jobs as u32, focus)
 }
 
-/// What the matches of `list` ask for, with the file, the workers and the groups in focus that are among them.
+/// What the matches of `list` ask for, with the file, the workers and the groups in focus that are among them. A listing begins
+/// with evidence or with a journal, not with both.
 fn listing_by<'a>(
     matches: &ArgMatches<'a>,
     file: &'a str,
@@ -113,13 +114,17 @@ fn listing_by<'a>(
     requires { AreGoodJobs jobs }
     ensures asked { let rows = rows_of (found_of matches.now) in option_map asked_by result
         ≡ listing_with (Some file.now) (Some jobs) (number_or greatest_conflicts conflicts_rule rows)
-        (number_or greatest_limit limit_rule rows) (first_of (codes "evidence") rows) (first_of (codes "resume") rows) (Some focus) }
+        (number_or greatest_limit limit_rule rows) (first_of (codes "evidence") rows) (first_of (codes "resume") rows) (first_of (codes "journal") rows) (Some focus) }
     ensures values { IfSome result HasGoodValues }
 {
     let conflicts = number_or(matches, CONFLICTS, CONFLICTS.high)?;
     let limit = number_or(matches, LIMIT, LIMIT.high)?;
     let evidence = text_given(matches, "evidence");
     let resume = text_given(matches, "resume");
+    let journal = text_given(matches, "journal");
+    if resume.is_some() && journal.is_some() {
+        return None;
+    }
     Some(Request::List(Listing {
         file,
         jobs,
@@ -127,6 +132,7 @@ fn listing_by<'a>(
         limit,
         evidence,
         resume,
+        journal,
         focus,
     }))
 }

@@ -16,6 +16,8 @@ pub struct Listing<'a> {
     pub evidence: Option<&'a str>,
     /// The name of the evidence whose records come first, where it is given.
     pub resume: Option<&'a str>,
+    /// The name of the journal whose records come first and that gets the new ones, where it is given. Then `resume` is not.
+    pub journal: Option<&'a str>,
     /// The groups in focus, where they are given. They may be above those of the file.
     pub focus: Option<GroupSet>,
 }
@@ -86,7 +88,7 @@ pub struct Carrying<'a> {
 /// What the words ask for.
 #[derive(Drop)]
 pub enum Request<'a> {
-    /// `list FILE [--jobs J] [--conflicts B] [--limit L] [--evidence FILE] [--resume FILE] [--focus LIST]`
+    /// `list FILE [--jobs J] [--conflicts B] [--limit L] [--evidence FILE] [--resume FILE] [--journal NAME] [--focus LIST]`
     List(Listing<'a>),
     /// `check FILE EVIDENCE [--focus LIST]`
     Check(Checking<'a>),

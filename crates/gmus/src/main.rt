@@ -1,12 +1,14 @@
 //! The program: the real files and streams, the words of the command line, and one call of `run`.
 #![tactic(auto)]
 
+mod disk;
 mod files;
 mod sinks;
 mod system;
 #[cfg(test)]
 mod tests;
 
+use disk::RealDisk;
 use files::RealFiles;
 use gm_ports::write_all;
 use sinks::StreamSink;
@@ -32,7 +34,16 @@ fn main(rt: HostRuntime) -> ExitCode {
     };
     let mut files = RealFiles::new(&rt);
     let mut out = StreamSink::new(rt.stdout());
-    let finish = run_on_system(&rt, alloc, words.as_slice(), &mut files, &mut out, &mut err);
+    let disk = RealDisk::new(&rt);
+    let (finish, _) = run_on_system(
+        &rt,
+        alloc,
+        words.as_slice(),
+        &mut files,
+        &mut out,
+        &mut err,
+        disk,
+    );
     ExitCode::from(finish.status)
 }
 

@@ -2,10 +2,12 @@
 //! files and sinks in memory, on one problem, and where two workers have to be at work at the same time. What else is tried
 //! of `run` stands in the script of `run_trials`.
 mod adapters;
+mod disks;
 mod meeting;
 
 use adapters::{Told, try_adapters};
-use gm_ports::{Calls, Gate, MemFiles, MemSink, OpenGate, Rooms, Texts};
+use disks::{ToldOfDisk, try_disk};
+use gm_ports::{Calls, Gate, MemFiles, MemSink, NoDisk, OpenGate, Rooms, Texts};
 use gm_tool::run;
 use meeting::Meeting;
 use std::alloc::{AllocError, Global};
@@ -37,6 +39,26 @@ fn adapters_move_bytes_and_count_faults(rt: HostRuntime) -> Result<(), Fail> {
 fn tell_of_adapters(rt: &HostRuntime) -> Result<Told, Fail> {
     let name = fresh_name(rt)?;
     Ok(try_adapters(rt, name.as_str()))
+}
+
+#[test]
+fn disk_keeps_bytes_and_counts_faults(rt: HostRuntime) -> Result<(), Fail> {
+    let told = tell_of_disk(&rt)?;
+    assert_eq!(rt; told.unopened, [false, false, false, false]);
+    assert_eq!(rt; told.opened, [false, false, false, true]);
+    assert_eq!(rt; told.sizes, [0, 16, 16]);
+    assert_eq!(rt; told.written, [true, true, false, true]);
+    assert_eq!(rt; told.read, [8, 0, 0]);
+    assert!(rt; told.is_same && told.removed && !told.filled);
+    assert_eq!(rt; told.faults, [4, 7, 8, 9]);
+    Ok(())
+}
+
+// Calls of a disk, one after another, under a fresh name.
+fn tell_of_disk(rt: &HostRuntime) -> Result<ToldOfDisk, Fail> {
+    let name = fresh_name(rt)?;
+    let lost = format!(in rt.alloc(); "{name}-lost/journal")?;
+    Ok(try_disk(rt, name.as_str(), lost.as_str()))
 }
 
 // Four clauses: x, not x, x implies y, and not y, each in a group of its own.
@@ -83,7 +105,8 @@ fn run_words<R: Threads + Wait + Sync, G: Gate>(
 ) -> Result<(u8, bool), AllocError> {
     let mut out = MemSink::new(alloc, 1000, 1000, Calls::new(alloc))?;
     let mut err = MemSink::new(alloc, 1000, 1000, Calls::new(alloc))?;
-    let finish = run(rt, alloc, words, files, &mut out, &mut err, gate);
+    let disk = NoDisk::new();
+    let (finish, _) = run(rt, alloc, words, files, &mut out, &mut err, gate, disk);
     Ok((finish.status, out.got() == FIRST_REPORT.as_bytes()))
 }
 

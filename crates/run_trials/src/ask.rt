@@ -31,6 +31,7 @@ pub fn ask_files(
                 push_lines(out, "otherwise", text)?;
             }
         }
+        "disk" => push_bytes(alloc, files.bytes(), out)?,
         "tells" => match files.tells() {
             Some(true) => out.push_str("all was kept\n")?,
             Some(false) => out.push_str("something was not kept\n")?,
@@ -39,6 +40,15 @@ pub fn ask_files(
         _ => return Ok(false),
     }
     Ok(true)
+}
+
+fn push_bytes(alloc: Global, bytes: &[u8], out: &mut String) -> Result<(), AllocError> {
+    out.push_str("disk")?;
+    for byte in bytes {
+        let word = format!(in alloc; " {byte}")?;
+        out.push_str(word.as_str())?;
+    }
+    out.push_str("\n")
 }
 
 /// Adds what the call asks of a run. Answers whether it asks something that is known.

@@ -9,8 +9,9 @@
 //! hold FILE [TEXT ..]        a file and what it holds: likewise
 //! change FILE LINE COUNT     so many of its lines, from this one on (from 1), become the lines below
 //! room FILE BYTES            a file that may be written, and how far
+//! byte N ..                  the journal's disk holds these bytes behind those so far
 //! per KIND BYTES             the most bytes that a call moves, of a KIND: reads, writes, report, errors
-//! fail KIND NUMBER ..        these calls of a kind fail, counted from 1
+//! fail KIND NUMBER ..        these calls of a kind, or of the `disk`, fail, counted from 1
 //! sure                       no call of the files fails, and they tell whether they kept all
 //! meet                       the first job of a run waits until another worker comes with one
 //!
@@ -19,12 +20,15 @@
 //! quiet WORD ..              likewise, without what standard output got
 //! each KIND WORD ..          runs these words with each call of a kind failing in turn, until no call fails; and each
 //!                            time once more while standard error takes nothing, which has to change nothing else
+//! stop WORD ..               runs these words with all calls of the disk failing from the first one on, from the second one on
+//!                            and so on, until no call fails; and each time once more on what was left of the disk
 //! small COUNT FROM           lists so many small problems, which are made from a number, and compares the reports with
 //!                            those of a plain program
 //! small_evidence COUNT FROM  likewise, with evidence that is then checked
 //!
 //! held FILE                  what a file holds after the last run
 //! begins FILE TEXT ..        whether it begins with these texts
+//! disk                       the bytes of the journal's disk
 //! tells                      whether the files kept all
 //! spent                      how many clauses were learnt in the last run
 //! records                    how many sets were recorded

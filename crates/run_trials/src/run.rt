@@ -1,9 +1,9 @@
 //! A run of the program, and what it left.
 use crate::gate::Meeting;
 use crate::lines::push_lines;
-use crate::outside::Outside;
+use crate::outside::{Outside, Stored};
 use crate::setting::{Moves, Setting};
-use gm_ports::{Calls, Files, MemSink};
+use gm_ports::{Calls, Files, MemDisk, MemSink};
 use gm_tool::{Finish, run};
 use std::alloc::{AllocError, Global};
 use std::sync::Wait;
@@ -29,6 +29,7 @@ pub struct Answer {
 pub struct Faults {
     pub reads: u64,
     pub writes: u64,
+    pub disk: u64,
     pub report: u64,
     pub errors: u64,
 }
@@ -77,8 +78,9 @@ fn run_over<R: Threads + Wait + Sync, F: Files>(
     files: &mut F,
     sinks: &mut Sinks,
     gate: &Meeting,
-) -> Answer {
-    let finish = run(
+    disk: MemDisk,
+) -> (Answer, Option<MemDisk>) {
+    let (finish, disk) = run(
         rt,
         alloc,
         words,
@@ -86,8 +88,29 @@ fn run_over<R: Threads + Wait + Sync, F: Files>(
         &mut sinks.out,
         &mut sinks.err,
         gate,
+        disk,
     );
-    answer_of(&finish)
+    (answer_of(&finish), disk)
+}
+
+/// Runs the program over these files and the disk, which comes back.
+fn run_outside<R: Threads + Wait + Sync>(
+    rt: &R,
+    alloc: Global,
+    words: &[String],
+    files: &mut Outside,
+    sinks: &mut Sinks,
+    gate: &Meeting,
+) -> Result<Answer, AllocError> {
+    let Some(disk) = files.disk.take() else {
+        return Err(AllocError);
+    };
+    let (answer, disk) = match &mut files.files {
+        Stored::Mem(mem) => run_over(rt, alloc, words, mem, sinks, gate, disk),
+        Stored::Sure(sure) => run_over(rt, alloc, words, sure, sinks, gate, disk),
+    };
+    files.disk = disk;
+    Ok(answer)
 }
 
 /// Runs these words over these files, with sinks and a gate as the setting tells.
@@ -104,15 +127,14 @@ pub fn run_words<R: Threads + Wait + Sync>(
         err: sink_of(alloc, &setting.errors)?,
     };
     let gate = Meeting::new(setting.meets);
-    let reads = files.read_faults();
-    let writes = files.write_faults();
-    let answer = match files {
-        Outside::Mem(files) => run_over(rt, alloc, words.as_slice(), files, &mut sinks, &gate),
-        Outside::Sure(files) => run_over(rt, alloc, words.as_slice(), files, &mut sinks, &gate),
-    };
+    let reads = files.files.read_faults();
+    let writes = files.files.write_faults();
+    let disk = files.disk_faults();
+    let answer = run_outside(rt, alloc, words.as_slice(), files, &mut sinks, &gate)?;
     let faults = Faults {
-        reads: files.read_faults().saturating_sub(reads),
-        writes: files.write_faults().saturating_sub(writes),
+        reads: files.files.read_faults().saturating_sub(reads),
+        writes: files.files.write_faults().saturating_sub(writes),
+        disk: files.disk_faults().saturating_sub(disk),
         report: sinks.out.faults(),
         errors: sinks.err.faults(),
     };
@@ -129,8 +151,7 @@ impl Left {
     /// Adds the status; what the sinks got, but for the report where it is not to be shown; what failed; and whether two
     /// workers met.
     pub fn print(&self, alloc: Global, shows: bool, out: &mut String) -> Result<(), AllocError> {
-        let status = format!(in alloc; "status {}\n", self.answer.status)?;
-        out.push_str(status.as_str())?;
+        self.answer.print(alloc, out)?;
         if shows {
             push_lines(out, "out", self.out.as_slice())?;
         }
@@ -144,11 +165,20 @@ impl Left {
     }
 }
 
+impl Answer {
+    /// Adds the status.
+    pub fn print(self, alloc: Global, out: &mut String) -> Result<(), AllocError> {
+        let status = format!(in alloc; "status {}\n", self.status)?;
+        out.push_str(status.as_str())
+    }
+}
+
 impl Faults {
     fn print(self, alloc: Global, out: &mut String) -> Result<(), AllocError> {
         for (word, count) in [
             ("reads", self.reads),
             ("writes", self.writes),
+            ("disk", self.disk),
             ("report", self.report),
             ("errors", self.errors),
         ] {

@@ -4,11 +4,12 @@ use crate::shelf::Shelf;
 use std::alloc::{AllocError, Global};
 use trial_script::Step;
 
-/// What is read and written, in four kinds.
+/// What is read and written, in five kinds.
 #[derive(Clone, Copy)]
 pub enum Kind {
     Reads,
     Writes,
+    Disk,
     Report,
     Errors,
 }
@@ -18,6 +19,7 @@ pub fn kind_of(word: &str) -> Option<Kind> {
     match word {
         "reads" => Some(Kind::Reads),
         "writes" => Some(Kind::Writes),
+        "disk" => Some(Kind::Disk),
         "report" => Some(Kind::Report),
         "errors" => Some(Kind::Errors),
         _ => None,
@@ -54,6 +56,10 @@ pub struct Setting {
     pub rooms: Vec<Room>,
     pub reads: Moves,
     pub writes: Moves,
+    /// A disk has no greatest number of bytes.
+    pub disk: Moves,
+    /// What the disk holds.
+    pub bytes: Vec<u8>,
     pub report: Moves,
     pub errors: Moves,
     pub is_sure: bool,
@@ -68,6 +74,8 @@ impl Setting {
             rooms: Vec::new(alloc),
             reads: Moves::new(alloc, 1000),
             writes: Moves::new(alloc, 1000),
+            disk: Moves::new(alloc, 1000),
+            bytes: Vec::new(alloc),
             report: Moves::new(alloc, 1000),
             errors: Moves::new(alloc, 7),
             is_sure: false,
@@ -79,6 +87,7 @@ impl Setting {
         match kind {
             Kind::Reads => &mut self.reads,
             Kind::Writes => &mut self.writes,
+            Kind::Disk => &mut self.disk,
             Kind::Report => &mut self.report,
             Kind::Errors => &mut self.errors,
         }
@@ -102,6 +111,7 @@ impl Setting {
             "room" => self.add_room(alloc, step),
             "per" => Ok(self.set_most(step)),
             "fail" => self.set_failing(alloc, step),
+            "byte" => self.add_bytes(alloc, step),
             "sure" => {
                 self.is_sure = true;
                 Ok(true)
@@ -149,6 +159,19 @@ impl Setting {
         };
         self.moves(kind).most = most as usize;
         true
+    }
+
+    fn add_bytes(&mut self, alloc: Global, step: &Step<'_>) -> Result<bool, AllocError> {
+        let Some(numbers) = step.numbers(alloc, 1)? else {
+            return Ok(false);
+        };
+        for number in numbers {
+            let Ok(byte) = u8::try_from(number) else {
+                return Ok(false);
+            };
+            self.bytes.push(byte)?;
+        }
+        Ok(true)
     }
 
     fn set_failing(&mut self, alloc: Global, step: &Step<'_>) -> Result<bool, AllocError> {

@@ -2,7 +2,9 @@
 //!
 //! The first run in which no call fails is the last one. Runs next to each other that went alike are told once, with their
 //! number, up to ten; how many writes a text takes is its own matter.
+use crate::lines::push_lines;
 use crate::machine::Machine;
+use crate::outside::{Outside, disk_of};
 use crate::run::Left;
 use crate::setting::{Kind, Setting};
 use std::alloc::{AllocError, Global};
@@ -49,6 +51,7 @@ fn is_same_unheard(heard: &Left, unheard: &Left) -> bool {
         && unheard.err.is_empty()
         && heard.faults.reads == unheard.faults.reads
         && heard.faults.writes == unheard.faults.writes
+        && heard.faults.disk == unheard.faults.disk
         && heard.faults.report == unheard.faults.report
 }
 
@@ -70,7 +73,7 @@ fn run_both(
         unheard.print(alloc, true, text)?;
     }
     let faults = heard.faults;
-    Ok(faults.reads > 0 || faults.writes > 0 || faults.report > 0)
+    Ok(faults.reads > 0 || faults.writes > 0 || faults.disk > 0 || faults.report > 0)
 }
 
 /// Runs the words with each call of the kind failing in turn, each time twice, and adds how it went.
@@ -90,6 +93,62 @@ pub fn sweep(
         setting.fail(kind, Vec::from_slice(alloc, &[call])?);
         let mut text = String::new(alloc);
         let failed = run_both(machine, alloc, words, setting, &mut text)?;
+        stretch.add(alloc, text, out)?;
+        if !failed {
+            return stretch.print(alloc, out);
+        }
+    }
+    out.push_str("no run in which no call fails\n")
+}
+
+/// The calls from this one on.
+fn calls_from(alloc: Global, call: u64) -> Result<Vec<u64>, AllocError> {
+    let mut calls = Vec::new(alloc);
+    for number in call..call.saturating_add(200) {
+        calls.push(number)?;
+    }
+    Ok(calls)
+}
+
+/// Runs the words while the disk's calls fail from this one on, and then on what was left, and adds how both went. Answers
+/// whether a call failed.
+fn run_stopped(
+    machine: &Machine,
+    alloc: Global,
+    words: &[&str],
+    setting: &Setting,
+    call: u64,
+    text: &mut String,
+) -> Result<bool, AllocError> {
+    let mut files = Outside::new(alloc, setting)?;
+    let failing = calls_from(alloc, call)?;
+    files.disk = Some(disk_of(alloc, files.bytes(), failing.as_slice())?);
+    let stopped = machine.run(alloc, words, setting, &mut files)?;
+    stopped.answer.print(alloc, text)?;
+    push_lines(text, "err", stopped.err.as_slice())?;
+    files.disk = Some(disk_of(alloc, files.bytes(), &[])?);
+    let again = machine.run(alloc, words, setting, &mut files)?;
+    text.push_str("then ")?;
+    again.print(alloc, true, text)?;
+    Ok(stopped.faults.disk > 0)
+}
+
+/// Runs the words with all of the disk's calls failing from the first on, from the second on and so on, and each time once more
+/// on what was left, and adds how it went.
+pub fn stop_each(
+    machine: &Machine,
+    alloc: Global,
+    words: &[&str],
+    setting: &Setting,
+    out: &mut String,
+) -> Result<(), AllocError> {
+    let mut stretch = Stretch {
+        count: 0,
+        text: String::new(alloc),
+    };
+    for call in 1..MANY {
+        let mut text = String::new(alloc);
+        let failed = run_stopped(machine, alloc, words, setting, call, &mut text)?;
         stretch.add(alloc, text, out)?;
         if !failed {
             return stretch.print(alloc, out);

@@ -6,7 +6,7 @@ use crate::run::Left;
 use crate::setting::{Setting, kind_of, text_of};
 use crate::shelf::Shelf;
 use crate::small::list_small;
-use crate::sweep::sweep;
+use crate::sweep::{stop_each, sweep};
 use std::alloc::{AllocError, Global};
 use trial_script::{Player, Step};
 
@@ -78,6 +78,17 @@ impl Trials {
         Ok(true)
     }
 
+    fn stop(
+        &mut self,
+        alloc: Global,
+        step: &Step<'_>,
+        out: &mut String,
+    ) -> Result<bool, AllocError> {
+        let words = step.words().get(1..).unwrap_or(&[]);
+        stop_each(&self.machine, alloc, words, &self.setting, out)?;
+        Ok(true)
+    }
+
     fn list_small(
         &mut self,
         alloc: Global,
@@ -129,7 +140,10 @@ impl Player for Trials {
     ) -> Result<bool, AllocError> {
         match step.word(0) {
             "text" => self.add_text(alloc, step),
-            "hold" | "change" | "room" | "per" | "fail" | "sure" | "meet" => self.set(alloc, step),
+            "hold" | "change" | "room" | "per" | "fail" | "byte" | "sure" | "meet" => {
+                self.set(alloc, step)
+            }
+            "stop" => self.stop(alloc, step, out),
             "run" => self.run(alloc, step, true, out),
             "quiet" => self.run(alloc, step, false, out),
             "each" => self.sweep(alloc, step, out),

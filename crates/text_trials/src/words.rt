@@ -5,7 +5,7 @@
 //! = list "f" jobs 2 conflicts 18446744073709551615 limit 1000000000
 //! ```
 //!
-//! A listing is told with each of its numbers, and with `evidence`, `resume` and `focus 1 2` where it has them, a checking as
+//! A listing is told with each of its numbers, and with `evidence`, `resume`, `journal` and `focus 1 2` where it has them, a checking as
 //! `check "f" "e"` with the same focus, a drilling as `drill 7 12 jobs 1`, and an export as `export "f" "e" 1 "a" "b"`. Who asks
 //! for roles is told as `roles "f" jobs 1` with a focus, and a carrying as `carry "f" "e" "g" jobs 1` with `evidence`. A wrong command
 //! line is told as `wrong`.
@@ -106,6 +106,9 @@ fn show_listing(listing: &Listing<'_>, out: &mut String) -> Result<(), AllocErro
     }
     if let Some(resume) = listing.resume {
         write!(out, " resume \"{resume}\"")?;
+    }
+    if let Some(journal) = listing.journal {
+        write!(out, " journal \"{journal}\"")?;
     }
     show_focus(listing.focus.as_ref(), out)
 }

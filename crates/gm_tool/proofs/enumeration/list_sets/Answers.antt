@@ -1,4 +1,4 @@
-use Rattle.std.proofs.Common.{◌≡◌, ℕ, true, false, List, Option, length, ap, subst}
+use Rattle.std.proofs.Common.{◌≡◌, ℕ, Bool, true, false, refl, sym, List, Option, length, ap, subst}
 use Rattle.std.specs.Prelude.{MatchOption}
 use Rattle.evidence_rec.specs.declared.record.Record.{Record}
 use Rattle.map_core.specs.declared.closing.Closing.{Closing}
@@ -22,6 +22,12 @@ returns g c =
     c.enumerate-outcome.ensures.outcome.closing in
     let opening = ap (opened records) count in
     record {
-      closed = record { left = subst (λ o. IsLeft o false outcome.logs c.in-Some.closing) opening told.0 };
+      closed =
+          record {
+            left =
+                subst (λ (k : Bool). IsLeft (opened records b.jobs) k outcome.logs c.in-Some.closing) (sym c.requires.no_journal)
+                (subst (λ o. IsLeft o false outcome.logs c.in-Some.closing) opening told.0);
+            no_journal = told.0.no_journal refl;
+          };
       spent = c.enumerate-outcome.ensures.outcome.spent;
     }

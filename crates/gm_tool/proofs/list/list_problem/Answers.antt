@@ -1,30 +1,23 @@
-use Rattle.std.proofs.Common.{◌∙◌, inl, inr, refl, subst}
-use Rattle.gm_words.specs.Requests.{text_of}
-use Rattle.gm_tool.specs.Outside.{outside}
-use Rattle.gm_tool.specs.Steps.{Writes}
-use Rattle.gm_tool.proofs.ReportLemmas.{accepted-in}
+use Rattle.std.proofs.Common.{◌+◌, ◌<◌, ◌^◌, inl, refl, arith}
+use Rattle.gm_tool.specs.Closed.{learned_in}
+use Rattle.gm_tool.specs.Prepared.{logs_before}
+use Rattle.gm_tool.proofs.ReadyLemmas.{spent-within}
 use Rattle.gm_tool.proofs.list.list_problem.Goals as goal
 
 -- nothing was opened where memory was wanting
 pub returns-in_default : goal.returns-in_default
 returns-in_default g c = inl (refl, refl)
 
--- what is left is accepted
-pub write_outputs-written-requires : goal.write_outputs-written-requires
-write_outputs-written-requires g c = accepted-in c.in-Ok.ensures.closed
+pub put_out-requires-clause-left : goal.put_out-requires-clause-left
+put_out-requires-clause-left g c = (c.args.course.first, c.args.course.bounds, c.in-Ok.ensures)
 
--- what is ready is written
+-- no more is learnt in all than may be
+pub put_out-requires-clause-few : goal.put_out-requires-clause-few
+put_out-requires-clause-few g c =
+    let few : learned_in (logs_before c.args.course.before) + c.args.course.bounds.conflicts < 2 ^ 64 = c.requires.few in
+    let spent = spent-within c.in-Ok.ensures in
+    omega arith
+
+-- what is left is written
 pub returns : goal.returns
-returns g c =
-    let ready = c.in-Ok.prepared in
-    let old = outside (g.F.Files.state c.args.files.now) (g.O.Sink.got c.args.out.now) (g.O.Sink.faults c.args.out.now) in
-    let new = outside (g.F.Files.state c.write_outputs-written.new.files) (g.O.Sink.got c.write_outputs-written.new.out) (g.O.Sink.faults c.write_outputs-written.new.out) in
-    inr (
-      ready,
-      c.in-Ok.ensures,
-      c.write_outputs-written.result,
-      c.listed_by.ensures,
-      subst (λ report. Writes c.args.problem.now (text_of c.args.evidence) ready.left.closing report old new c.write_outputs-written.result)
-          (c.as_slice-text.ensures.value ∙ c.in-Ok.ensures.text)
-          c.write_outputs-written.ensures,
-    )
+returns g c = c.put_out.ensures c.args.course refl refl c.requires.all c.in-Ok.ensures

@@ -2,4 +2,4 @@ use Rattle.gm_words.proofs.command.list_command.Goals as goal
 
 -- each step adds its rule
 pub returns : goal.returns
-returns c = c.with_text.ensures _ (c.with_text-command-2.ensures _ (c.with_text-command.ensures _ c.numbered_list_command.ensures))
+returns c = c.with_text.ensures _ (c.with_text-command-3.ensures _ (c.with_text-command-2.ensures _ (c.with_text-command.ensures _ c.numbered_list_command.ensures)))

@@ -4,4 +4,4 @@ use Rattle.gm_words.proofs.read.listing.Goals as goal
 
 -- a text that is no LIST leaves no listing
 pub returns-in-None-clause-asked : goal.returns-in-None-clause-asked
-returns-in-None-clause-asked c = listing_without _ _ _ _ _ _ _ (sym c.in_ok-focus.ensures ∙ c.in-None.is)
+returns-in-None-clause-asked c = listing_without _ _ _ _ _ _ _ _ (sym c.in_ok-focus.ensures ∙ c.in-None.is)

@@ -1,0 +1,121 @@
+-- What is left of an enumeration that kept a journal, by what its seats and its board know.
+use Rattle.std.proofs.Common.{◌≡◌, ◌≢◌, ℕ, Bool, true, false, List, [], ◌∷◌, Option, Some, None, refl, sym, ◌∙◌, ap, subst}
+use Rattle.std.specs.Prelude.{◌||◌, MatchOption, IfSome, is_some}
+use Rattle.std.proofs.lemmas.Bool.{false≢true}
+use Rattle.gm_base.specs.Problem.{Problem}
+use Rattle.gm_ports.specs.Faults.{Rose}
+use Rattle.gm_ports.specs.DiskState.{DiskState}
+use Rattle.turn_lock.specs.Seats.{AreAll, AreNew}
+use Rattle.lrat_steps.specs.Log.{LogStep}
+use Rattle.evidence_rec.specs.declared.record.Record.{Record}
+use Rattle.map_core.specs.declared.entry.Opening.{Opening}
+use Rattle.map_core.specs.declared.closing.Closing.{Closing}
+use Rattle.map_core.specs.declared.closing.Verdict.{Verdict}
+use Rattle.map_core.specs.declared.closing.Verdict.TheVariants.{Memory}
+use Rattle.map_core.specs.Closings.{is_cut_off}
+use Rattle.gm_journal.specs.declared.entry.Appended.{Appended}
+use Rattle.gm_journal.specs.declared.entry.Appended.TheVariants as appended
+use Rattle.gm_journal.specs.Entries.{OpeningView, EntryView}
+use Rattle.gm_journal.specs.Histories.{count_after, count_in, has_failed, is_failure}
+use Rattle.gm_journal.specs.Journals as journals
+use Rattle.worker_pool.specs.Pens.{JournalView, PenView, failure_among}
+use Rattle.worker_pool.specs.Outcomes as pool
+use Rattle.worker_pool.proofs.CutOff.{not_journal}
+use Rattle.worker_pool.proofs.Unbroken.{none_failed, not_cut_off}
+use Rattle.gm_tool.specs.declared.enumeration.Bounds.{Bounds}
+use Rattle.gm_tool.specs.declared.enumeration.Enumerated.{Enumerated}
+use Rattle.gm_tool.specs.declared.kept.Kept.{Kept}
+use Rattle.gm_tool.specs.declared.kept.Pages.{Pages}
+use Rattle.gm_tool.specs.Closed.{IsLeft, learned_in, opening_for}
+use Rattle.gm_tool.specs.JournalSteps.{IsClosed, IsKept, IsReady, HasEnded, left_of}
+use Rattle.gm_tool.proofs.HistoryLemmas.{failed-among, rose-after}
+
+-- where none failed the count stays
+same-after : (n : ℕ) (r : Appended) (rest : Bool) → (is_failure r || rest) ≡ false → (count_after n r ≡ n) × (rest ≡ false)
+same-after n appended.Ok rest is = (refl, is)
+same-after n appended.Already rest is = (refl, is)
+same-after n appended.Closed rest is = (refl, is)
+same-after n (appended.Failed count) rest is = absurd (false≢true (sym is))
+same-after n appended.Memory rest is = (refl, is)
+
+same-in : (es : List EntryView) (n : ℕ) → has_failed es ≡ false → count_in n es ≡ n
+same-in [] n is = refl
+same-in (e ∷ es) n is = let h = same-after n e.reply (has_failed es) is in same-in es (count_after n e.reply) h.1 ∙ h.0
+
+none-of : {A : Type 0} (x : Option A) → is_some x ≡ false → x ≡ None
+none-of None is = refl
+none-of (Some a) is = absurd (false≢true (sym is))
+
+some-of : {A : Type 0} (x : Option A) → is_some x ≡ true → (a : A) × (x ≡ Some a)
+some-of None is = absurd (false≢true is)
+some-of (Some a) is = (a, refl)
+
+module _ {D : Type 0} (state : D → DiskState) (p : Problem) (first : List Record) (b : Bounds) (j k : JournalView) (pens left : List PenView) (spent : ℕ) (logs : List (List LogStep))
+    (broken : Option ℕ) (disk : D) (count : spent ≡ learned_in logs) (ended : journals.IsLeft (state disk) k.opening left) where
+  abbrev o : Opening
+  o = opening_for p first b
+
+  abbrev Told : Option Closing → Verdict → Type 0
+  Told closing v = MatchOption closing (v ≡ Memory) (λ c. pool.IsLeft o b.journal logs c × (v ≡ c.verdict))
+
+  closed : (closing : Option Closing) (v : Verdict) → Told closing v → IfSome (left_of spent logs closing) (IsClosed p first b)
+  closed None v h = tt
+  closed (Some c) v h = record { left = h.0; spent = count }
+
+  all-of : (closing : Option Closing) → pool.IsKept o j pens closing broken k left → AreAll k left
+  all-of closing told = subst (λ m. AreAll m left) (sym told.same) told.all
+
+  -- no worker retired for a journal that is whole
+  whole : (closing : Option Closing) (v : Verdict) → Told closing v → pool.IsKept o j pens closing broken k left → broken ≡ None → IfSome (left_of spent logs closing) (IsLeft p first b)
+  whole None v h told none = tt
+  whole (Some c) v h told none =
+      let l = h.0 in
+      let s = l.state in
+      let cut : is_cut_off c.history ≡ false =
+      not_cut_off k left ended.history c.history o.workers (all-of (Some c) told) ended.seats_are (sym told.broken_is ∙ none) told.written told.count l.named in
+      record {
+        closed =
+            record {
+              left = l;
+              no_journal =
+                  not_journal s.exhausted s.settled (is_cut_off s.history) s.stopped s.limited l.closing_is.verdict
+                  (subst (λ es. is_cut_off es ≡ false) l.closing_is.history cut);
+            };
+        spent = count;
+      }
+
+  quiet : (closing : Option Closing) → pool.IsKept o j pens closing broken k left → broken ≡ None → (state disk).faults ≡ j.opening.faults
+  quiet closing told none =
+      ended.count
+      ∙ same-in ended.history k.opening.faults (none_failed k left ended.history (all-of closing told) ended.seats_are (sym told.broken_is ∙ none))
+      ∙ ap (λ (m : JournalView). m.opening.faults) told.same
+
+  rose : (closing : Option Closing) (n : ℕ) → pool.IsKept o j pens closing broken k left → broken ≡ Some n → Rose j.opening.faults (state disk).faults
+  rose closing n told is =
+      let failed : has_failed ended.history ≡ true = failed-among ended.history left n ended.seats_are.mine (sym told.broken_is ∙ is) in
+      subst (λ m. Rose m (state disk).faults) (ap (λ (m : JournalView). m.opening.faults) told.same)
+      (subst (λ m. Rose k.opening.faults m) (sym ended.count) (rose-after k.opening [] ended.history k.opening.faults ended.seats_are.is_legal failed))
+
+  pub is-kept : (closing : Option Closing) (v : Verdict) (kept : Kept D) → Told closing v → pool.IsKept o j pens closing broken k left → kept.disk ≡ disk → kept.is_broken ≡ is_some broken
+      → kept.left ≡ left_of spent logs closing → IsKept state p first b j.opening.faults kept
+  is-kept closing v kept h told at is left_is = record {
+    left =
+        subst (HasEnded p first b kept.is_broken) (sym left_is)
+        (record { closed = closed closing v h; whole = λ not. whole closing v h told (none-of broken (sym is ∙ not)) });
+    quiet = λ not. subst (λ (d : D). (state d).faults ≡ j.opening.faults) (sym at) (quiet closing told (none-of broken (sym is ∙ not)));
+    rose =
+        λ yes.
+        let some = some-of broken (sym is ∙ yes) in
+        subst (λ (d : D). Rose j.opening.faults (state d).faults) (sym at) (rose closing some.0 told some.1);
+  }
+
+-- a journal that was started with these records is ready
+pub is-ready : {D : Type 0} (p : Problem) (salvaged records : List Record) (b : Bounds) (faults : ℕ) (pages : Pages D) → pages.journal.opening ≡ journals.opening_of p salvaged b.jobs faults
+    → AreNew pages.journal b.jobs pages.seats.items → records ≡ salvaged → IsReady p records b pages
+is-ready p salvaged records b faults pages opening new same = record {
+  opening =
+      opening
+      ∙ ap (λ rs. journals.opening_of p rs b.jobs faults) (sym same)
+      ∙ ap (journals.opening_of p records b.jobs) (sym (ap (λ (o : OpeningView). o.faults) opening));
+  seats = new;
+}
