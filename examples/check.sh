@@ -187,6 +187,72 @@ for jobs in 1 4; do
     try "what it wrote by $jobs" 0 '' pairs.report check pairs.gcnf part
 done
 
+# A journal is made, read back and gone on from. What is no journal counts as an empty one, and a false record is refused.
+try_journal() { # what to try; the journal then has the one record of no groups
+    try "$1" 0 '' none.report list none.gcnf --journal j
+    cmp -s j wanted || differs "$1" 'the journal is another one'
+}
+printf 'p gcnf 0 0 0\n' >none.gcnf
+printf 'p gmus 0\ns COMPLETE\nm 0\ne 0 1\n' >none.report
+printf '\001\000\000\000\000\000\000\000\012m 0\nw 0 0\n\000' >wanted
+try_journal 'a journal that is made'
+try_journal 'a journal with nothing to add'
+printf '\000' | dd of=j conv=notrunc 2>/dev/null
+try_journal 'a journal whose first gate is closed'
+echo 'no journal' >j
+try_journal 'a text as a journal'
+sed 's/m/u/' wanted >j
+cp j before
+try 'a journal with a false record' 10 'gmus: journal refused at byte 0' nothing list none.gcnf --journal j
+cmp -s j before || differs 'a journal with a false record' 'it was changed'
+try 'a journal of another file' 10 'gmus: journal refused at byte 0' nothing list "$here/first.gcnf" --journal wanted
+try 'a folder as a journal' 6 'gmus: read fault on journal' nothing list none.gcnf --journal .
+try 'a journal in no folder' 6 'gmus: read fault on journal' nothing list none.gcnf --journal lost/j
+try 'a journal and evidence to go on from' 2 "$bad" nothing list "$here/first.gcnf" --journal j --resume "$evidence"
+try 'a journal of a refused file' 5 'gmus: input refused: 5 GroupTooBig at line 2 byte 2' nothing list refused --journal new
+try 'a journal of no file' 6 'gmus: read fault on input' nothing list lost --journal new
+[ ! -e new ] || differs 'a journal of a refused file' 'it was made'
+for jobs in 1 4; do
+    rm -f part
+    try_partial "a limit with a journal by $jobs" 4 'gmus: limit of 5 records reached' "$here/laptop.report" 5 list "$here/laptop.gcnf" --limit 5 --journal part --jobs "$jobs"
+    try "a part of a journal by $jobs" 0 '' "$here/laptop.report" list "$here/laptop.gcnf" --journal part --jobs "$jobs" --evidence written
+    try "the evidence beside a journal by $jobs" 0 '' "$here/laptop.report" check "$here/laptop.gcnf" written
+    rm -f whole
+    try "a whole journal by $jobs" 0 '' "$here/first.report" list "$here/first.gcnf" --journal whole --jobs "$jobs"
+    try "a whole journal and nothing to learn by $jobs" 0 '' "$here/first.report" list "$here/first.gcnf" --journal whole --jobs "$jobs" --conflicts 0
+done
+if (
+    trap '' XFSZ
+    ulimit -f 2 || exit 1
+    "$program" list "$here/laptop.gcnf" --journal full >out 2>err </dev/null
+    echo $? >status
+); then
+    status=$(cat status)
+    judge 'a journal with little room' 7 'gmus: write fault on journal' nothing
+    try 'the same with room' 0 '' "$here/laptop.report" list "$here/laptop.gcnf" --journal full
+else
+    echo 'skipped a journal with little room: no limit for files'
+fi
+if command -v python3 >/dev/null; then
+    python3 "$here/../tools/journal.py" "$here/laptop.gcnf" part >written
+    sed 's/^s COMPLETE$/s PARTIAL/' "$here/laptop.report" >partial_report
+    try 'the records of a journal' 0 '' partial_report check "$here/laptop.gcnf" written
+    if python3 "$here/kills.py" "$program" >found 2>&1; then
+        echo "ok      journals of killed runs: $(cat found)"
+    else
+        differs 'journals of killed runs' "$(cat found)"
+    fi
+else
+    echo 'skipped journals of killed runs: no python3'
+fi
+if ! command -v python3 >/dev/null || ! strace -f -o /dev/null true 2>/dev/null; then
+    echo 'skipped the calls of a journal: no python3, or strace is not there or may not trace'
+elif python3 "$here/journal_calls.py" "$program" >found 2>&1; then
+    echo "ok      the calls of a journal: $(cat found)"
+else
+    differs 'the calls of a journal' "$(cat found)"
+fi
+
 # Evidence that is asked for: whole and partial ones are accepted, by this program and by one that shares nothing with it.
 accepted() { # the problem, its evidence, and the report that both have to give
     try "evidence of ${1##*/}" 0 '' "$3" check "$1" "$2"
