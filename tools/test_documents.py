@@ -138,7 +138,7 @@ class Documents(unittest.TestCase):
     def test_the_launcher_and_the_formats_have_the_words_of_the_first_page(self):
         readme = text_of("README.md")
         usage = text_of("gmus").partition("<<'END'\n")[2].partition("END\n")[0].split("\n")[:-1]
-        self.assertLessEqual(len(usage), 14)
+        self.assertLessEqual(len(usage), 15)
         commands = man.synopsis(readme)
         self.assertEqual(usage[:len(commands)], [("usage: " if not at else "       ") + it for at, it in enumerate(commands)])
         wanted = [f"  {option.strip('`'):16} {says}" for option, says, _ in man.table(readme, "Option")]

@@ -243,6 +243,7 @@ class Journals(Room):
         time.sleep(0.5)
         self.hold(self.FIRST + b"\0")
         self.assertEqual(next(lines), "1 conflict and 0 corrections are there\n")
+        began = time.monotonic()
         with open(self.at("j"), "r+b") as file:
             file.seek(len(self.FIRST) + 1)
             file.write(self.SECOND[1:] + b"\0")
@@ -252,6 +253,8 @@ class Journals(Room):
         shown = [next(lines) for _ in range(4)]
         self.assertRegex(shown[2], r"^1 conflict and 1 correction, after [0-9.]+ s: [0-9]+ sets a minute\n$")
         self.assertEqual(shown[3], "    newest correction: group 2\n")
+        # The time before there was a journal doesn't count.
+        self.assertLess(float(shown[2].split()[6]), time.monotonic() - began + 0.1)
         self.hold(self.SECOND + b"\0")
         self.assertRegex([next(lines) for _ in range(2)][1], r"^0 conflicts and 1 correction, after ")
         child.send_signal(signal.SIGTERM)

@@ -19,9 +19,10 @@ WORDS may be, as gmus has them:
 --limit L       the limit of the last round; without it there is none
 --evidence NAME
 
-With --journal nothing is called. NAME is a journal of records (docs/FORMATS.md, 'The journal'), which no command writes yet:
-it is read, never changed, and what it has is shown whenever it has more, with the sets a minute, the newest ones and the
-groups in most conflicts. That goes on until an interrupt; with --once it is shown once.
+With --journal nothing is called. NAME is a journal of records (docs/FORMATS.md, 'The journal'), which another run writes by
+`gmus list FILE --journal NAME`: it is read, never changed, and what it has is shown whenever it has more, with the sets a
+minute since the first look, the newest ones and the groups in most conflicts; with --html the PAGE is then written anew. That
+goes on until an interrupt; with --once it is shown once.
 
 The status at the end is the program's own, and its line stands on standard error: 0 if no set is missing, 3 if a round learnt
 as many clauses as it may, 4 if the last limit was reached, and all others. It is 1 if watch.py refuses something, 2 if the

@@ -75,7 +75,7 @@ class JournalWatch:
         if groups is None:
             raise Refused(f"{asked.file}: it has no header 'p gcnf ..' or 'p cnf ..'")
         self.journal = Journal(asked.journal, groups)
-        self.began, self.at_first, self.known = time.monotonic(), None, 0
+        self.began, self.at_first, self.known = None, None, 0
 
     def looks(self):
         """Looks again and again until it is interrupted, or once if so asked, and gives the status."""
@@ -112,17 +112,18 @@ class JournalWatch:
         self.show(shown, sets[self.known:])
         self.known = len(sets)
         if self.at_first is None:
-            self.at_first = len(sets)
+            # The time before there was a journal doesn't count.
+            self.began, self.at_first = time.monotonic(), len(sets)
         if self.asked.page is not None:
             self.write_whole(self.asked.page, page.as_html(shown))
 
     def show(self, shown, new):
-        seconds = time.monotonic() - self.began
         found = f"{number_of(len(shown.conflicts), 'conflict', 'conflicts')} and " \
                 f"{number_of(len(shown.corrections), 'correction', 'corrections')}"
         if self.at_first is None:
             print(f"{found} are there")
         else:
+            seconds = time.monotonic() - self.began
             a_minute = max(0, len(self.journal.sets) - self.at_first) * 60 / max(seconds, 0.001)
             print(f"{found}, after {seconds:.1f} s: {a_minute:.0f} sets a minute")
         for line in reversed(new[-NEWEST:]):
