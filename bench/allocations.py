@@ -4,12 +4,14 @@
     bench/allocations.py [--gmus PROGRAM] [--dense 1000] [--step 100] [--try NUMBERS]
 
 The commands are a listing by one worker, one by two workers with evidence, a checking, and an export, a made case, the roles of
-groups in focus and what is carried over to a longer file where the program has these commands. Of each, every allocation up to
---dense is refused, and then each --step-th to the last one.
+groups in focus, what is carried over to a longer file, a listing with a journal by one worker, and one by two that goes on from
+a part of one, where the program has these commands. Of each, every allocation up to --dense is refused, and then each --step-th
+to the last one.
 A run has to end with 8 and its line and no report, or with 0 and the full output, or with 6 or 7 and their line where a call
 of the real files or streams found no memory. Where evidence was asked for, what stands under its name with 0 is accepted
 evidence. Of an export both files are full with 0, and not there with 6; else each is a front of the full one, and there is
-no refutation but behind a full CNF.
+no refutation but behind a full CNF. A journal keeps what it had, whatever the end, and has accepted records alone, as
+tools/journal.py says; with 0 it has each set of the report.
 
 The allocations are refused by a small library (allocations/refuse.c) that is loaded before PROGRAM. It has to be the proved
 one: one that `rt try` builds has an allocator of its own. With --try N,M,.. those of the first command are refused by the
@@ -25,29 +27,54 @@ import tempfile
 
 HERE = os.path.dirname(os.path.abspath(__file__))
 TOP = os.path.dirname(HERE)
+sys.path.insert(0, os.path.join(TOP, "tools"))
+
+import check_evidence  # noqa: E402
+import journal         # noqa: E402
 
 FIRST = os.path.join(TOP, "examples", "first.gcnf")
-LINES = {8: "gmus: out of memory\n", 6: ("gmus: read fault on input\n", "gmus: read fault on evidence\n"),
-         7: ("gmus: write fault on report\n", "gmus: write fault on evidence\n", "gmus: write fault on export\n")}
+LINES = {8: "gmus: out of memory\n",
+         6: ("gmus: read fault on input\n", "gmus: read fault on evidence\n", "gmus: read fault on journal\n"),
+         7: ("gmus: write fault on report\n", "gmus: write fault on evidence\n", "gmus: write fault on export\n", "gmus: write fault on journal\n")}
 COMMANDS = ["list f --jobs 1", "list f --jobs 2 --evidence b", "check f a", "export f a 2 c l", "drill 900 1", "roles f --jobs 2 --focus 4,2,1,2",
-            "carry f a g --evidence b"]
+            "carry f a g --evidence b", "list f --jobs 1 --journal j", "list f --jobs 2 --journal k --evidence b"]
 NEW = ["export", "drill", "roles", "carry"]   # older programs do not have them
 LONGER = "p gcnf 2 5 5\n{1} 1 0\n{2} -1 0\n{3} -1 2 0\n{4} -2 0\n{5} 1 0\n"   # the first example and a group
 EXPORTED = ["c", "l"]       # the names of an export, the CNF's first
+FREE, PART = "j", "k"       # the names of journals: one that is free before, and one with a part
+PART_HELD = journal.framed([b"m 1 0\nw 0 0\nd 5 -3 -4 0 1 2 0\nr 1 5\n"])   # one correction of the first example
 
 
 def run(gmus, words, folder, library, at):
-    """Status, output, error, and how many allocations there were. The names of an export are free before."""
+    """Status, output, error, and how many allocations there were. The names of an export are free before, and journals anew."""
     counted = os.path.join(folder, "count")
     with open(counted, "wb") as count:
         count.write(bytes(8))
-    for name in EXPORTED:
+    for name in [*EXPORTED, FREE]:
         if os.path.exists(os.path.join(folder, name)):
             os.remove(os.path.join(folder, name))
+    with open(os.path.join(folder, PART), "wb") as part:
+        part.write(PART_HELD)
     done = subprocess.run([gmus, *words], cwd=folder, stdout=subprocess.PIPE, stderr=subprocess.PIPE, timeout=120,
                           env={**os.environ, "LD_PRELOAD": library, "REFUSE_AT": str(at), "REFUSE_COUNT": counted})
     with open(counted, "rb") as count:
         return done.returncode, done.stdout.decode(), done.stderr.decode(), int.from_bytes(count.read(), sys.byteorder)
+
+
+def fault_of_journal(name, status, full, folder):
+    """What is wrong with what a run left as its journal, if anything is."""
+    if not os.path.exists(os.path.join(folder, name)):
+        return None if status else "no journal"
+    with open(os.path.join(folder, name), "rb") as file:
+        held = file.read()
+    if name == PART and not held.startswith(PART_HELD[:-1]):
+        return "a journal that lost a record"
+    try:
+        found = journal.salvaged(check_evidence.problem_of(FIRST), held)
+    except journal.Foreign as at:
+        return f"a journal that is refused at byte {at}"
+    sets = [line for line in full.split("\n") if line[:2] in ("u ", "m ")]
+    return "a journal with other sets than the report" if not status and len(found) != len(sets) else None
 
 
 def exported(folder):
@@ -96,7 +123,7 @@ def numbers(last, dense, step):
 
 def try_command(gmus, words, folder, library, given):
     status, full, err, last = run(gmus, words, folder, library, 0)
-    if (status, err) == (2, "gmus: bad command line\n") and words[0] in NEW:
+    if (status, err) == (2, "gmus: bad command line\n") and (words[0] in NEW or "--journal" in words):
         print(f"{' '.join(words)}: skipped: this program has no such command", flush=True)
         return 0
     if (status, err) != (0, ""):
@@ -110,6 +137,8 @@ def try_command(gmus, words, folder, library, given):
         what = fault(words, found, full, folder, gmus)
         if not what and words[0] == "export":
             what = fault_of_export(found[0], exported(folder), files)
+        if not what and "--journal" in words:
+            what = fault_of_journal(words[words.index("--journal") + 1], found[0], full, folder)
         if what:
             wrong += 1
             print(f"{' '.join(words)}: allocation {at} refused: {what}: {found[:3]}")

@@ -3,9 +3,11 @@
 
     bench/fuzz.py --gmus PROGRAM [--cases 20000] [--seed 1] [--only NUMBER]
 
-Of four cases two are files, one is evidence and one is a line of words. A file is told by the table of plain_reader.py, and
+Of five cases two are files, and one each is evidence, a journal and a line of words. A file is told by the table of plain_reader.py, and
 an accepted one is listed by brute_force.py, whose report tells the roles too, with a focus or without. Evidence is checked by tools/check_evidence.py, and a conflict of it is exported,
-which examples/exports.py judges, and it is carried over to a file with some groups more, or to one that is none. Of words, plain_reader.py says what they ask for, about small files whose reports are known.
+which examples/exports.py judges, and it is carried over to a file with some groups more, or to one that is none. A journal is
+read back by tools/journal.py, and has to keep its front and to get what is missing. Of words, plain_reader.py says what they
+ask for, about small files whose reports are known.
 Status, standard output, standard error and what stands under the names of outputs have to be those. A case is made from the
 seed and its number alone, so --only makes one again. Commands that PROGRAM does not have are left out. Ends with 1 where
 there is a difference, and says how to make it again. Needs Python 3.9.
@@ -26,6 +28,7 @@ sys.path[:0] = [HERE, os.path.join(TOP, "examples"), os.path.join(TOP, "tools")]
 import brute_force  # noqa: E402
 import check_evidence  # noqa: E402
 import exports  # noqa: E402
+import journal  # noqa: E402
 import make_case  # noqa: E402
 import mutate_evidence  # noqa: E402
 import plain_reader  # noqa: E402
@@ -206,6 +209,79 @@ def try_carry(chance, gmus, folder, text, checked, what):
     compare(wanted, found, f"{what} {lines}")
 
 
+# ---- journals
+
+def records_in(evidence):
+    """The texts of the records of evidence of version 1."""
+    texts = []
+    for line in evidence.split(b"\n")[1:-1]:
+        if line[:2] in (b"u ", b"m "):
+            texts.append([])
+        if line[:1] in b"umwdr":
+            texts[-1].append(line + b"\n")
+    # the steps of what closes the evidence stand behind the last record, which ends with a witness or a goal
+    while texts and texts[-1][-1][:1] == b"d":
+        texts[-1].pop()
+    return [b"".join(lines) for lines in texts]
+
+
+def draw_journal(chance, texts):
+    """A journal with some of these records in any order, which is as it should be, or changed."""
+    texts = chance.sample(texts, chance.randint(0, len(texts)))
+    if texts and chance.random() < 0.3:
+        at = chance.randrange(len(texts))
+        texts[at] = mutate_evidence.changed(chance, texts[at])
+    if texts and chance.random() < 0.1:
+        texts.append(chance.choice(texts))
+    held = journal.framed(texts)[:-1] + chance.choice([b"\0", b"\0", b"\0", b"\2", b"\xff", b"", b"\1"])
+    held += chance.choice([b"", b"", journal.framed(texts[:1]), bytes([1]), bytes(3), b"u 1 0\n" * 90])
+    return mutate_evidence.change_byte(chance, held) if chance.random() < 0.3 else held
+
+
+def compare_journal(problem, before, left, reported, what):
+    """A journal keeps the frames that it had and gets the other sets of the report behind them; what stands behind its end
+    stays as it was. Nothing at all is written where nothing was missing."""
+    gate, ends = journal.texts_in(before)[1], journal.texts_in(left)[1]
+    compare(before[:gate], left[:gate], f"{what}: the front of the journal")
+    try:
+        found = journal.salvaged(problem, left)
+    except journal.Foreign as at:
+        raise Difference(f"{what}: what is left is refused at byte {at}: {left}") from None
+    if reported is not None:
+        compare(sorted(reported), sorted(found), f"{what}: the sets of the journal")
+    compare((before or b"\0") if ends == gate else left[:ends] + b"\0" + before[ends + 1:], left, f"{what}: the journal")
+
+
+def sets_in(report):
+    """The sets of a report, each a kind and its groups."""
+    return [(line[0], *map(int, line.split()[1:-1])) for line in report.decode().split("\n") if line[:2] in ("u ", "m ")]
+
+
+def try_journal(chance, gmus, folder):
+    text = mutate_evidence.random_problem(chance)
+    problem = check_evidence.Problem(text)
+    held = draw_journal(chance, records_in(mutate_evidence.evidence(problem, chance, 1)))
+    file, name = os.path.join(folder, "file"), os.path.join(folder, "journal")
+    write(file, text.encode())
+    write(name, held)
+    wanted = wanted_listing(text.encode())
+    try:
+        journal.salvaged(problem, held)
+    except journal.Foreign as at:
+        wanted = refused_journal(at)
+    what = repr((text, held))
+    compare(wanted, run(gmus, ["list", file, "--journal", name, "--jobs", chance.choice("113")]), what)
+    if wanted[0]:
+        compare(held, held_in(name), what)
+    else:
+        compare_journal(problem, held, held_in(name), sets_in(wanted[1]), what)
+    return f"journal, status {wanted[0]}"
+
+
+def refused_journal(at):
+    return 10, b"", f"gmus: journal refused at byte {at}\n"
+
+
 def no_extension(place):
     return 12, b"", f"gmus: not an extension: clause {place}\n"
 
@@ -222,13 +298,17 @@ HALF = b"p gmev 1 0 1 1\nm 1 0\nw 0 0\nr 1 1\ne partial\n"
 TEXTS = {"f": ONE, "-": ONE, "-x": ONE, "--limit": ONE, "help": ONE, "list": ONE, "=": ONE, "g": b"p gcnf 0 0 0\n",
          "more": b"p gcnf 1 3 3\n{1} 0\n{2} 1 0\n{3} -1 0\n",
          "bad": b"p cnf 1 1\n", "e": BOTH, "half": HALF, "wrong": BOTH.replace(b"x 3", b"x 1")}
+CONFLICT, CORRECTION = records_in(BOTH)
+TEXTS.update({"j": journal.framed([CORRECTION, CONFLICT]), "ju": journal.framed([CONFLICT]) + b"\1\2", "jm": journal.framed([CORRECTION]),
+              "jbad": journal.framed([CORRECTION, CONFLICT[:-1]]), "closed": b"\0" + journal.framed([CORRECTION])[1:]})
 FILES = ["f", "f", "f", "f", "-", "-x", "--limit", "help", "list", "=", "g", "bad", "missing", ""]
 EVIDENCE = ["e", "e", "half", "wrong", "f", "missing", "", "-"]
 OUTPUTS = ["out", "out", "-", "f", "", "no/out", "-o", "--jobs"]
+JOURNALS = ["new", "new", "j", "ju", "jm", "jbad", "closed", "f", "e", "-", "", "no/out", "-o", "out"]
 EXPORTS = ["out", "cnf", "lrat", "cnf", "lrat", "./out", "-", "f", "e", "", "no/out", "-o"]
 EXPORTED = {"cnf": b"p cnf 0 1\n0\n", "lrat": b"2 0 1 0\n"}  # the one conflict of ONE
 LOST = ["", "no/out"]                                        # names that can't be written
-MADE = ["out", "cnf", "lrat", "-o", "--jobs"]                # names that are free before
+MADE = ["out", "cnf", "lrat", "-o", "--jobs", "new"]                # names that are free before
 NUMBERS = ["0", "1", "2", "3", "5", "64", "65", "+2", "007", "-1", "", "x", "1x", " 1", "1000000000", "1000000001", "18446744073709551615",
            "18446744073709551616", "+", "\u0661"]
 FOCI = ["1", "1", "2", "1,1", "2,007,1", "+1", "4294967295", "4294967296", "0", "", ",", "1,", ",1", "1, 2", "1;2", "x", "-1", "\u0661"]
@@ -236,7 +316,7 @@ OTHERS = ["--", "-", "-h", "--help", "--version", "help", "-j", "--job", "--jobs
 
 
 def option(chance, name):
-    pool = {"evidence": OUTPUTS, "resume": EVIDENCE, "focus": FOCI}.get(name, NUMBERS)
+    pool = {"evidence": OUTPUTS, "resume": EVIDENCE, "focus": FOCI, "journal": JOURNALS}.get(name, NUMBERS)
     if name in ("jobs", "limit", "conflicts") and chance.random() < 0.6:
         pool = ["1", "2", "3"]
     value = chance.choice(pool)
@@ -274,14 +354,22 @@ def draw_words(chance, commands):
 
 
 def opening(given, text):
-    """The sets that the resumed records hold, or the answer that ends the run."""
+    """The kinds of the sets that the first records hold, or the answer that ends the run."""
+    problem = check_evidence.Problem(text_in_focus(text, given.get("focus")))
+    if "journal" in given:
+        if given["journal"] in LOST:
+            return None, (6, b"", "gmus: read fault on journal\n")
+        try:
+            return [kind for kind, *_ in journal.salvaged(problem, TEXTS.get(given["journal"], b""))], None
+        except journal.Foreign as at:
+            return None, refused_journal(at)
     if "resume" not in given:
         return [], None
     if given["resume"] not in TEXTS:
         return None, (6, b"", "gmus: read fault on evidence\n")
     try:
-        sets = check_evidence.check(check_evidence.Problem(text_in_focus(text, given.get("focus"))), TEXTS[given["resume"]])[1]
-        return sets["u"] + sets["m"], None
+        sets = check_evidence.check(problem, TEXTS[given["resume"]])[1]
+        return ["u"] * len(sets["u"]) + ["m"] * len(sets["m"]), None
     except check_evidence.Refused as refused:
         return None, (9, b"", f"gmus: evidence refused: {refused}\n")
 
@@ -328,7 +416,7 @@ def wanted_of_list(given):
     if max(limit, len(held)) >= sets:
         return [(4, report_of(text, 4, focus), line)]
     lists = [b"p gmus 1\ns PARTIAL\nu 1 0\ne 1 0\n", b"p gmus 1\ns PARTIAL\nm 1 0\ne 0 1\n"]
-    return [(4, report, line) for report in (lists[1:] if held else lists)]
+    return [(4, report, line) for report in ([lists["um".index(held[0])]] if held else lists)]
 
 
 def wanted_of_check(given):
@@ -445,6 +533,11 @@ def compare_names(asked, found, words):
         problem, output = check_evidence.Problem(text_in_focus(listed, given.get("focus"))), given["evidence"]
         wanted[output] = held_in(output)
         compare(("yes", found[1]), mutate_evidence.plain(problem, wanted[output]), f"{words}")
+    if command == "list" and "journal" in given and (found[0] in (0, 4) or found[2] == "gmus: write fault on evidence\n"):
+        name, problem = given["journal"], check_evidence.Problem(text_in_focus(TEXTS[given["file"]], given.get("focus")))
+        if name != given.get("evidence"):
+            compare_journal(problem, TEXTS.get(name, b""), held_in(name), sets_in(found[1]) if found[0] in (0, 4) else None, f"{words}")
+            wanted[name] = held_in(name)
     for name in [*TEXTS, *MADE]:
         compare(wanted.get(name), held_in(name), f"{words} {name}")
 
@@ -473,6 +566,8 @@ def commands_of(gmus, folder):
     write(os.path.join(folder, "f"), ONE)
     if run(gmus, ["list", os.path.join(folder, "f"), "--resume", os.path.join(folder, "none")])[0] == 6:
         commands["list"].append("resume")
+    if run(gmus, ["list", os.path.join(folder, "f"), "--journal", os.path.join(folder, "no", "journal")])[0] == 6:
+        commands["list"].append("journal")
     return commands
 
 
@@ -480,9 +575,11 @@ def commands_of(gmus, folder):
 
 def try_case(number, seed, gmus, folder, commands):
     chance = random.Random(f"{seed}/{number}")
-    kind = number % 4
+    kind = number % 5
     if kind == 3:
         return try_words(chance, gmus, folder, commands)
+    if kind == 4 and "journal" in commands["list"]:
+        return try_journal(chance, gmus, folder)
     return try_evidence(chance, gmus, folder, commands) if kind == 2 else try_file(chance, gmus, folder, commands)
 
 

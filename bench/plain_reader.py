@@ -138,7 +138,8 @@ def problem_of(text):
 GREATEST = 2 ** 64 - 1
 GROUPS = (1, 2 ** 32 - 1)
 COMMANDS = {
-    "list": (["file"], {"jobs": (1, 64), "conflicts": (0, GREATEST), "limit": (1, 1000000000), "evidence": None, "resume": None, "focus": GROUPS}),
+    "list": (["file"], {"jobs": (1, 64), "conflicts": (0, GREATEST), "limit": (1, 1000000000), "evidence": None, "resume": None, "focus": GROUPS,
+                        "journal": None}),
     "check": (["file", "evidence"], {"focus": GROUPS}),
     "export": (["file", "evidence", ("number", (1, 1000000000)), "cnf", "lrat"], {}),
     "drill": ([("seed", (0, GREATEST)), ("size", (1, 1000))], {"jobs": (1, 64)}),
@@ -192,5 +193,7 @@ def words_read(words, commands):
         given[name] = value_of(text, numbers)
         if given[name] is None:
             return None
-    # an export has two outputs
-    return None if command == "export" and given["cnf"] == given["lrat"] else (command, given)
+    # an export has two outputs, and a listing goes on from evidence or from a journal
+    if command == "export" and given["cnf"] == given["lrat"] or command == "list" and {"resume", "journal"} <= given.keys():
+        return None
+    return command, given
