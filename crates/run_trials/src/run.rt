@@ -3,7 +3,7 @@ use crate::gate::Meeting;
 use crate::lines::push_lines;
 use crate::outside::{Outside, Stored};
 use crate::setting::{Moves, Setting};
-use gm_ports::{Calls, Files, MemDisk, MemSink};
+use gm_ports::{Calls, Disk, Files, MemSink};
 use gm_tool::{Finish, run};
 use std::alloc::{AllocError, Global};
 use std::sync::Wait;
@@ -70,17 +70,17 @@ fn answer_of(finish: &Finish) -> Answer {
     }
 }
 
-/// Runs the program. All that is tried goes through this one call of it, over any files.
-fn run_over<R: Threads + Wait + Sync, F: Files>(
+/// Runs the program. All that is tried goes through this one call of it, over any files and any disk.
+fn run_over<R: Threads + Wait + Sync, F: Files, D: Disk + Send + Drop>(
     rt: &R,
     alloc: Global,
     words: &[String],
     files: &mut F,
     sinks: &mut Sinks,
     gate: &Meeting,
-    disk: MemDisk,
-) -> (Answer, Option<MemDisk>) {
-    let (finish, disk) = run(
+    disk: D,
+) -> (Finish, Option<D>) {
+    run(
         rt,
         alloc,
         words,
@@ -89,8 +89,7 @@ fn run_over<R: Threads + Wait + Sync, F: Files>(
         &mut sinks.err,
         gate,
         disk,
-    );
-    (answer_of(&finish), disk)
+    )
 }
 
 /// Runs the program over these files and the disk, which comes back.
@@ -105,12 +104,12 @@ fn run_outside<R: Threads + Wait + Sync>(
     let Some(disk) = files.disk.take() else {
         return Err(AllocError);
     };
-    let (answer, disk) = match &mut files.files {
+    let (finish, disk) = match &mut files.files {
         Stored::Mem(mem) => run_over(rt, alloc, words, mem, sinks, gate, disk),
         Stored::Sure(sure) => run_over(rt, alloc, words, sure, sinks, gate, disk),
     };
     files.disk = disk;
-    Ok(answer)
+    Ok(answer_of(&finish))
 }
 
 /// Runs these words over these files, with sinks and a gate as the setting tells.
