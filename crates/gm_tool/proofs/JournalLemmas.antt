@@ -2,6 +2,7 @@
 use Rattle.std.proofs.Common.{◌≡◌, ◌≢◌, ◌⊎◌, ℕ, true, false, List, [], ◌∷◌, Option, Some, None, inl, inr, ap, sym, subst, refl, ◌∙◌, arith}
 use Rattle.std.specs.Prelude.{◌+◌, ◌^◌, ◌<◌, IfSome}
 use Rattle.std.proofs.lemmas.Bool.{false≢true}
+use Rattle.std.proofs.lemmas.Option.{same_Some}
 use Rattle.sat_base.specs.Members.{In}
 use Rattle.gm_base.specs.Problem.{Problem}
 use Rattle.gm_ports.specs.Faults.{Rose}
@@ -10,6 +11,7 @@ use Rattle.gm_ports.specs.FilesState.{FilesState, ReadingLeaves, StaysAsTold}
 use Rattle.gm_words.specs.Reading.{Asked, Listing, listing, checking, drilling, exporting, asking, carrying}
 use Rattle.evidence_rec.specs.declared.record.Record.{Record}
 use Rattle.evidence_rec.specs.Records.{AllAccepted}
+use Rattle.map_core.specs.declared.closing.Closing.{Closing}
 use Rattle.gm_journal.specs.declared.salvaging.Salvaged.{Salvaged}
 use Rattle.gm_journal.specs.Following.{AreJournalled}
 use Rattle.gm_journal.specs.Salvage.{HoldsRecords, HoldsNoRecord}
@@ -18,11 +20,12 @@ use Rattle.gm_tool.specs.declared.enumeration.Enumerated.{Enumerated}
 use Rattle.gm_tool.specs.declared.ending.Ending.{Ending}
 use Rattle.gm_tool.specs.declared.ending.Ending.TheVariants.{Refused, ReadFault, Memory, JournalUnread, JournalRefused, JournalUnbegun, JournalCutOff}
 use Rattle.gm_tool.specs.declared.ending.Finish.{Finish}
+use Rattle.gm_tool.specs.Closed.{opening_for}
 use Rattle.gm_tool.specs.Endings.{bare, after, error_line, finish_of, line_of, input_fault_line, journal_cut_line, journal_fault_line, report_cut_line}
 use Rattle.gm_tool.specs.Input.{OfFile, ReadsIn, IsReadAs, IsReadFor}
-use Rattle.gm_tool.specs.Journaled.{IsJournaled, IsSalvagedFrom, IsForeignTo, IsListedOn, IsStopped, IsJournalFault, IsJournalUnread, IsInputFault, IsJournalRefusal, EndsJournaled}
+use Rattle.gm_tool.specs.Journaled.{HoldsNew, IsJournaled, IsSalvagedFrom, IsForeignTo, IsListedOn, IsStopped, IsJournalFault, IsJournalUnread, IsInputFault, IsJournalRefusal, NoneRetired, EndsJournaled}
 use Rattle.gm_tool.specs.declared.kept.Kept.{Kept}
-use Rattle.gm_tool.specs.JournalSteps.{IsClosed, IsKept, IsOpened, EndsKept, Keeps, KeepsFrom, RefusesJournal, StopsOpening, course_for}
+use Rattle.gm_tool.specs.JournalSteps.{IsClosed, IsKept, IsOpened, EndsKept, Keeps, KeepsFrom, RefusesJournal, StopsOpening, closing_in, course_for}
 use Rattle.gm_tool.specs.Judging.{IsRefusal}
 use Rattle.gm_tool.specs.Listing.{IsListed, bounds_for}
 use Rattle.gm_tool.specs.Outputs.{evidence_output}
@@ -30,7 +33,7 @@ use Rattle.gm_tool.specs.Outside.{Outside, outside}
 use Rattle.gm_tool.specs.Refusals.{refusal_line}
 use Rattle.gm_tool.specs.Resuming.{AreGoodFirst}
 use Rattle.gm_tool.specs.Run.{IsOutputFault, IsReportFault, IsRun}
-use Rattle.gm_tool.specs.Statuses.{IsAmong, IsFaultless, IsSilent, IsReported, IsToldByStatus}
+use Rattle.gm_tool.specs.Statuses.{IsAmong, IsFaultless, IsPartial, IsSilent, IsReported, IsToldByStatus}
 use Rattle.gm_tool.specs.Steps.{Lists, StopsReading}
 use Rattle.gm_tool.specs.Taking.{stays-same}
 use Rattle.gm_tool.specs.Words.{EndsAs, EndsWith, ListsBy, journal_in}
@@ -39,6 +42,7 @@ use Rattle.gm_tool.proofs.GetsLemmas.{listed-gets, refusal}
 use Rattle.gm_ports.proofs.ToldLemmas.{ReadingLeaves-nothing}
 use Rattle.gm_tool.proofs.ReadingLemmas.{file-by, read-for}
 use Rattle.gm_tool.proofs.RunLemmas.{memory-at_once}
+use Rattle.gm_tool.proofs.SalvageLemmas.{none-retired}
 use Rattle.gm_tool.proofs.StatusLemmas.{among-by}
 use Rattle.gm_tool.proofs.WrittenLemmas.{ListedLine, listed_finish, listed-fits, listed-logs, listed-run, is-listed, among-fits, same-unasked}
 
@@ -214,11 +218,12 @@ module _ {D : Type 0} (state : D → DiskState) (l : Listing) (name : List ℕ) 
 
   -- a run that is over tells of it
   over : (first : List Record) (Gets : List ℕ → Type 0) (finish : Finish) → IsSalvagedFrom p ((state disk).held name) first → ((state now).faults ≡ (state disk).faults)
+      → IfSome finish.closing (λ closing. HoldsNew p first closing (state now))
       → IsAmong (0 ∷ 3 ∷ 4 ∷ 7 ∷ 8 ∷ []) finish.status → (l.evidence ≡ None → new.files ≡ mid.files)
       → IsRun (bounds_for l) (evidence_output l.evidence) (outside old mid.got mid.faults) new Gets finish
       → IsListed p first (bounds_for l) finish.logs l.evidence (outside old mid.got mid.faults) new Gets finish
       → IsJournaled state l name disk now (outside old mid.got mid.faults) new Gets finish
-  over first Gets finish salvaged same_count among same run h = record {
+  over first Gets finish salvaged same_count held among same run h = record {
     statuses = among-by (IsAmong (0 ∷ 3 ∷ 4 ∷ 5 ∷ 6 ∷ 7 ∷ 8 ∷ 10 ∷ [])) (0 ∷ 3 ∷ 4 ∷ 7 ∷ 8 ∷ []) finish.status among (refl, (refl, (refl, (refl, (refl, tt)))));
     learned = run.learned;
     before =
@@ -253,22 +258,34 @@ module _ {D : Type 0} (state : D → DiskState) (l : Listing) (name : List ℕ) 
     names = run.names;
   }
     where
-      on : IsListedOn l ((state disk).held name) (outside old mid.got mid.faults) new Gets finish
-      on = record { problem = p; reads = read-whole same; first = first; salvaged = salvaged; listed = h }
+      on : IsListedOn l ((state disk).held name) (state now) (outside old mid.got mid.faults) new Gets finish
+      on = record {
+        problem = p;
+        reads = read-whole same;
+        first = first;
+        salvaged = salvaged;
+        listed = h;
+        holds_new = subst (λ told. IfSome told (λ closing. HoldsNew p first closing (state now))) h.left held;
+        none_retired =
+            λ t.
+            none-retired (opening_for p first (bounds_for l)) (bounds_for l).journal finish.logs h.closing h.enumerated.closed.left
+            (subst IsPartial (sym (h.verdict (among-by IsReported (3 ∷ 4 ∷ []) finish.status t (refl, (refl, tt))))) t);
+      }
 
   listed : (first : List Record) (e : Ending) → IsSalvagedFrom p ((state disk).held name) first → ((state now).faults ≡ (state disk).faults)
+      → IfSome (finish_of e).closing (λ closing. HoldsNew p first closing (state now))
       → Lists p (course_for first (bounds_for l)) l.evidence mid new e → EndsJournaled state l name disk now (outside old mid.got mid.faults) new e
-  listed first e salvaged same_count (inl (memory, same)) =
+  listed first e salvaged same_count held (inl (memory, same)) =
       subst (EndsJournaled state l name disk now (outside old mid.got mid.faults) new) (sym memory)
       (subst (λ o. EndsJournaled state l name disk now (outside old mid.got mid.faults) o Memory) (sym same)
       (journaled-memory state l name disk now old mid.files mid.got mid.faults reads))
-  listed first e salvaged same_count (inr (ready, ok, written, ending, writes)) =
+  listed first e salvaged same_count held (inr (ready, ok, written, ending, writes)) =
       let course = course_for first (bounds_for l) in
       let Line = ListedLine p course l.evidence old mid new reads quiet ready ok written in
       let finish = listed_finish p course l.evidence old mid new reads quiet ready ok written in
       let fits = listed-fits p course l.evidence old mid new reads quiet ready ok written in
       subst (EndsJournaled state l name disk now (outside old mid.got mid.faults) new) (sym ending)
-      (over first Line finish salvaged same_count
+      (over first Line finish salvaged same_count (subst (λ (x : Ending). IfSome (finish_of x).closing (λ closing. HoldsNew p first closing (state now))) ending held)
       (among-fits p l.evidence ready.left.closing old mid new reads quiet course.told Line finish written fits)
       (same-unasked p l.evidence ready.left.closing old mid new reads quiet course.told Line written writes)
       (listed-run p course l.evidence old mid new reads quiet ready ok written writes)
@@ -292,7 +309,7 @@ module _ {D : Type 0} (state : D → DiskState) (l : Listing) (name : List ℕ) 
       subst (EndsJournaled state l name disk now (outside old mid.got mid.faults) new) (sym cut)
       (subst (λ o. EndsJournaled state l name disk now (outside old mid.got mid.faults) o (JournalCutOff left)) (sym same)
       (journaled-cut state l name disk now old mid.files mid.got mid.faults reads p quiet read-in first left salvaged rose closed))
-  journaled-keeps e (inr (first, salvaged, inr (inr (same_count, lists)))) = listed first e salvaged same_count lists
+  journaled-keeps e (inr (first, salvaged, inr (inr (same_count, held, lists)))) = listed first e salvaged same_count held lists
 
 -- ---- the steps
 
@@ -338,29 +355,41 @@ module _ {D : Type 0} (state : D → DiskState) (p : Problem) (b : Bounds) (aske
   pub keeps-behind : (disk mid now : D) → (state mid).faults ≡ (state disk).faults → KeepsFrom state p b asked first mid now old new e → KeepsFrom state p b asked first disk now old new e
   keeps-behind disk mid now quiet (inl memory) = inl memory
   keeps-behind disk mid now quiet (inr (inl (rose, same, how))) = inr (inl (subst (λ n. Rose n (state now).faults) quiet rose, same, how))
-  keeps-behind disk mid now quiet (inr (inr (count, lists))) = inr (inr (count ∙ quiet, lists))
+  keeps-behind disk mid now quiet (inr (inr (count, held, lists))) = inr (inr (count ∙ quiet, held, lists))
 
   pub keeps-ended : (disk : D) (s : List Record) (faults : ℕ) (kept : Kept D) → first ≡ s → faults ≡ (state disk).faults → IsKept state p first b faults kept
-      → EndsKept p b asked first kept.is_broken old new e → KeepsFrom state p b asked s disk kept.disk old new e
-  keeps-ended disk s faults kept same count is ends = subst (λ s. KeepsFrom state p b asked s disk kept.disk old new e) same (by ends)
+      → IfSome (finish_of e).closing (λ closing. closing_in kept.left ≡ Some closing) → EndsKept p b asked first kept.is_broken old new e → KeepsFrom state p b asked s disk kept.disk old new e
+  keeps-ended disk s faults kept same count is told ends = subst (λ s. KeepsFrom state p b asked s disk kept.disk old new e) same (by ends)
     where
       by : EndsKept p b asked first kept.is_broken old new e → KeepsFrom state p b asked first disk kept.disk old new e
       by (inl memory) = inl memory
       by (inr (inl (left, cut, broken, closed, same))) = inr (inl (subst (λ n. Rose n (state kept.disk).faults) count (is.rose broken), same, inr (left, cut, closed)))
-      by (inr (inr (whole, lists))) = inr (inr (is.quiet whole ∙ count, lists))
+      by (inr (inr (whole, lists))) =
+          inr
+          (inr (
+            is.quiet whole ∙ count,
+            some-by (finish_of e).closing (λ closing. closing_in kept.left ≡ Some closing) (λ closing. HoldsNew p first closing (state kept.disk))
+                (λ closing here. subst (λ o. IfSome o (λ k. HoldsNew p first k (state kept.disk))) here is.holds_new) told,
+            lists,
+          ))
 
 -- ---- the line that standard error gets
 
 module _ (Gets Has : List ℕ → Type 0) (f : (line : List ℕ) → Gets line → Has line) {D : Type 0} (state : D → DiskState) (l : Listing) (name : List ℕ) (disk now : D) (old new : Outside)
     (finish : Finish) where
-  on-gets : IsListedOn l ((state disk).held name) old new Gets finish → IsListedOn l ((state disk).held name) old new Has finish
-  on-gets h = record {
-    problem = h.problem;
-    reads = h.reads;
-    first = h.first;
-    salvaged = h.salvaged;
-    listed = listed-gets Gets Has f h.problem h.first (bounds_for l) finish.logs l.evidence old new finish h.listed;
-  }
+  on-gets : IsListedOn l ((state disk).held name) (state now) old new Gets finish → IsListedOn l ((state disk).held name) (state now) old new Has finish
+  on-gets h =
+      let has = listed-gets Gets Has f h.problem h.first (bounds_for l) finish.logs l.evidence old new finish h.listed in
+      let same : h.listed.closing ≡ has.closing = same_Some h.listed.closing has.closing (sym h.listed.left ∙ has.left) in
+      record {
+        problem = h.problem;
+        reads = h.reads;
+        first = h.first;
+        salvaged = h.salvaged;
+        listed = has;
+        holds_new = subst (λ closing. HoldsNew h.problem h.first closing (state now)) same h.holds_new;
+        none_retired = λ t. subst (λ (closing : Closing). NoneRetired closing.history) same (h.none_retired t);
+      }
 
   cut-gets : IsReportFault Gets old new ⊎ IsOutputFault (evidence_output l.evidence) Gets old new → IsReportFault Has old new ⊎ IsOutputFault (evidence_output l.evidence) Has old new
   cut-gets (inl report) = inl (record { rose = report.rose; line = f report_cut_line report.line })

@@ -27,8 +27,10 @@ use Rattle.gm_tool.specs.declared.enumeration.Enumerated.{Enumerated}
 use Rattle.gm_tool.specs.declared.kept.Kept.{Kept}
 use Rattle.gm_tool.specs.declared.kept.Pages.{Pages}
 use Rattle.gm_tool.specs.Closed.{IsLeft, learned_in, opening_for}
-use Rattle.gm_tool.specs.JournalSteps.{IsClosed, IsKept, IsReady, HasEnded, left_of}
+use Rattle.gm_tool.specs.Journaled.{HoldsNew}
+use Rattle.gm_tool.specs.JournalSteps.{IsClosed, IsKept, IsReady, HasEnded, closing_in, left_of}
 use Rattle.gm_tool.proofs.HistoryLemmas.{failed-among, rose-after}
+use Rattle.gm_tool.proofs.SalvageLemmas.{AreSalvaged, holds-new}
 
 -- where none failed the count stays
 same-after : (n : ℕ) (r : Appended) (rest : Bool) → (is_failure r || rest) ≡ false → (count_after n r ≡ n) × (rest ≡ false)
@@ -96,9 +98,16 @@ module _ {D : Type 0} (state : D → DiskState) (p : Problem) (first : List Reco
       subst (λ m. Rose m (state disk).faults) (ap (λ (m : JournalView). m.opening.faults) told.same)
       (subst (λ m. Rose k.opening.faults m) (sym ended.count) (rose-after k.opening [] ended.history k.opening.faults ended.seats_are.is_legal failed))
 
-  pub is-kept : (closing : Option Closing) (v : Verdict) (kept : Kept D) → Told closing v → pool.IsKept o j pens closing broken k left → kept.disk ≡ disk → kept.is_broken ≡ is_some broken
-      → kept.left ≡ left_of spent logs closing → IsKept state p first b j.opening.faults kept
-  is-kept closing v kept h told at is left_is = record {
+  -- the disk has what was new
+  new-held : AreSalvaged (state disk) (λ bytes. (state disk).reads ≡ Some bytes) → AreSalvaged (state disk) (state disk).may_leave → (closing : Option Closing) (v : Verdict) → Told closing v → pool.IsKept o j pens closing broken k left → j.opening ≡ journals.opening_of p first b.jobs j.opening.faults
+      → IfSome (closing_in (left_of spent logs closing)) (λ c. HoldsNew p first c (state disk))
+  new-held read crash None v h told begun = tt
+  new-held read crash (Some c) v h told begun =
+      holds-new (state disk) read crash k left p first b j.opening.faults logs c (ap (λ (m : JournalView). m.opening) told.same ∙ begun) ended (all-of (Some c) told) told.written told.count h.0
+
+  pub is-kept : AreSalvaged (state disk) (λ bytes. (state disk).reads ≡ Some bytes) → AreSalvaged (state disk) (state disk).may_leave → (closing : Option Closing) (v : Verdict) (kept : Kept D) → Told closing v → pool.IsKept o j pens closing broken k left → j.opening ≡ journals.opening_of p first b.jobs j.opening.faults
+      → kept.disk ≡ disk → kept.is_broken ≡ is_some broken → kept.left ≡ left_of spent logs closing → IsKept state p first b j.opening.faults kept
+  is-kept read crash closing v kept h told begun at is left_is = record {
     left =
         subst (HasEnded p first b kept.is_broken) (sym left_is)
         (record { closed = closed closing v h; whole = λ not. whole closing v h told (none-of broken (sym is ∙ not)) });
@@ -107,6 +116,9 @@ module _ {D : Type 0} (state : D → DiskState) (p : Problem) (first : List Reco
         λ yes.
         let some = some-of broken (sym is ∙ yes) in
         subst (λ (d : D). Rose j.opening.faults (state d).faults) (sym at) (rose closing some.0 told some.1);
+    holds_new =
+        subst (λ (d : D). IfSome (closing_in kept.left) (λ c. HoldsNew p first c (state d))) (sym at)
+        (subst (λ (own : Option Enumerated). IfSome (closing_in own) (λ c. HoldsNew p first c (state disk))) (sym left_is) (new-held read crash closing v h told begun));
   }
 
 -- a journal that was started with these records is ready

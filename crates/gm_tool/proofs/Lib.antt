@@ -20,5 +20,8 @@ pub mod RolesLemmas
 pub mod GetsLemmas
 pub mod JudgedLemmas
 pub mod HistoryLemmas
+pub mod AmongLemmas
+pub mod AppendedLemmas
+pub mod SalvageLemmas
 pub mod JournalLemmas
 pub mod KeptLemmas

@@ -1,5 +1,6 @@
 -- What is left of an enumeration, with the log of what was asked before.
-use Rattle.std.proofs.Common.{◌≡◌, ◌≢◌, ℕ, ◌+◌, ◌≤◌, List, ◌++◌, Option, Some, None, sym, ◌∙◌, ap, subst, arith}
+use Rattle.std.proofs.Common.{◌≡◌, ◌≢◌, ℕ, ◌+◌, ◌≤◌, List, ◌++◌, Option, Some, None, Ok, Err, Result, sym, ◌∙◌, ap, subst, arith}
+use Rattle.std.specs.Prelude.{IfSome}
 use Rattle.std.proofs.lemmas.List.Sums.{sum_by-cons}
 use Rattle.gm_base.specs.Problem.{Problem}
 use Rattle.lrat_steps.specs.Log.{LogStep, learned_count}
@@ -12,9 +13,12 @@ use Rattle.gm_tool.specs.declared.enumeration.Bounds.{Bounds}
 use Rattle.gm_tool.specs.declared.enumeration.Enumerated.{Enumerated}
 use Rattle.gm_tool.specs.declared.list.Course.{Course}
 use Rattle.gm_tool.specs.declared.prepared.Prepared.{Prepared}
+use Rattle.gm_tool.specs.declared.writing.Stop.{Stop}
+use Rattle.gm_tool.specs.declared.writing.Stop.TheVariants.{ReportFault, EvidenceFault, EvidenceMemory}
 use Rattle.gm_tool.specs.Closed.{IsClosedFor, IsLeft, learned_in, report_for}
-use Rattle.gm_tool.specs.Endings.{error_line, status_by}
+use Rattle.gm_tool.specs.Endings.{error_line, finish_of, status_by}
 use Rattle.gm_tool.specs.Prepared.{IsReady, all_logs, logs_before}
+use Rattle.gm_tool.specs.Steps.{listed_by}
 
 -- no more is learnt than the budget
 pub spent-within : {p : Problem} {first : List Record} {b : Bounds} {own : Enumerated} → IsLeft p first b own → own.spent ≤ b.conflicts
@@ -36,6 +40,13 @@ spent-before : (before : Option (List LogStep)) (own left : Enumerated) → left
 spent-before None own left is spent = ap (λ (e : Enumerated). e.spent) is ∙ spent ∙ sym (ap (λ (e : Enumerated). learned_in e.logs) is)
 spent-before (Some log) own left is spent =
     ap (λ (e : Enumerated). e.spent) is ∙ ap (λ (n : ℕ). learned_count log + n) spent ∙ sym (sum_by-cons learned_count log own.logs) ∙ sym (ap (λ (e : Enumerated). learned_in e.logs) is)
+
+-- however the writing ends, the answer tells what is left
+pub closing-listed : (ready : Prepared) (written : Result (Unit {0}) Stop) (closing : Closing) → ready.left.closing ≡ closing → IfSome (finish_of (listed_by ready written)).closing (λ k. k ≡ closing)
+closing-listed ready (Ok done) closing is = is
+closing-listed ready (Err ReportFault) closing is = is
+closing-listed ready (Err EvidenceFault) closing is = is
+closing-listed ready (Err EvidenceMemory) closing is = is
 
 -- all that is to be written is made
 pub ready-by : (p : Problem) (course : Course) (own : Enumerated) (ready : Prepared) → ready.left ≡ all_logs course.before own → IsLeft p course.first course.bounds own

@@ -27,7 +27,8 @@ use Rattle.gm_tool.specs.declared.kept.Pages.{Pages}
 use Rattle.gm_tool.specs.declared.kept.Kept.{Kept}
 use Rattle.gm_tool.specs.declared.list.Course.{Course}
 use Rattle.gm_tool.specs.Closed.{IsLeft, learned_in, opening_for}
-use Rattle.gm_tool.specs.Journaled.{IsSalvagedFrom, IsForeignTo}
+use Rattle.gm_tool.specs.Endings.{finish_of}
+use Rattle.gm_tool.specs.Journaled.{HoldsNew, IsSalvagedFrom, IsForeignTo}
 use Rattle.gm_tool.specs.Lines.{foreign_line}
 use Rattle.gm_tool.specs.Outside.{Outside}
 use Rattle.gm_tool.specs.Steps.{Lists}
@@ -83,6 +84,11 @@ abbrev pub left_of : ℕ → List (List LogStep) → Option Closing → Option E
 left_of spent logs None = None
 left_of spent logs (Some closing) = Some (record { spent = spent; logs = logs; closing = closing })
 
+-- what its board told
+abbrev pub closing_in : Option Enumerated → Option Closing
+closing_in None = None
+closing_in (Some own) = Some own.closing
+
 -- else it is closed; and where the journal is whole no worker retired for it
 pub record HasEnded (p : Problem) (first : List Record) (b : Bounds) (broken : Bool) (left : Option Enumerated) : Type 0 where
   pub closed : IfSome left (IsClosed p first b)
@@ -93,6 +99,7 @@ pub record IsKept {D : Type 0} (state : D → DiskState) (p : Problem) (first : 
   pub left : HasEnded p first b kept.is_broken kept.left
   pub quiet : kept.is_broken ≡ false → (state kept.disk).faults ≡ faults
   pub rose : kept.is_broken ≡ true → Rose faults (state kept.disk).faults
+  pub holds_new : IfSome (closing_in kept.left) (λ closing. HoldsNew p first closing (state kept.disk))
 
 -- ---- listing
 
@@ -111,7 +118,9 @@ abbrev pub KeepsFrom : {D : Type 0} → (D → DiskState) → Problem → Bounds
 KeepsFrom state p b asked first disk after old new e =
     ((e ≡ Memory) × (new ≡ old))
     ⊎ (Rose (state disk).faults (state after).faults × (new ≡ old) × ((e ≡ JournalUnbegun) ⊎ ((left : Enumerated) × (e ≡ JournalCutOff left) × IsClosed p first b left)))
-    ⊎ (((state after).faults ≡ (state disk).faults) × Lists p (course_for first b) asked old new e)
+    ⊎ (((state after).faults ≡ (state disk).faults)
+    × IfSome (finish_of e).closing (λ closing. HoldsNew p first closing (state after))
+    × Lists p (course_for first b) asked old new e)
 
 -- and from its opening
 abbrev pub Keeps : {D : Type 0} → (D → DiskState) → Problem → Bounds → Option (List ℕ) → List ℕ → D → D → Outside → Outside → Ending → Type 0

@@ -5,8 +5,9 @@
 ghost use Rattle.std.specs.Prelude.{◌≡◌, ℕ, ◌+◌, ◌^◌, ◌<◌, true, List, Option, IfOk, IfErr, IfSome};
 ghost use Rattle.gm_journal.specs.Salvage.{HoldsRecords};
 ghost use Rattle.gm_words.specs.Requests.{AreGoodJobs, text_of};
+ghost use Rattle.gm_tool.specs.Endings.{finish_of};
 ghost use Rattle.gm_tool.specs.Journaled.{EndsJournaled};
-ghost use Rattle.gm_tool.specs.JournalSteps.{EndsKept, HasEnded, IsOpened, Keeps, KeepsFrom, RefusesJournal, StopsOpening, with_journal};
+ghost use Rattle.gm_tool.specs.JournalSteps.{EndsKept, HasEnded, IsOpened, Keeps, KeepsFrom, RefusesJournal, StopsOpening, closing_in, with_journal};
 ghost use Rattle.gm_tool.specs.Outside.{outside};
 ghost use Rattle.gm_tool.specs.Resuming.{AreGoodFirst};
 
@@ -197,7 +198,8 @@ fn end_listing<F: Files, O: Sink>(
 ) -> Ending
     requires all { bounds.goal ≡ Goal.All }
     requires left { (first : List _) × HasEnded problem.now first bounds is_broken left }
-    ensures { (first : List _) → HasEnded problem.now first bounds is_broken left → EndsKept problem.now bounds (text_of evidence.entry) first is_broken
+    ensures closing { IfSome (finish_of result).closing (λ closing. closing_in left ≡ Some closing) }
+    ensures kept { (first : List _) → HasEnded problem.now first bounds is_broken left → EndsKept problem.now bounds (text_of evidence.entry) first is_broken
         (outside (F.state files.old) (O.got out.old) (O.faults out.old)) (outside (F.state files.new) (O.got out.new) (O.faults out.new)) result }
 {
     let Some(left) = left else {

@@ -12,6 +12,7 @@ ghost use Rattle.gm_tool.specs.Resuming.{AreGoodFirst};
 use crate::enumeration::{Bounds, Enumerated, fresh_map, fresh_oracles};
 use evidence_rec::{Record, Records};
 use gm_base::Problem;
+use gm_journal::laws::kept_is_salvaged;
 use gm_journal::{Journal, JournalClosing, Seat};
 use gm_ports::{Disk, Gate};
 use group_oracle::GroupOracle;
@@ -113,6 +114,7 @@ pub fn enumerate_into<D: Disk + Send + Drop, G: Gate, R: Threads + Wait + Sync>(
     let JournalClosing::Ended(disk) = journal.close(seats) else {
         unreachable!()
     };
+    kept_is_salvaged(&disk);
     Kept {
         disk,
         is_broken: broken.is_some(),

@@ -1,8 +1,9 @@
 //! The command `list`: it reads a file, and evidence that is to be gone on from, and lists what it began with. So does every
 //! command that lists a problem: it finds all minimal sets, and writes the evidence, where it is asked for, and then the report.
-ghost use Rattle.std.specs.Prelude.{◌≡◌, ◌≢◌, ◌<◌, ◌+◌, ◌^◌, false, List, Some, None, IfOk};
+ghost use Rattle.std.specs.Prelude.{◌≡◌, ◌≢◌, ◌<◌, ◌+◌, ◌^◌, false, List, Some, None, IfOk, IfSome};
 ghost use Rattle.gm_words.specs.Requests.{AreGoodJobs, asked_by, text_of};
 ghost use Rattle.gm_tool.specs.Closed.{IsLeft, is_complete, learned_in};
+ghost use Rattle.gm_tool.specs.Endings.{finish_of};
 ghost use Rattle.gm_tool.specs.Outside.{outside};
 ghost use Rattle.gm_tool.specs.Prepared.{IsReady, all_logs, logs_before};
 ghost use Rattle.gm_tool.specs.Resuming.{AreGoodFirst};
@@ -157,7 +158,8 @@ pub fn put_out<F: Files, O: Sink>(
 ) -> Ending
     requires left { (first : List _) × (b : _) × IsLeft problem.now first b own }
     requires few { learned_in (logs_before before) + own.spent < 2 ^ 64 }
-    ensures { (course : _) → course.before ≡ before → course.told ≡ told → course.bounds.goal ≡ Goal.All → IsLeft problem.now course.first course.bounds own
+    ensures closing { IfSome (finish_of result).closing (λ closing. closing ≡ own.closing) }
+    ensures lists { (course : _) → course.before ≡ before → course.told ≡ told → course.bounds.goal ≡ Goal.All → IsLeft problem.now course.first course.bounds own
         → Lists problem.now course (text_of evidence.entry) (outside (F.state files.old) (O.got out.old) (O.faults out.old))
         (outside (F.state files.new) (O.got out.new) (O.faults out.new)) result }
 {

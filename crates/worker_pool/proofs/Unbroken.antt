@@ -16,7 +16,7 @@ use Rattle.gm_journal.specs.Histories.{Answers, MayStandAll, IsLegal, is_failure
 use Rattle.worker_pool.specs.Pens.{JournalView, PenView, is_refused, failure_or, failure_in, first_some, failure_among}
 use Rattle.worker_pool.specs.Outcomes.{AreWritten}
 
-by_each : {A : Type 0} (P : A → Type 0) (es : List A) → All P es → AllByRecursion P es
+pub by_each : {A : Type 0} (P : A → Type 0) (es : List A) → All P es → AllByRecursion P es
 by_each P [] h = tt
 by_each P (e ∷ es) h = (All-head P e es h, by_each P es (All-tail P e es h))
 
@@ -34,7 +34,7 @@ behind : {E : Type 0} (f : E → Bool) (b : Bool) (e : E) (xs : List E) → list
 behind f true e xs none = rest_not (f e) (list_any f xs) none
 behind f false e xs none = none
 
-none_in : {E : Type 0} (caller : E → ℕ) (f : E → Bool) (n : ℕ) (es : List E) → AllByRecursion (λ e. caller e < n) es → ((w : ℕ) → w < n → list_any f (calls_by caller w es) ≡ false) → list_any f es ≡ false
+pub none_in : {E : Type 0} (caller : E → ℕ) (f : E → Bool) (n : ℕ) (es : List E) → AllByRecursion (λ e. caller e < n) es → ((w : ℕ) → w < n → list_any f (calls_by caller w es) ≡ false) → list_any f es ≡ false
 none_in caller f n [] named each = refl
 none_in caller f n (e ∷ es) named each =
     or_from (f e) (list_any f es)
@@ -43,7 +43,7 @@ none_in caller f n (e ∷ es) named each =
     (none_in caller f n es named.1 (λ w low. behind f (eqb (caller e) w) e (calls_by caller w es) (each w low)))
 
 -- and what nobody did, no caller did
-none_of : {E : Type 0} (caller : E → ℕ) (f : E → Bool) (w : ℕ) (es : List E) → list_any f es ≡ false → list_any f (calls_by caller w es) ≡ false
+pub none_of : {E : Type 0} (caller : E → ℕ) (f : E → Bool) (w : ℕ) (es : List E) → list_any f es ≡ false → list_any f (calls_by caller w es) ≡ false
 none_of caller f w [] none = refl
 none_of caller f w (e ∷ es) none = pick (eqb (caller e) w) (none_of caller f w es (rest_not (f e) (list_any f es) none))
   where

@@ -33,7 +33,7 @@ returns-in-Opened g c =
     let kept = c.enumerate_into-kept in
     keeps-ended g.D.Disk.state c.args.problem.now c.args.bounds (text_of c.args.evidence) records old new c.end_listing-ending.result c.args.disk c.args.salvaged.records
     c.in-Opened.journal.opening.faults kept.result c.in-Opened.ensures.2 (ap (λ (o : OpeningView). o.faults) c.in-Opened.ensures.0) kept.ensures
-    (c.end_listing-ending.ensures records kept.ensures.left)
+    c.end_listing-ending.ensures.closing (c.end_listing-ending.ensures.kept records kept.ensures.left)
 
 -- the journal could not be begun
 pub returns-in-Failed : goal.returns-in-Failed

@@ -38,6 +38,6 @@ returns g c =
     subst (λ (m : Bool). MatchOption outcome.closing (outcome.verdict ≡ Memory) (λ k. IsLeft (opened workers) m outcome.logs k × (outcome.verdict ≡ k.verdict))) (sym c.requires.journal)
     c.enumerate-outcome.ensures.outcome.closing in
     is-kept g.D.Disk.state p c.args.first b j c.in-Some.journal pens left outcome.spent outcome.logs outcome.broken c.in-Ended.disk c.enumerate-outcome.ensures.outcome.spent c.in-Ended.ensures
-    outcome.closing outcome.verdict (record { disk = c.in-Ended.disk; is_broken = c.is_some.result; left = c.left_of.result })
+    c.kept_is_salvaged.ensures.read c.kept_is_salvaged.ensures.crash outcome.closing outcome.verdict (record { disk = c.in-Ended.disk; is_broken = c.is_some.result; left = c.left_of.result })
     (subst (λ n. MatchOption outcome.closing (outcome.verdict ≡ Memory) (λ k. IsLeft (opened n) b.journal outcome.logs k × (outcome.verdict ≡ k.verdict))) count told)
-    (subst (λ n. IsKept (opened n) j pens outcome.closing outcome.broken c.in-Some.journal left) count kept) refl c.is_some.ensures c.left_of.ensures
+    (subst (λ n. IsKept (opened n) j pens outcome.closing outcome.broken c.in-Some.journal left) count kept) c.requires.ready.opening refl c.is_some.ensures c.left_of.ensures

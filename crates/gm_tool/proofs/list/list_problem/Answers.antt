@@ -20,4 +20,4 @@ put_out-requires-clause-few g c =
 
 -- what is left is written
 pub returns : goal.returns
-returns g c = c.put_out.ensures c.args.course refl refl c.requires.all c.in-Ok.ensures
+returns g c = c.put_out.ensures.lists c.args.course refl refl c.requires.all c.in-Ok.ensures
