@@ -258,13 +258,14 @@ module _ {D : Type 0} (state : D → DiskState) (l : Listing) (name : List ℕ) 
     names = run.names;
   }
     where
-      on : IsListedOn l ((state disk).held name) (state now) (outside old mid.got mid.faults) new Gets finish
+      on : IsListedOn l ((state disk).held name) (state disk).faults (state now) (outside old mid.got mid.faults) new Gets finish
       on = record {
         problem = p;
         reads = read-whole same;
         first = first;
         salvaged = salvaged;
         listed = h;
+        quiet = same_count;
         holds_new = subst (λ told. IfSome told (λ closing. HoldsNew p first closing (state now))) h.left held;
         none_retired =
             λ t.
@@ -377,7 +378,7 @@ module _ {D : Type 0} (state : D → DiskState) (p : Problem) (b : Bounds) (aske
 
 module _ (Gets Has : List ℕ → Type 0) (f : (line : List ℕ) → Gets line → Has line) {D : Type 0} (state : D → DiskState) (l : Listing) (name : List ℕ) (disk now : D) (old new : Outside)
     (finish : Finish) where
-  on-gets : IsListedOn l ((state disk).held name) (state now) old new Gets finish → IsListedOn l ((state disk).held name) (state now) old new Has finish
+  on-gets : IsListedOn l ((state disk).held name) (state disk).faults (state now) old new Gets finish → IsListedOn l ((state disk).held name) (state disk).faults (state now) old new Has finish
   on-gets h =
       let has = listed-gets Gets Has f h.problem h.first (bounds_for l) finish.logs l.evidence old new finish h.listed in
       let same : h.listed.closing ≡ has.closing = same_Some h.listed.closing has.closing (sym h.listed.left ∙ has.left) in
@@ -387,6 +388,7 @@ module _ (Gets Has : List ℕ → Type 0) (f : (line : List ℕ) → Gets line �
         first = h.first;
         salvaged = h.salvaged;
         listed = has;
+        quiet = h.quiet;
         holds_new = subst (λ closing. HoldsNew h.problem h.first closing (state now)) same h.holds_new;
         none_retired = λ t. subst (λ (closing : Closing). NoneRetired closing.history) same (h.none_retired t);
       }

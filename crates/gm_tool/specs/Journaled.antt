@@ -73,13 +73,16 @@ HoldsNew p first closing disk = NoneRetired closing.history → IfSome disk.read
 
 -- ---- what a status says
 
--- the file is a text of this problem, narrowed where some groups are in focus, which was listed from the records of the journal
-pub record IsListedOn (l : Listing) (held : Option (List ℕ)) (after : DiskState) (old new : Outside) (Gets : List ℕ → Type 0) (finish : Finish) : Type 0 where
+-- the file is a text of this problem, narrowed where some groups are in focus, which was listed from the records of the journal. Its
+-- disk held this, had counted so many faults, and is that one now
+pub record IsListedOn (l : Listing) (held : Option (List ℕ)) (faults : ℕ) (after : DiskState) (old new : Outside) (Gets : List ℕ → Type 0) (finish : Finish) : Type 0 where
   pub problem : Problem
   pub reads : OfFile (old.files.held l.file) (IsReadFor l.focus l.evidence None problem new.files.unread)
   pub first : List Record
   pub salvaged : IsSalvagedFrom problem held first
   pub listed : IsListed problem first (bounds_for l) finish.logs l.evidence old new Gets finish
+  -- the disk did not fail
+  pub quiet : after.faults ≡ faults
   -- the journal has each new set, where no worker retired; and none did where a bound was reached
   pub holds_new : HoldsNew problem first listed.closing after
   pub none_retired : IsPartial finish.status → NoneRetired listed.closing.history
@@ -135,9 +138,9 @@ pub record IsJournaled {D : Type 0} (state : D → DiskState) (l : Listing) (nam
   pub read_fault : finish.status ≡ 6 → IsInputFault disk after old new Gets ⊎ IsJournalUnread l (state disk) (state after) old Gets
   pub journal_refused : finish.status ≡ 10 → IsJournalRefusal l ((state disk).held name) old Gets
   pub write_fault : finish.status ≡ 7 → IsJournalFault l ((state disk).held name) (state disk) (state after) old new Gets finish
-      ⊎ (IsListedOn l ((state disk).held name) (state after) old new Gets finish × (IsReportFault Gets old new ⊎ IsOutputFault (evidence_output l.evidence) Gets old new))
-  pub listed : IsReported finish.status → IsListedOn l ((state disk).held name) (state after) old new Gets finish
-  pub memory : finish.status ≡ 8 → (ReadingLeaves old.files new.files × (finish ≡ bare 8)) ⊎ IsListedOn l ((state disk).held name) (state after) old new Gets finish
+      ⊎ (IsListedOn l ((state disk).held name) (state disk).faults (state after) old new Gets finish × (IsReportFault Gets old new ⊎ IsOutputFault (evidence_output l.evidence) Gets old new))
+  pub listed : IsReported finish.status → IsListedOn l ((state disk).held name) (state disk).faults (state after) old new Gets finish
+  pub memory : finish.status ≡ 8 → (ReadingLeaves old.files new.files × (finish ≡ bare 8)) ⊎ IsListedOn l ((state disk).held name) (state disk).faults (state after) old new Gets finish
   pub error_line : IsToldByStatus finish.status → Gets (error_line (bounds_for l) finish.status)
   -- where the file is accepted, and no fault was met, of the disk neither, no refusal of the file and no fault is told
   pub accepted : NoneRose old new → ¬ Rose (state disk).faults (state after).faults → AreAccepted old.files.held l.file l.focus None → IsAmong (0 ∷ 3 ∷ 4 ∷ 8 ∷ 10 ∷ []) finish.status
