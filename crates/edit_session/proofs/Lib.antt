@@ -8,3 +8,4 @@ pub mod WitnessLemmas
 pub mod ValueLemmas
 pub mod RegrownLemmas
 pub mod OpeningLemmas
+pub mod WideningLemmas

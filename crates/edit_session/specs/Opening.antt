@@ -1,9 +1,11 @@
 -- What is known of a longer problem from the records of the old one.
-use Rattle.std.specs.Prelude.{◌≡◌, ℕ, ◌≤◌, List, [], ◌∷◌, ◌++◌, map, nat_le, All, ℤ, Option, Some, None}
+use Rattle.std.specs.Prelude.{◌≡◌, ℕ, ◌≤◌, true, not, ◌||◌, List, [], ◌∷◌, ◌++◌, map, nat_le, All, ℤ, Option, Some, None}
 use Rattle.std.specs.List.{filter, AllByRecursion}
 use Rattle.sat_base.specs.Literals.{var_of}
 use Rattle.sat_base.specs.Derivation.{Step}
+use Rattle.gm_base.specs.Sets.{has, IsSubset, all_groups}
 use Rattle.gm_base.specs.Problem.{Problem}
+use Rattle.gm_base.specs.Evidence.{is_witness}
 use Rattle.evidence_rec.specs.declared.record.Record.{Record}
 use Rattle.evidence_rec.specs.Records.{IsAccepted, IsAcceptedAlone, AllAccepted, IsRight}
 use Rattle.evidence_rec.specs.Held.{AreNew, conflicts_in, corrections_in}
@@ -11,6 +13,8 @@ use Rattle.evidence_rec.specs.Asking.{OracleState, IsDryAt}
 use Rattle.edit_session.specs.Carried.{kept}
 use Rattle.edit_session.specs.declared.carried.Carried.{Carried}
 use Rattle.edit_session.specs.declared.carried.Carried.TheVariants as carried
+use Rattle.edit_session.specs.declared.widening.Widened.{Widened}
+use Rattle.edit_session.specs.declared.widening.Widened.TheVariants as widened
 
 -- the groups of a set up to this one
 abbrev pub up_to : ℕ → List ℕ → List ℕ
@@ -42,6 +46,15 @@ pub record IsKnown (p : Problem) (r : Record) : Type 0 where
 -- each literal of the steps is over the variables 1 to vars
 abbrev pub AreOver : ℕ → List Step → Type 0
 AreOver vars steps = All (λ (s : Step). All (λ (l : ℤ). var_of l ≤ vars) s.lits) steps
+
+-- the set without the groups above this one that the core has
+abbrev pub without_new : ℕ → List ℕ → List ℕ → List ℕ
+without_new groups core set = filter (λ g. nat_le g groups || not (has core g)) set
+
+-- a set with all groups of a start, and an assignment that satisfies it; or the set of the last question
+abbrev pub TellsWidened : OracleState → List ℕ → ℕ → Widened → Type 0
+TellsWidened o start left (widened.Start wide) = IsSubset start wide.set × IsSubset wide.set (all_groups o.problem.groups) × (is_witness o.problem wide.set wide.witness ≡ true)
+TellsWidened o start left (widened.Dry asked) = IsDryAt o asked left
 
 -- what the corrections among some records grew into
 pub record AreRegrown (old new : Problem) (records regrown : List Record) : Type 0 where

@@ -1,8 +1,8 @@
 //! Corrections of a longer problem.
 //!
 //! What an old correction leaves out is satisfied by its witness, in the longer problem too, where new variables are false.
-//! So it is grown from there: the groups of the correction and the new ones are tried, one after the other. Of the groups of
-//! the correction all stay out, since none of them could be put in before.
+//! So it is grown from there: the new groups are tried together first (`widening.rt`), and then each group that is still out
+//! by itself. Of the groups of the correction all stay out, since none of them could be put in before.
 ghost use Rattle.std.specs.Prelude.{◌≡◌, ◌<◌, true, length, IfOk, IfSome};
 ghost use Rattle.gm_base.specs.Evidence.{is_witness};
 ghost use Rattle.evidence_rec.specs.Records.{AllAccepted};
@@ -11,6 +11,7 @@ ghost use Rattle.edit_session.specs.Extends.{Extends};
 ghost use Rattle.edit_session.specs.Carried.{kept};
 ghost use Rattle.edit_session.specs.Opening.{IsKnown, TellsRegrown, TellsAllRegrown};
 
+use crate::widening::{Widened, widen};
 use crate::witnesses::carried_witness;
 use evidence_rec::{Oracle, Record, Records};
 use gm_base::{Assign, GroupSet, Problem, Purse};
@@ -121,8 +122,18 @@ fn regrow<O: Oracle>(
         return Ok(None);
     };
     let _groups = new.groups(); // The problem is well-formed.
-    let start = set.complement(alloc, old.groups())?;
-    let assign = carried_witness(alloc, new, witness)?;
+    let given = Start {
+        set: set.complement(alloc, old.groups())?,
+        witness: carried_witness(alloc, new, witness)?,
+    };
+    let wider = set.complement(alloc, new.groups())?;
+    let Start {
+        set: start,
+        witness: assign,
+    } = match widen(alloc, oracle, new, old.groups(), given, wider, purse)? {
+        Widened::Start(start) => start,
+        Widened::Dry(asked) => return Ok(Some(asked)),
+    };
     match grow(alloc, oracle, new, &start, &assign, 0, purse)? {
         Grown::Done(made) => {
             opening.push(made)?;

@@ -26,6 +26,7 @@ mod derivations;
 mod extension;
 pub mod laws;
 mod numbers;
+mod widening;
 mod witnesses;
 
 pub use carried::Carried;
