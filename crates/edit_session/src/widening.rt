@@ -4,9 +4,8 @@
 //! there are as many starts as old corrections. Mostly all new groups go together with what an old correction leaves, and then
 //! one question says so for all of them. Where they don't, the answer names some of them: these are taken out, and the others
 //! are tried together again. What isn't put in here, growing settles, so nothing hangs on what is taken out.
-ghost use Rattle.std.specs.Prelude.{◌≡◌, true, not, ◌||◌, nat_le, length, IfOk};
-ghost use Rattle.std.specs.List.{filter};
-ghost use Rattle.gm_base.specs.Sets.{has, IsSubset, all_groups};
+ghost use Rattle.std.specs.Prelude.{◌≡◌, true, length, IfOk};
+ghost use Rattle.gm_base.specs.Sets.{IsSubset, all_groups};
 ghost use Rattle.gm_base.specs.Evidence.{is_witness};
 ghost use Rattle.evidence_rec.specs.Asking.{IsSpent, IsHonestOver};
 ghost use Rattle.edit_session.specs.Opening.{without_new, TellsWidened};
@@ -31,7 +30,7 @@ pub enum Widened {
 
 /// Puts new groups, those above this number, into a start: as many of a wider set's as are found to go together with it.
 ///
-/// Where the start's assignment makes all new groups true but one, nothing is asked: growing asks that question itself.
+/// Where the start's assignment makes all new groups true but one at most, nothing is asked: growing asks that question itself.
 pub fn widen<O: Oracle>(
     alloc: Global,
     oracle: &mut O,
