@@ -9,3 +9,4 @@ pub mod ForgottenLemmas
 pub mod PlaceLemmas
 pub mod BlockLemmas
 pub mod NumberingLemmas
+pub mod WordLemmas

@@ -13,3 +13,5 @@ pub mod Blocks
 pub mod Bodies
 pub mod Bits
 pub mod Forgotten
+pub mod FullBlocks
+pub mod Words

@@ -5,13 +5,17 @@
 //! A search makes few assignments and its records keep many, so one is written by a builder, which has it alone, and is
 //! shared once it is finished: a copy is one more reference to the same words. The values are bits of those words, and how
 //! many there are stands beside the pointer, so that a prefix is a shorter length over what is shared. Behind that length
-//! the words keep what was written: nothing may compare them whole.
+//! the words keep what was written: that they differ says nothing of the values.
+//!
+//! Assignments of one search differ in few variables. So many words stand in blocks (`words.rt`), and what is made of an
+//! assignment, or beside it, holds the blocks that both have alike once.
 ghost use Rattle.std.specs.Prelude.{◌≡◌, ℕ, ◌<◌, ◌≤◌, ◌-◌, ◌*◌, ◌/◌, ◌%◌, ◌==◌, false, not, IfOk, length, replicate, slice_index_or, slice_set, take};
 ghost use Rattle.std.specs.Int.{bit_at};
 ghost use Rattle.sat_base.specs.Literals.{AreLiterals, clause_true, literal_true, var_of};
 
-use crate::bits::{read, write};
+use crate::bits::{read, with_bit, write};
 use crate::lit::Lit;
+use crate::words::Words;
 use std::alloc::{AllocError, Global};
 use std::marker::Model;
 use std::sync::Arc;
@@ -66,6 +70,7 @@ impl AssignBuilder {
         ensures { IfOk result (λ assign. assign ≡ self) }
     {
         let AssignBuilder { len, words } = self;
+        let words = Words::new(alloc, words)?;
         let words = Arc::new(alloc, words)?;
         Ok(Assign { len, words })
     }
@@ -75,7 +80,7 @@ impl AssignBuilder {
 #[derive(Debug, Drop)]
 pub struct Assign {
     len: usize,
-    words: Arc<Vec<u64>, Global>,
+    words: Arc<Words, Global>,
 }
 
 impl Model for Assign {
@@ -85,9 +90,9 @@ impl Model for Assign {
 
     ghost Value = { List Bool };
 
-    ghost view = { λ assign. truths assign.len (arc_value assign.words).items };
+    ghost view = { λ assign. truths assign.len (arc_value assign.words) };
 
-    ghost invariant = { λ assign. HasWords assign.len (arc_value assign.words).items };
+    ghost invariant = { λ assign. HasWords assign.len (arc_value assign.words) };
 }
 
 impl Assign {
@@ -114,7 +119,7 @@ impl Assign {
         requires { 64 * at < length self.now }
         ensures { (i : ℕ) → i / 64 ≡ at → i < length self.now → slice_index_or self.now i false ≡ (bit_at result (i % 64) == 1) }
     {
-        self.words.as_slice()[at]
+        self.words.at(at)
     }
 
     /// The values of the first variables alone, of so many.
@@ -128,18 +133,34 @@ impl Assign {
         }
     }
 
-    /// The same values but for that of one variable, counted from 1, which is the other one. It costs a copy of the words.
+    /// The same values but for that of one variable, counted from 1, which is the other one. It costs a copy of 64 words at
+    /// most, and a pointer for each 64 others.
     pub fn flipped(&self, alloc: Global, var: u32) -> Result<Assign, AllocError>
         requires not_zero { 0 < var }
         requires in_range { var ≤ length self.now }
         ensures { IfOk result (λ flipped. flipped ≡ slice_set self.now (var - 1) (not (slice_index_or self.now (var - 1) false))) }
     {
         let value = self.value(var);
-        let mut words = Vec::from_slice(alloc, self.words.as_slice())?;
-        write(&mut words, (var - 1) as usize, !value);
+        let at = (var - 1) as usize;
+        let word = with_bit(self.words.at(at / 64), at % 64, !value);
+        let words = self.words.written(alloc, at / 64, word)?;
         let words = Arc::new(alloc, words)?;
         let len = self.len;
         Ok(Assign { len, words })
+    }
+
+    /// Shares with another assignment each block of words that both have alike. Its values stay; what it takes of memory
+    /// shrinks.
+    pub fn share(&mut self, like: &Assign)
+        ensures { self.new ≡ self.old }
+    {
+        if self.words.is_small_like(&like.words) {
+            if let Ok(words) = Arc::try_clone(&like.words) {
+                self.words = words;
+            }
+        } else if let Some(words) = Arc::get_mut(&mut self.words) {
+            words.share(&like.words);
+        }
     }
 
     // The value of a variable.
@@ -148,7 +169,8 @@ impl Assign {
         requires in_range { var ≤ length self.now }
         ensures { result ≡ slice_index_or self.now (var - 1) false }
     {
-        read(self.words.as_slice(), (var - 1) as usize)
+        let at = (var - 1) as usize;
+        read(self.words.at(at / 64), at % 64)
     }
 
     /// Whether the literal is true.

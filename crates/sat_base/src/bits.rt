@@ -1,13 +1,14 @@
 //! Truth values as bits of words.
-ghost use Rattle.std.specs.Prelude.{◌≡◌, ◌<◌, ◌*◌, length};
-ghost use Rattle.sat_base.specs.Bits.{truth_at, with_bit, with_truth};
+ghost use Rattle.std.specs.Prelude.{◌≡◌, ◌<◌, ◌*◌, ◌==◌, length};
+ghost use Rattle.std.specs.Int.{bit_at};
+ghost use Rattle.sat_base.specs.Bits.{with_bit, with_truth};
 
-/// The truth value at a place.
-pub(crate) fn read(words: &[u64], at: usize) -> bool
-    requires { at < 64 * length words.now }
-    ensures { result ≡ truth_at words.now at }
+/// The truth value of a bit.
+pub(crate) fn read(word: u64, at: usize) -> bool
+    requires { at < 64 }
+    ensures { result ≡ (bit_at word at == 1) }
 {
-    (words[at / 64] >> (at % 64)) & 1 == 1
+    (word >> at) & 1 == 1
 }
 
 /// Writes the truth value at a place.
@@ -18,8 +19,8 @@ pub(crate) fn write(words: &mut Vec<u64>, at: usize, value: bool)
     words[at / 64] = with_bit(words[at / 64], at % 64, value);
 }
 
-// The word with one bit set or cleared.
-fn with_bit(word: u64, at: usize, value: bool) -> u64
+/// The word with one bit set or cleared.
+pub(crate) fn with_bit(word: u64, at: usize, value: bool) -> u64
     requires { at < 64 }
     ensures { result ≡ with_bit word at value }
 {

@@ -35,6 +35,7 @@ mod purse;
 mod row;
 mod step_arena;
 mod steps;
+mod words;
 mod worklist;
 
 pub use arena::end_of;
