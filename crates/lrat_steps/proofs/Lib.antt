@@ -1,3 +1,4 @@
+pub mod GivenLemmas
 pub mod LogLemmas
 pub mod ForgettingLemmas
 pub mod MarkLemmas

@@ -1,7 +1,7 @@
 -- Lemmas on marks that lie apart from the steps: what one more step and one more mark change, and what is read of the steps.
-use Rattle.std.proofs.Common.{◌≡◌, ℕ, zero, suc, ◌+◌, ◌-◌, ◌<◌, ◌≤◌, List, [], ◌∷◌, ◌++◌, length, get_or, take, drop, refl, sym, ◌∙◌, ap, ap₂, subst, arith, append_assoc}
+use Rattle.std.proofs.Common.{◌≡◌, ℕ, zero, suc, ◌+◌, ◌-◌, ◌<◌, ◌≤◌, List, [], ◌∷◌, ◌++◌, length, length-append, map, get_or, take, drop, refl, sym, ◌∙◌, ap, ap₂, subst, arith, append_assoc}
 use Rattle.std.specs.Prelude.{ℤ}
-use Rattle.std.proofs.lemmas.List.{take-append-le, drop-append-le, take_all, drop_all, length-drop, take-append-drop}
+use Rattle.std.proofs.lemmas.List.{take-append-le, drop-append-le, take_all, drop_all, length-drop, length-map, take-append-drop, get_or_append_left, get_or-append_right, get_or-map}
 use Rattle.sat_base.specs.Derivation.{Step}
 use Rattle.lrat_steps.specs.declared.step.StepKind.{StepKind}
 use Rattle.lrat_steps.specs.declared.step.StepKind.TheVariants as step_kind
@@ -10,7 +10,7 @@ use Rattle.lrat_steps.specs.declared.log.Mark.{Mark}
 use Rattle.lrat_steps.specs.declared.log.Log.TheInside.{Inside}
 use Rattle.lrat_steps.specs.Log.{LogStep, Input, Learned, Core, Forgot, lits_of, hints_of, kind_of, steps_of, step_in, step_at, inputs_of, learned_count}
 use Rattle.lrat_steps.specs.Parts.{step_with}
-use Rattle.lrat_steps.specs.Layout.{step_of_record, steps_with, all_steps, woven, log_of, IsRecord, AreRecords, AreInOrder, IsLaidOut}
+use Rattle.lrat_steps.specs.Layout.{step_of_record, steps_with, all_steps, step_count, woven, log_of, IsRecord, AreRecords, AreInOrder, IsLaidOut}
 use Rattle.lrat_steps.specs.Cone.{inputs_up_to}
 use Rattle.lrat_steps.proofs.LogLemmas.{steps-append}
 
@@ -78,8 +78,15 @@ no_marks [] steps = refl
 no_marks (r ∷ records) [] = refl
 no_marks (r ∷ records) (s ∷ steps) = step_alone r.kind _ _ (steps_with records steps) ∙ ap (λ (rest : List LogStep). step_of_record r s ∷ rest) (no_marks records steps)
 
+no_marks_shown : (shown : List (List ℤ)) → steps_of (map Input shown) ≡ map Input shown
+no_marks_shown [] = refl
+no_marks_shown (c ∷ shown) = ap (λ (rest : List LogStep). Input c ∷ rest) (no_marks_shown shown)
+
 pub steps_laid : (log : Inside) → steps_of (log_of log) ≡ all_steps log
-steps_laid log = steps_woven 0 log.marks.items (all_steps log) ∙ no_marks log.records.items log.steps
+steps_laid log =
+    steps_woven 0 log.marks.items (all_steps log)
+    ∙ steps-append (map Input log.shown) (steps_with log.records.items log.steps)
+    ∙ ap₂ (λ (shown own : List LogStep). shown ++ own) (no_marks_shown log.shown) (no_marks log.records.items log.steps)
 
 -- marks are neither inputs nor learnt clauses
 pub inputs_of-steps : (log : List LogStep) → inputs_of (steps_of log) ≡ inputs_of log
@@ -111,19 +118,24 @@ read log seen is =
       learned = sym (learned_count-steps seen) ∙ ap learned_count steps;
     }
 
--- a record for each step
-pub steps_count : (id : ℕ) (records : List StepRecord) (steps : List Step) → AreRecords id records steps → length (steps_with records steps) ≡ length records
-steps_count id [] steps all = refl
-steps_count id (r ∷ records) [] all = absurd all
-steps_count id (r ∷ records) (s ∷ steps) all = let rest = steps_count (id + 1) records steps all.1 in omega arith
+-- a record for each step of its own
+own_count : (id : ℕ) (records : List StepRecord) (steps : List Step) → AreRecords id records steps → length (steps_with records steps) ≡ length records
+own_count id [] steps all = refl
+own_count id (r ∷ records) [] all = absurd all
+own_count id (r ∷ records) (s ∷ steps) all = let rest = own_count (id + 1) records steps all.1 in omega arith
 
 kept_count : (id : ℕ) (records : List StepRecord) (steps : List Step) → AreRecords id records steps → length steps ≡ length records
 kept_count id [] steps all = ap length all
 kept_count id (r ∷ records) [] all = absurd all
 kept_count id (r ∷ records) (s ∷ steps) all = let rest = kept_count (id + 1) records steps all.1 in omega arith
 
-pub count_of : (log : Inside) (seen : List LogStep) → IsLaidOut log → log_of log ≡ seen → length (steps_of seen) ≡ length log.records.items
-count_of log seen laid is = ap length (read log seen is).steps ∙ steps_count 1 log.records.items log.steps laid.records
+pub steps_count : (log : Inside) → IsLaidOut log → length (all_steps log) ≡ step_count log
+steps_count log laid =
+    length-append (map Input log.shown) (steps_with log.records.items log.steps)
+    ∙ ap₂ (λ (a b : ℕ). a + b) (length-map log.shown Input) (own_count (length log.shown + 1) log.records.items log.steps laid.records)
+
+pub count_of : (log : Inside) (seen : List LogStep) → IsLaidOut log → log_of log ≡ seen → length (steps_of seen) ≡ step_count log
+count_of log seen laid is = ap length (read log seen is).steps ∙ steps_count log laid
 
 -- the record of an id
 
@@ -153,6 +165,30 @@ record_at id (r ∷ records) (s ∷ steps) (suc at) dr ds all lt =
     let same : id + 1 + at ≡ id + suc at = omega arith in
     (subst (λ n. IsRecord n (get_or records at dr) (get_or steps at ds)) same rest.0, rest.1)
 
+-- a clause that is shown is the step of its id
+pub record IsShownAt (log : Inside) (seen : List LogStep) (id : ℕ) : Type 0 where
+  pub step : (d : List ℤ) → step_at seen id ≡ Input (get_or log.shown (id - 1) d)
+  pub inputs : inputs_up_to (steps_of seen) id ≡ id
+
+inputs_shown : (shown : List (List ℤ)) (own : List LogStep) (n : ℕ) → n ≤ length shown → length (inputs_of (take n (map Input shown ++ own))) ≡ n
+inputs_shown shown own zero high = refl
+inputs_shown [] own (suc n) high = absurd (omega arith)
+inputs_shown (c ∷ shown) own (suc n) high = let rest = inputs_shown shown own n (omega arith) in omega arith
+
+pub read_shown : (log : Inside) (seen : List LogStep) (id : ℕ) → log_of log ≡ seen → 0 < id → id ≤ length log.shown → IsShownAt log seen id
+read_shown log seen id is low high =
+    let own = steps_with log.records.items log.steps in
+    let steps = (read log seen is).steps in
+    let lt : id - 1 < length log.shown = omega arith in
+    let within : id - 1 < length (map Input log.shown) = omega (arith, lt, length-map log.shown Input) in
+    record {
+      step = λ d.
+          ap (λ (all : List LogStep). step_in all id) steps
+          ∙ get_or_append_left (map Input log.shown) own (Input []) (id - 1) within
+          ∙ get_or-map Input log.shown (id - 1) d (Input []) lt;
+      inputs = ap (λ (all : List LogStep). inputs_up_to all id) steps ∙ inputs_shown log.shown own id high;
+    }
+
 -- the record `r` and the step `s` are those of an id
 pub record IsRecordAt (log : Inside) (seen : List LogStep) (id : ℕ) (r : StepRecord) (s : Step) : Type 0 where
   pub named : s.id ≡ id
@@ -161,27 +197,34 @@ pub record IsRecordAt (log : Inside) (seen : List LogStep) (id : ℕ) (r : StepR
   pub hints : s.hints ≡ hints_of (step_at seen id)
   pub inputs : r.inputs ≡ inputs_up_to (steps_of seen) id
 
-pub place_at_id : (log : Inside) (seen : List LogStep) (id : ℕ) → IsLaidOut log → log_of log ≡ seen → 0 < id → id ≤ length (steps_of seen) → (id - 1 < length log.records.items) × (id - 1 < length log.steps)
-place_at_id log seen id laid is low high =
+-- where it stands among the log's own steps, behind the `shown` ones
+pub place_at_id : (log : Inside) (seen : List LogStep) (id shown : ℕ) → IsLaidOut log → log_of log ≡ seen → shown ≡ length log.shown → shown < id → id ≤ length (steps_of seen)
+    → (id - 1 - shown < length log.records.items) × (id - 1 - shown < length log.steps)
+place_at_id log seen id shown laid is all low high =
     let count = count_of log seen laid is in
-    let kept = kept_count 1 log.records.items log.steps laid.records in
+    let kept = kept_count (length log.shown + 1) log.records.items log.steps laid.records in
     (omega arith, omega arith)
 
-pub read_at : (log : Inside) (seen : List LogStep) (id : ℕ) (dr : StepRecord) (ds : Step) → IsLaidOut log → log_of log ≡ seen → 0 < id → id ≤ length (steps_of seen)
-    → IsRecordAt log seen id (get_or log.records.items (id - 1) dr) (get_or log.steps (id - 1) ds)
-read_at log seen id dr ds laid is low high =
-    let lt : id - 1 < length log.records.items = (place_at_id log seen id laid is low high).0 in
-    let r = get_or log.records.items (id - 1) dr in
-    let s = get_or log.steps (id - 1) ds in
+pub read_at : (log : Inside) (seen : List LogStep) (id shown : ℕ) (dr : StepRecord) (ds : Step) → IsLaidOut log → log_of log ≡ seen → shown ≡ length log.shown → shown < id → id ≤ length (steps_of seen)
+    → IsRecordAt log seen id (get_or log.records.items (id - 1 - shown) dr) (get_or log.steps (id - 1 - shown) ds)
+read_at log seen id shown dr ds laid is all low high =
+    let at = id - 1 - shown in
+    let lt : at < length log.records.items = (place_at_id log seen id shown laid is all low high).0 in
+    let r = get_or log.records.items at dr in
+    let s = get_or log.steps at ds in
+    let own = steps_with log.records.items log.steps in
     let steps = (read log seen is).steps in
-    let found = record_at 1 log.records.items log.steps (id - 1) dr ds laid.records lt in
-    let step : step_at seen id ≡ step_of_record r s = ap (λ (all : List LogStep). step_in all id) steps ∙ found.1 in
-    let next : id - 1 + 1 ≡ id = omega arith in
-    let same : 1 + (id - 1) ≡ id = omega arith in
+    let found = record_at (length log.shown + 1) log.records.items log.steps at dr ds laid.records lt in
+    let step : step_at seen id ≡ step_of_record r s =
+    ap (λ (all : List LogStep). step_in all id) steps
+    ∙ get_or-append_right (map Input log.shown) own shown (id - 1) (Input []) (length-map log.shown Input ∙ sym all) (omega arith)
+    ∙ found.1 in
+    let next : length log.shown + at + 1 ≡ id = omega arith in
+    let same : length log.shown + 1 + at ≡ id = omega arith in
     record {
       named = found.0.named ∙ same;
       kind = sym (kind-with r.kind s.lits s.hints) ∙ ap kind_of (sym step);
       lits = sym (lits-with r.kind s.lits s.hints) ∙ ap lits_of (sym step);
       hints = sym (hints-with r.kind s.lits s.hints found.0.no_hints) ∙ ap hints_of (sym step);
-      inputs = laid.counted (id - 1) dr lt ∙ ap₂ (λ n (all : List LogStep). length (inputs_of (take n all))) next (sym steps);
+      inputs = laid.counted at dr lt ∙ ap₂ (λ n (all : List LogStep). length (inputs_of (take n all))) next (sym steps);
     }

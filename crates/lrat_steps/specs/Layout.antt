@@ -1,12 +1,13 @@
--- How a log lays its steps out: the literals and hints of each step under its id, and beside them of each step its kind, and how
--- many inputs there are up to it. The marks lie apart, each with the number of the steps before it.
-use Rattle.std.specs.Prelude.{◌≡◌, ℕ, ◌+◌, ◌-◌, ◌<◌, ◌≤◌, ◌^◌, List, [], ◌∷◌, ◌++◌, length, take, drop, slice_index_or}
+-- How a log lays its steps out: first the given clauses that it shows, and then its own steps, of each the literals and hints
+-- under its id, and beside them its kind, and how many inputs there are up to it. The marks lie apart, each with the number of
+-- the steps before it.
+use Rattle.std.specs.Prelude.{◌≡◌, ℕ, ◌+◌, ◌-◌, ◌<◌, ◌≤◌, ◌^◌, List, [], ◌∷◌, ◌++◌, length, map, take, drop, slice_index_or}
 use Rattle.sat_base.specs.Derivation.{Step}
 use Rattle.lrat_steps.specs.declared.step.StepKind.TheVariants as step_kind
 use Rattle.lrat_steps.specs.declared.log.StepRecord.{StepRecord}
 use Rattle.lrat_steps.specs.declared.log.Mark.{Mark}
 use Rattle.lrat_steps.specs.declared.log.Log.TheInside.{Inside}
-use Rattle.lrat_steps.specs.Log.{LogStep, Forgot, inputs_of, learned_count}
+use Rattle.lrat_steps.specs.Log.{LogStep, Input, Forgot, inputs_of, learned_count}
 use Rattle.lrat_steps.specs.Forgetting.{live_count}
 use Rattle.lrat_steps.specs.Parts.{step_with}
 
@@ -21,7 +22,11 @@ steps_with (r ∷ records) (s ∷ steps) = step_of_record r s ∷ steps_with rec
 
 -- the steps, without the marks
 abbrev pub all_steps : Inside → List LogStep
-all_steps log = steps_with log.records.items log.steps
+all_steps log = map Input log.shown ++ steps_with log.records.items log.steps
+
+-- how many there are
+abbrev pub step_count : Inside → ℕ
+step_count log = length log.shown + length log.records.items
 
 -- the steps behind the first `done`, with the marks among them
 abbrev pub woven : ℕ → List Mark → List LogStep → List LogStep
@@ -41,24 +46,24 @@ pub record IsRecord (id : ℕ) (r : StepRecord) (s : Step) : Type 0 where
   pub named : s.id ≡ id
   pub no_hints : r.kind ≡ step_kind.Input → s.hints ≡ []
 
--- there is a record for each step, and the ids rise from the first
+-- there is a record for each step, and the ids rise from the first one
 abbrev pub AreRecords : ℕ → List StepRecord → List Step → Type 0
 AreRecords id [] steps = steps ≡ []
 AreRecords id (r ∷ records) [] = ⊥
 AreRecords id (r ∷ records) (s ∷ steps) = IsRecord id r s × AreRecords (id + 1) records steps
 
--- each record has the number of the inputs up to its step
-abbrev pub AreCounted : List LogStep → List StepRecord → Type 0
-AreCounted log records =
-    (at : ℕ) (d : StepRecord) → at < length records → (slice_index_or records at d).inputs ≡ length (inputs_of (take (at + 1) log))
+-- each record, behind so many steps, has the number of the inputs up to its step
+abbrev pub AreCounted : ℕ → List LogStep → List StepRecord → Type 0
+AreCounted before log records =
+    (at : ℕ) (d : StepRecord) → at < length records → (slice_index_or records at d).inputs ≡ length (inputs_of (take (before + at + 1) log))
 
 pub record IsLaidOut (log : Inside) : Type 0 where
-  pub records : AreRecords 1 log.records.items log.steps
-  pub counted : AreCounted (all_steps log) log.records.items
+  pub records : AreRecords (length log.shown + 1) log.records.items log.steps
+  pub counted : AreCounted (length log.shown) (all_steps log) log.records.items
   pub inputs : log.inputs ≡ length (inputs_of (all_steps log))
   pub learned : log.learned ≡ learned_count (all_steps log)
-  pub few : length log.records.items < 2 ^ 32
-  pub counts : log.inputs + log.learned ≤ length log.records.items
-  pub marks : AreInOrder 0 (length log.records.items) log.marks.items
+  pub few : step_count log < 2 ^ 32
+  pub counts : log.inputs + log.learned ≤ step_count log
+  pub marks : AreInOrder 0 (step_count log) log.marks.items
   pub live : log.live ≡ live_count (log_of log)
   pub most_live : log.live ≤ log.learned

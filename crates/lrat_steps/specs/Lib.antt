@@ -1,4 +1,5 @@
 pub mod Log
+pub mod Given
 pub mod Forgetting
 pub mod Honest
 pub mod Undecided

@@ -25,12 +25,15 @@
 
 mod cone;
 mod forget;
+mod given;
 mod log;
 mod logs;
 mod renumber;
+mod shown;
 mod step;
 
 pub use forget::may_forget;
+pub use given::{Given, GivenBuilder};
 pub use log::Log;
 pub use logs::Logs;
 pub use step::{LogStep, StepKind};

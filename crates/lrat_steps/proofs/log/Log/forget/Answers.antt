@@ -26,6 +26,7 @@ overflow_cast-id c =
 abbrev new_inside : goal.After-self-1 → Inside
 new_inside c =
     record {
+      shown = c.self.inside.shown;
       records = c.self.inside.records;
       steps = c.self.inside.steps;
       marks = c.push.new.self;
@@ -35,18 +36,19 @@ new_inside c =
     }
 
 abbrev mark : goal.After-self-1 → Mark
-mark c = record { steps = c.len-steps.result; id = c.args.id }
+mark c = record { steps = c.count-steps.result; id = c.args.id }
 
 marked : (c : goal.After-self-1) → IsMarked c.self.inside (new_inside c) (mark c)
 marked c =
     record {
+      shown = refl;
       records = refl;
       steps = refl;
       inputs = refl;
       learned = refl;
       marks = c.in_ok-push.ensures.items;
       live = refl;
-      place = omega arith;
+      place = c.count-steps.ensures ∙ count_of c.self.inside c.args.self.now c.self.invariant c.self.view_is;
     }
 
 pub invariant_of-self-2 : goal.invariant_of-self-2

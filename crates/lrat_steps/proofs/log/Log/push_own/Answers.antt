@@ -1,13 +1,22 @@
 use Rattle.std.proofs.Common.{◌≡◌, ℕ, ◌+◌, ◌∷◌, [], ◌++◌, List, length, ap, sym, refl, ◌∙◌, arith}
-use Rattle.std.proofs.lemmas.List.{length_push}
 use Rattle.sat_base.specs.Derivation.{Step}
 use Rattle.lrat_steps.specs.Parts.{step_with}
+use Rattle.lrat_steps.specs.Layout.{step_count}
 use Rattle.lrat_steps.specs.declared.log.StepRecord.{StepRecord}
 use Rattle.lrat_steps.specs.declared.log.Log.TheInside.{Inside}
 use Rattle.lrat_steps.specs.Log.{LogStep}
 use Rattle.lrat_steps.proofs.MarkLemmas.{count_of}
 use Rattle.lrat_steps.proofs.LayoutLemmas.{IsPushed, log_pushed, laid_out_pushed}
-use Rattle.lrat_steps.proofs.log.Log.push.Goals as goal
+use Rattle.lrat_steps.proofs.log.Log.push_own.Goals as goal
+
+-- no more inputs than steps, and one more step is not too many
+pub overflow_add-inputs : goal.overflow_add-inputs
+overflow_add-inputs c =
+    let count = count_of c.self.inside c.args.self.now c.self.invariant c.self.view_is in
+    let counts = c.self.invariant.counts in
+    let few = c.in_ok-id.ensures.few in
+    let one = c.counts_of-counts.ensures.one in
+    omega arith
 
 -- the record and the step that were added
 abbrev pushed_record : goal.After-self-3-1 → StepRecord
@@ -19,6 +28,7 @@ pushed_step c = record { id = c.in_ok-id.id; lits = c.parts_of-parts.result.lits
 abbrev new_inside : goal.After-self-3-1 → Inside
 new_inside c =
     record {
+      shown = c.self.inside.shown;
       records = c.push_reserved.new.self;
       steps = c.push.new.self;
       marks = c.self.inside.marks;
@@ -33,16 +43,18 @@ none_of (x ∷ xs) e = absurd (omega arith)
 
 pushed : (c : goal.After-self-3-1) → IsPushed c.self.inside (new_inside c) (pushed_record c) (pushed_step c)
 pushed c =
+    let count : c.count.result ≡ step_count c.self.inside = c.count.ensures ∙ count_of c.self.inside c.args.self.now c.self.invariant c.self.view_is in
     record {
+      shown = refl;
       records = c.push_reserved.ensures.items ∙ ap (λ (rs : List StepRecord). rs ++ pushed_record c ∷ []) c.reserve.ensures.items;
       steps = c.in_ok-push.ensures.ok;
-      last = record { named = omega (arith, c.in_ok-id.ensures.id); no_hints = λ input. none_of c.parts_of-parts.result.hints.now (c.parts_of-parts.ensures.no_hints input) };
+      last = record { named = omega (arith, count, c.in_ok-id.ensures.id); no_hints = λ input. none_of c.parts_of-parts.result.hints.now (c.parts_of-parts.ensures.no_hints input) };
       counted = refl;
       inputs = ap (λ n. c.self.inside.inputs + n) c.counts_of-counts.ensures.inputs;
       learned = ap (λ n. c.self.inside.learned + n) c.counts_of-counts.ensures.learned;
       live = ap (λ n. c.self.inside.live + n) c.counts_of-counts.ensures.learned;
       marks = refl;
-      few = omega (arith, c.in_ok-id.ensures.few);
+      few = omega (arith, count, c.in_ok-id.ensures.few);
       one = omega (arith, c.counts_of-counts.ensures.inputs, c.counts_of-counts.ensures.learned, c.counts_of-counts.ensures.one);
     }
 
@@ -56,13 +68,3 @@ returns-clause-ok c =
     log_pushed c.self.inside (new_inside c) (pushed_record c) s c.self.invariant (pushed c)
     ∙ ap (λ (log : List LogStep). log ++ step_with c.parts_of-parts.result.kind s.lits s.hints ∷ []) c.self.view_is
     ∙ ap (λ (t : LogStep). c.args.self.now ++ t ∷ []) (sym c.parts_of-parts.ensures.step)
-
--- a mark has no id, so the last id is the number of records
-pub returns-clause-id : goal.returns-clause-id
-returns-clause-id c =
-    let laid = laid_out_pushed c.self.inside (new_inside c) (pushed_record c) (pushed_step c) c.self.invariant (pushed c) in
-    let count = count_of (new_inside c) _ laid refl in
-    let one = length_push c.self.inside.records.items (pushed_record c) in
-    let all = ap length (pushed c).records in
-    let id = c.in_ok-id.ensures.id in
-    omega arith
