@@ -20,7 +20,7 @@ use crate::solved::Solved;
 use crate::steps::add_step;
 use crate::usage::Usage;
 use clause_store::Store;
-use lrat_steps::{Log, LogStep};
+use lrat_steps::{Given, Log, LogStep};
 use propagate::enter;
 use sat_base::{Lit, Purse};
 use std::alloc::{AllocError, Global};
@@ -52,7 +52,17 @@ impl Solver {
         requires { vars < 2 ^ 31 }
         ensures { IfOk result (λ solver. solver ≡ record { vars = vars; log = []; true_first = false; broken = false }) }
     {
-        Solver::begin(alloc, vars, false)
+        Solver::begin(alloc, vars, Log::new(alloc), false)
+    }
+
+    /// A solver as `new` makes it, beside clauses that others were given too. As long as it is given the same ones, in their
+    /// order and before any search, its log takes no memory for them.
+    pub fn beside(alloc: Global, vars: u32, given: &Given) -> Result<Solver, AllocError>
+        requires { vars < 2 ^ 31 }
+        ensures { IfOk result (λ solver. solver ≡ record { vars = vars; log = []; true_first = false; broken = false }) }
+    {
+        let log = Log::beside(alloc, given)?;
+        Solver::begin(alloc, vars, log, false)
     }
 
     /// A solver as `new` makes it, that decides positive literals only. So each assignment that it finds under no assumed
@@ -61,18 +71,20 @@ impl Solver {
         requires { vars < 2 ^ 31 }
         ensures { IfOk result (λ solver. solver ≡ record { vars = vars; log = []; true_first = true; broken = false }) }
     {
-        Solver::begin(alloc, vars, true)
+        Solver::begin(alloc, vars, Log::new(alloc), true)
     }
 
-    fn begin(alloc: Global, vars: u32, true_first: bool) -> Result<Solver, AllocError>
-        requires { vars < 2 ^ 31 }
+    // A solver over a log without steps.
+    fn begin(alloc: Global, vars: u32, log: Log, true_first: bool) -> Result<Solver, AllocError>
+        requires small { vars < 2 ^ 31 }
+        requires empty { log ≡ [] }
         ensures { IfOk result (λ solver. solver ≡ record { vars = vars; log = []; true_first = true_first; broken = false }) }
     {
         let plan = Plan::new(alloc, vars)?;
         let trail = Trail::new(alloc, vars)?;
         let store = Store::new(alloc, vars)?;
         let search = Search {
-            log: Log::new(alloc),
+            log,
             store,
             trail,
             rooted: 0,

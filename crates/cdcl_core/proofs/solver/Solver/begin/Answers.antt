@@ -18,15 +18,15 @@ invariant_of-result c =
     let vars : trail.vars ≡ c.args.vars = ap (λ (t : Trail). t.vars) c.in_ok-trail.ensures in
     let done : trail.done ≡ 0 = ap (λ (t : Trail). t.done) c.in_ok-trail.ensures in
     record {
-      honest = subst IsHonest (sym c.new-4.ensures) tt;
-      touched = touched_is c.args.true_first c.args.true_first trail.touched trail.touched [] (inputs_of c.new-4.result) refl refl (ap inputs_of c.new-4.ensures) (λ c i. absurd i);
+      honest = subst IsHonest (sym c.requires.empty) tt;
+      touched = touched_is c.args.true_first c.args.true_first trail.touched trail.touched [] (inputs_of c.args.log) refl refl (ap inputs_of c.requires.empty) (λ c i. absurd i);
       ready = λ b. record {
         assumed = [];
-        search = search_root_free (record { log = c.new-4.result; store = store; trail = trail; rooted = 0; assumed_levels = 0; assumed_true = 0; conflicts = 0; walked = 0; true_first = c.args.true_first; plan = c.in_ok-plan.plan; usage = c.new-5.result })
+        search = search_root_free (record { log = c.args.log; store = store; trail = trail; rooted = 0; assumed_levels = 0; assumed_true = 0; conflicts = 0; walked = 0; true_first = c.args.true_first; plan = c.in_ok-plan.plan; usage = c.new-4.result })
             (record {
               vars = s.vars ∙ sym vars;
               kept = kept_first store trail (s.vars ∙ sym vars) s.clauses s.watched s.heads s.tails s.parks s.false_id entries done;
-              root = root_is c.args.vars trail.vars [] store.clauses [] c.new-4.result [] trail.entries vars s.clauses c.new-4.ensures entries (root_first c.args.vars);
+              root = root_is c.args.vars trail.vars [] store.clauses [] c.args.log [] trail.entries vars s.clauses c.requires.empty entries (root_first c.args.vars);
             })
             refl;
       };
