@@ -24,6 +24,7 @@
 #![tactic(auto)]
 
 mod cone;
+mod crossing;
 mod forget;
 mod given;
 mod log;
