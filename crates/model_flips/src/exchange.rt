@@ -21,7 +21,7 @@ pub struct Exchanged {
 
 impl Rotation {
     /// Flips a variable of an assignment that satisfies the background and a set without this one of its groups. Where that
-    /// satisfies the background and the set without one other group, it says which; else nothing. It costs a copy of the
+    /// satisfies the background and the set without one other group, it says which; else nothing. It costs a flip of the
     /// assignment, the clauses that have the variable, and those of the group.
     pub fn exchanged(
         &self,

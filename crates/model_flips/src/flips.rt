@@ -23,6 +23,8 @@ pub struct Flips {
     problem: Problem,
     occurrences: Occurrences,
     standing: Standing,
+    // The assignment that came last, to share words with.
+    start: Option<Assign>,
     // By group, the background first.
     kept: Vec<bool>,
     // Clauses that have to be made true, and the variables that were flipped for the group at hand.
@@ -69,6 +71,7 @@ impl Flips {
             problem: problem.copy()?,
             occurrences,
             standing,
+            start: None,
             kept,
             open: Vec::new(alloc),
             flipped: Vec::new(alloc),
@@ -107,6 +110,7 @@ impl Flips {
                 self.flip(at + 1);
             }
         }
+        self.start = assign.copy().ok();
         keep_true(&mut self.kept, &self.standing);
         let groups = self.kept.len();
         self.count((vars as usize).saturating_add(groups) / 8);
@@ -141,7 +145,8 @@ impl Flips {
         Ok(out)
     }
 
-    /// The assignment, where it satisfies the background and all groups but these. This is tested of each clause.
+    /// The assignment, where it satisfies the background and all groups but these. This is tested of each clause. It shares
+    /// words with the assignment that came last.
     pub fn shown(&mut self, alloc: Global, out: &GroupSet) -> Result<Option<Assign>, AllocError>
         ensures same { self.new ≡ self.old }
         ensures shown { IfOk result (λ shown. IfSome shown (λ assign. is_witness self.old (complement self.old.groups out.now) assign ≡ true)) }
@@ -150,6 +155,7 @@ impl Flips {
         self.count(total);
         let inside = out.complement(alloc, self.problem.groups())?;
         let assign = self.standing.assignment(alloc, self.problem.vars())?;
+        let assign = sharing(assign, &self.start);
         Ok(tested(&self.problem, &inside, assign))
     }
 
@@ -281,6 +287,17 @@ fn is_lost(standing: &Standing, kept: &[bool], clause: u32, group: u32) -> bool 
     let of = standing.group(clause);
     let matters = of == group || kept.get(of as usize) == Some(&true);
     matters && standing.true_lits(clause) == 0
+}
+
+// The assignment, which shares words with another one, if there is one.
+fn sharing(assign: Assign, other: &Option<Assign>) -> Assign
+    ensures { result ≡ assign }
+{
+    let mut assign = assign;
+    if let Some(other) = other {
+        assign.share(other);
+    }
+    assign
 }
 
 // Marks the groups that are true.

@@ -39,8 +39,8 @@ impl Rotation {
     /// Flips variables of an assignment that satisfies the background and all groups but some, until it satisfies the
     /// background and all groups that are marked, and says which groups are left out then. Nothing where it does not come
     /// to that, or where more was looked at in all than `most`. No clause says that a marked group is not left out: who needs
-    /// that looks at the groups. What a flip costs are the clauses that have one of the variables of a clause, and one copy
-    /// of the assignment.
+    /// that looks at the groups. What a flip costs are the clauses that have one of the variables of a clause, and one
+    /// flip of the assignment.
     pub fn repaired(
         &self,
         alloc: Global,

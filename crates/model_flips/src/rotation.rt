@@ -101,7 +101,7 @@ impl Rotation {
 
     /// Flips a variable of an assignment that satisfies the background and all groups but some, and says which groups are
     /// left out then; nothing where that is the background. What it costs are the clauses that have the variable, those of
-    /// the groups left out, and a copy of the assignment.
+    /// the groups left out, and a flip of the assignment.
     pub fn turned(
         &self,
         alloc: Global,
