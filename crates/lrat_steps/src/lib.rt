@@ -13,6 +13,17 @@
 //! let derivation = log.trim(alloc, id)?;
 //! ```
 //!
+//! Where many solvers search the same clauses, these stand once, as [`Given`], and the log of each begins with them where they
+//! stand. No contract of a [`Log`] tells such a clause from one that it keeps itself.
+//!
+//! ```text
+//! let mut builder = GivenBuilder::new(alloc);
+//! builder.push(&[x])?;
+//! let given = builder.finish(alloc)?;
+//! let mut log = Log::beside(alloc, &given)?;
+//! log.push(LogStep::Input(&[x]))?;
+//! ```
+//!
 //! A learnt clause that is live may be forgotten where [`may_forget`] says so. [`Log::forget`] puts a mark among the
 //! steps; the step itself stays, and what it derived may be named by later hints.
 //!
