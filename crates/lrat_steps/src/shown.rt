@@ -1,8 +1,8 @@
 //! Which of the given clauses a log begins with.
 //!
 //! A log whose solver was given clauses that all logs share begins with them where they stand, and keeps but their number:
-//! these are shown. A log that has no steps of its own yet shows the next of the given clauses where its solver is given just that
-//! one. So a solver that is made beside the clauses, and is given them in their order, takes no memory for them in its log.
+//! these are shown. A log that has no steps of its own yet shows the next of the given clauses where its solver is given just
+//! that one. So a solver that is made beside the clauses, and is given them in their order, takes no memory for them in its log.
 ghost use Rattle.std.specs.Prelude.{◌≡◌, ◌+◌, ◌<◌, ◌≤◌, ◌^◌, [], ◌∷◌, ◌++◌, Some, IsTrue, IsFalse, length, slice_get};
 ghost use Rattle.lrat_steps.specs.Given.{given_in};
 
