@@ -13,6 +13,8 @@
 //! Clauses stay, and so do the learnt ones and the trail: a later search goes on from there. One call costs what it searches
 //! and, where it ends with a model, a value for each variable.
 //!
+//! Where several solvers are given the same clauses, `Solver::beside` has the log of each read them in one list.
+//!
 //! Start with [`Solver`], whose contracts are in the words of `specs/Answers.antt`. The loop is in `search.rt`, where
 //! the head says what holds in each round and why that suffices (`specs/State.antt`). `conflicts.rt` and `decisions.rt`
 //! are the two ways on from there, `entrance.rt` has learnt clauses be watched, `units.rt` logs what holds at level 0,

@@ -8,14 +8,14 @@ use Rattle.gm_base.specs.Sets.{IsSubset, IsGroupSet, all_groups}
 use Rattle.gm_base.specs.Problem.{Problem, IsProblem, Sat}
 use Rattle.sat_base.specs.Derivation.{Derivation, clause_of}
 use Rattle.sat_base.specs.Database.{known_of}
-use Rattle.gm_base.specs.Evidence.{is_witness, refutes}
-use Rattle.lrat_steps.specs.Log.{LogStep, lits_of, steps_of, step_at, inputs_of, db_of}
+use Rattle.gm_base.specs.Evidence.{selector_form, is_witness, refutes}
+use Rattle.lrat_steps.specs.Log.{LogStep, Input, lits_of, steps_of, step_at, inputs_of, db_of}
 use Rattle.lrat_steps.specs.Trimmed.{IsTrimmed}
 use Rattle.cdcl_core.specs.Answers.{IsConsistent, IsModel, IsRefuted, IsHonestlyPaid}
 use Rattle.evidence_rec.specs.Asking.{IsHonestOver}
 use Rattle.group_oracle.specs.Selectors.{on, AreOff, AreGroupsOf, without_selector, problem_of}
 use Rattle.group_oracle.specs.Inside.{IsRefutedBy, refuted_at}
-use Rattle.group_oracle.proofs.SelectorLemmas.{selectors_over, selectors_consistent}
+use Rattle.group_oracle.proofs.SelectorLemmas.{selectors_over, selectors_consistent, inputs-given}
 use Rattle.group_oracle.proofs.WitnessLemmas.{witness-from_model}
 use Rattle.group_oracle.proofs.RefutedLemmas.{core_at, core_off, core_within, core_refuted, switched_off-one, refuted-unsat, refuted-refutes}
 
@@ -40,6 +40,14 @@ problem_after vars groups before left old new ok paid = subst IsProblem (sym (pr
 pub honest_after : (vars groups before left : ℕ) (old new : List LogStep) → IsHonestOver (problem_of vars groups old) old → IsHonestlyPaid old new before left → IsHonestOver (problem_of vars groups new) new
 honest_after vars groups before left old new h paid =
     subst (λ (p : Problem). IsHonestOver p new) (sym (problem_kept vars groups old new paid.paid.inputs)) (record { inputs = paid.paid.inputs ∙ h.inputs; honest = paid.honest })
+
+-- of a log that was given the inputs of another one alone
+
+pub twin_problem : (vars groups : ℕ) (old new : List LogStep) → new ≡ map Input (inputs_of old) → problem_of vars groups new ≡ problem_of vars groups old
+twin_problem vars groups old new is = problem_kept vars groups old new (ap inputs_of is ∙ inputs-given (inputs_of old))
+
+pub twin_given : (vars groups : ℕ) (old new : List LogStep) → IsHonestOver (problem_of vars groups old) old → new ≡ map Input (inputs_of old) → new ≡ map Input (selector_form (problem_of vars groups new))
+twin_given vars groups old new h is = is ∙ ap (map Input) (h.inputs ∙ sym (ap selector_form (twin_problem vars groups old new is)))
 
 -- a model
 pub witness_found : (vars groups n : ℕ) (set : List ℕ) (log : List LogStep) (assumed : List ℤ) (assign values : List Bool) → IsProblem (problem_of vars groups log) → IsHonestOver (problem_of vars groups log) log

@@ -3,7 +3,7 @@ use Rattle.std.proofs.Common.{◌≡◌, ℕ, zero, suc, ◌+◌, ◌-◌, ◌<�
 use Rattle.std.specs.Prelude.{ℤ, pos, neg_ℤ, slice_get}
 use Rattle.std.specs.List.{filter, range_with_len, AllByRecursion}
 use Rattle.std.proofs.lemmas.Bool.{or_cases, cases_Bool, false≢true, cond-true, cond-false, le-leb, lt-leb, eqb-true, eqb-false}
-use Rattle.std.proofs.lemmas.List.{map_more, map_push}
+use Rattle.std.proofs.lemmas.List.{map_more}
 use Rattle.gm_base.specs.declared.clause.Clause.{Clause}
 use Rattle.sat_base.specs.Members.{In}
 use Rattle.sat_base.specs.Literals.{var_of, IsLiteral, AreLiterals}
@@ -161,13 +161,13 @@ get_or-from [] i x d h = cc
 get_or-from (y ∷ ys) zero x d h = (omega arith, cc)
 get_or-from (y ∷ ys) (suc i) x d h = let (lt, same) = get_or-from ys i x d h in (omega arith, same)
 
--- one more clause was added
-pub given_more : (p : Problem) (cs : List Clause) (at : ℕ) (c : Clause) (lits : List ℤ) (log new : List LogStep) → slice_get cs at ≡ Some c → log ≡ map Input (map (with_selector p) (take at cs)) → lits ≡ with_selector p c
-    → new ≡ log ++ Input lits ∷ [] → new ≡ map Input (map (with_selector p) (take (at + 1) cs))
-given_more p cs at c lits log new here old is added =
+-- one more clause is given
+pub given_more : (p : Problem) (cs : List Clause) (at : ℕ) (c : Clause) (lits : List ℤ) (old new : List (List ℤ)) → slice_get cs at ≡ Some c → old ≡ map (with_selector p) (take at cs) → lits ≡ with_selector p c
+    → new ≡ old ++ lits ∷ [] → new ≡ map (with_selector p) (take (at + 1) cs)
+given_more p cs at c lits old new here before is added =
     let (lt, same) = get_or-from cs at c c here in
-    added ∙ ap (λ (l : List LogStep). l ++ Input lits ∷ []) old ∙ ap (λ (l : List ℤ). map Input (map (with_selector p) (take at cs)) ++ Input l ∷ []) (is ∙ sym (ap (with_selector p) same))
-    ∙ sym (ap (map Input) (map_more (with_selector p) cs at c lt) ∙ map_push Input (map (with_selector p) (take at cs)) (with_selector p (get_or cs at c)))
+    added ∙ ap (λ (l : List (List ℤ)). l ++ lits ∷ []) before ∙ ap (λ (l : List ℤ). map (with_selector p) (take at cs) ++ l ∷ []) (is ∙ sym (ap (with_selector p) same))
+    ∙ sym (map_more (with_selector p) cs at c lt)
 
 pub inputs-given : (cs : List (List ℤ)) → inputs_of (map Input cs) ≡ cs
 inputs-given [] = refl
@@ -184,7 +184,7 @@ given_from inputs earlier (c ∷ cs) = (tt, given_from inputs (earlier ++ Input 
 pub honest-inputs : (cs : List (List ℤ)) → IsHonest (map Input cs)
 honest-inputs cs = given_from (inputs_of (map Input cs)) [] cs
 
-pub honest-given : (p : Problem) → IsHonestOver p (map Input (selector_form p))
+honest-given : (p : Problem) → IsHonestOver p (map Input (selector_form p))
 honest-given p = record { inputs = inputs-given (selector_form p); honest = honest-inputs (selector_form p) }
 
 -- of a log that was just made
@@ -195,3 +195,6 @@ problem_new p vars groups log ok e f is =
 
 pub learned_new : (p : Problem) (log : List LogStep) → log ≡ map Input (selector_form p) → learned_count log ≡ 0
 learned_new p log is = ap learned_count is ∙ learned-given (selector_form p)
+
+pub honest_new : (p : Problem) (log : List LogStep) → log ≡ map Input (selector_form p) → IsHonestOver p log
+honest_new p log is = subst (λ (l : List LogStep). IsHonestOver p l) (sym is) (honest-given p)

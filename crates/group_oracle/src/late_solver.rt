@@ -2,17 +2,19 @@
 //!
 //! An enumeration has an oracle for each of its workers, and where there are more workers than processors most of them are
 //! never asked anything. Whoever is told at the end what was derived wants a log of each all the same, which begins with all
-//! clauses. So the log is made at once. The clauses with their watches, the trail and the order of decisions, which take most
-//! of the time and of the memory, are made of it at the first search.
-ghost use Rattle.std.specs.Prelude.{◌≡◌, ◌<◌, ◌^◌, IfOk, OnErr, None};
+//! clauses. So the clauses that are given stand once, in a list that all these solvers share, and a log is made at once, which
+//! reads them there. The clauses with their watches, the trail and the order of decisions, which take most of the time and of
+//! the memory, are made of the list at the first search. The solver's own log reads the list too.
+ghost use Rattle.std.specs.Prelude.{◌≡◌, ◌<◌, ◌^◌, IfOk, OnErr, None, All};
 ghost use Rattle.sat_base.specs.Literals.{AreLiterals};
+ghost use Rattle.lrat_steps.specs.Log.{inputs_of};
 ghost use Rattle.lrat_steps.specs.Honest.{IsHonest};
 ghost use Rattle.cdcl_core.specs.Answers.{IsConsistent, IsHonestlyPaid, Tells};
-ghost use Rattle.group_oracle.specs.Late.{IsGiven, new_over, solver_from};
+ghost use Rattle.group_oracle.specs.Late.{new_over, solver_from};
 
 use cdcl_core::{Solved, Solver};
 use gm_base::{Lit, Purse};
-use lrat_steps::Log;
+use lrat_steps::{Given, Log};
 use std::alloc::{AllocError, Global};
 use std::marker::Model;
 
@@ -20,8 +22,9 @@ use std::marker::Model;
 #[derive(Drop)]
 pub struct LateSolver {
     vars: u32,
-    // The clauses that were given, until there is a solver.
-    given: Log,
+    given: Given,
+    // The log of the clauses that were given, until there is a solver.
+    log: Log,
     solver: Option<Solver>,
 }
 
@@ -38,17 +41,27 @@ impl Model for LateSolver {
 }
 
 impl LateSolver {
-    /// A solver of the clauses that stand in a log, over the variables 1 to `vars`. It takes no memory.
-    pub fn over(vars: u32, given: Log) -> LateSolver
+    /// A solver of these clauses, over the variables 1 to `vars`.
+    pub fn over(alloc: Global, vars: u32, given: Given) -> Result<LateSolver, AllocError>
         requires small { vars < 2 ^ 31 }
-        requires given { IsGiven vars given }
-        ensures { result ≡ new_over vars given }
+        requires literals { All (AreLiterals vars) given }
+        ensures { IfOk result (λ solver. solver ≡ new_over vars given) }
     {
-        LateSolver {
+        let log = Log::of_given(alloc, &given)?;
+        Ok(LateSolver {
             vars,
             given,
+            log,
             solver: None,
-        }
+        })
+    }
+
+    /// Another solver of the clauses that this one was given, which both share from now on.
+    pub fn twin(&self, alloc: Global) -> Result<LateSolver, AllocError>
+        ensures { IfOk result (λ twin. twin ≡ new_over self.now.vars (inputs_of self.now.log)) }
+    {
+        let given = self.given.copy()?;
+        LateSolver::over(alloc, self.vars, given)
     }
 
     /// Searches as [`Solver::solve`] does.
@@ -68,7 +81,7 @@ impl LateSolver {
         let mut solver = taken(alloc, self.vars, &self.given, &mut self.solver)?;
         let answer = solver.solve(alloc, assumed, turn, purse);
         // The solver has a log of its own.
-        self.given = Log::new(alloc);
+        self.log = Log::new(alloc);
         self.solver = Some(solver);
         answer
     }
@@ -80,7 +93,7 @@ impl LateSolver {
     {
         match &self.solver {
             Some(solver) => solver.log(),
-            None => &self.given,
+            None => &self.log,
         }
     }
 
@@ -91,12 +104,13 @@ impl LateSolver {
     {
         let LateSolver {
             vars: _,
-            given,
+            given: _,
+            log,
             solver,
         } = self;
         match solver {
             Some(solver) => solver.into_log(),
-            None => given,
+            None => log,
         }
     }
 }
@@ -105,11 +119,11 @@ impl LateSolver {
 fn taken(
     alloc: Global,
     vars: u32,
-    given: &Log,
+    given: &Given,
     kept: &mut Option<Solver>,
 ) -> Result<Solver, AllocError>
     requires small { vars < 2 ^ 31 }
-    requires given { IsGiven vars given.now }
+    requires literals { All (AreLiterals vars) given.now }
     ensures solver { IfOk result (λ solver. solver ≡ solver_from vars given.now kept.old) }
     ensures none { kept.new ≡ None }
     ensures err { OnErr result (kept.old ≡ None) }
@@ -120,15 +134,15 @@ fn taken(
     }
 }
 
-// A solver of the clauses of a log.
-fn solver_over(alloc: Global, vars: u32, given: &Log) -> Result<Solver, AllocError>
+// A solver of these clauses, whose log reads them where they stand.
+fn solver_over(alloc: Global, vars: u32, given: &Given) -> Result<Solver, AllocError>
     requires small { vars < 2 ^ 31 }
-    requires given { IsGiven vars given.now }
+    requires literals { All (AreLiterals vars) given.now }
     ensures { IfOk result (λ solver. solver ≡ new_over vars given.now) }
 {
-    let mut solver = Solver::new(alloc, vars)?;
+    let mut solver = Solver::beside(alloc, vars, given)?;
     for at in 0..given.len() {
-        solver.add(alloc, given.lits(at + 1))?;
+        solver.add(alloc, given.lits(at))?;
     }
     Ok(solver)
 }

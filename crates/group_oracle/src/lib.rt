@@ -13,6 +13,9 @@
 //! all questions, and what it learnt for one it knows for the next. The contracts are those of the trait
 //! `evidence_rec::Oracle`.
 //!
+//! Where several ask about one problem, `oracle.twin(alloc)?` is another oracle for it. Both share the clauses that they were
+//! given, and nothing of what they learn.
+//!
 //! Start with `oracle.rt`, whose head says why the answers are right, and `specs/Inside.antt`, which says what an oracle
 //! keeps. `selectors.rt` makes clauses with selectors, `cores.rt` reads the groups off a clause, and `late_solver.rt` has the
 //! solver, which is made at the first question.

@@ -5,11 +5,10 @@
 ghost use Rattle.std.specs.Prelude.{◌≡◌, ℕ, ◌+◌, ◌<◌, ◌^◌, true, map, IfOk};
 ghost use Rattle.gm_base.specs.Sets.{has};
 ghost use Rattle.gm_base.specs.Evidence.{selector_form};
-ghost use Rattle.lrat_steps.specs.Log.{Input};
 ghost use Rattle.group_oracle.specs.Selectors.{on};
 
 use gm_base::{GroupSet, Lit, Problem, selector, write_with_selector};
-use lrat_steps::{Log, LogStep};
+use lrat_steps::{Given, GivenBuilder};
 use std::alloc::{AllocError, Global};
 
 /// The literals that switch on the groups of a set, ascending.
@@ -24,15 +23,15 @@ pub fn selectors_of(alloc: Global, vars: u32, set: &GroupSet) -> Result<Vec<Lit>
     Ok(lits)
 }
 
-/// The log of a solver that was given the clauses of the problem, each with its selector.
-pub fn given_log(alloc: Global, problem: &Problem) -> Result<Log, AllocError>
-    ensures { IfOk result (λ log. log ≡ map Input (selector_form problem.now)) }
+/// The clauses of the problem, each with its selector.
+pub fn given_clauses(alloc: Global, problem: &Problem) -> Result<Given, AllocError>
+    ensures { IfOk result (λ given. given ≡ selector_form problem.now) }
 {
-    let mut log = Log::new(alloc);
+    let mut clauses = GivenBuilder::new(alloc);
     let mut lits = Vec::new(alloc);
     for at in 0..problem.len() {
         write_with_selector(&mut lits, problem, problem.clause(at))?;
-        log.push(LogStep::Input(&lits))?;
+        clauses.push(&lits)?;
     }
-    Ok(log)
+    clauses.finish(alloc)
 }

@@ -1,5 +1,5 @@
-use Rattle.std.proofs.Common.{◌≡◌, List, sym, ◌∙◌, ap, subst}
-use Rattle.lrat_steps.specs.Log.{LogStep}
+use Rattle.std.proofs.Common.{rules, ◌≡◌, List, map, sym, ◌∙◌, ap, subst}
+use Rattle.lrat_steps.specs.Log.{LogStep, Input}
 use Rattle.cdcl_core.specs.Solver.{Solver}
 use Rattle.cdcl_core.specs.Answers.{IsHonestlyPaid}
 use Rattle.group_oracle.specs.Late.{solver_from}
@@ -11,6 +11,10 @@ pub returns-in_err-solver-clause-paid : goal.returns-in_err-solver-clause-paid
 returns-in_err-solver-clause-paid c =
     let a = c.self.inside in
     let left = c.args.purse.now.left in
-    let before : c.args.self.now.log ≡ a.given = ap (λ (s : Solver). s.log) (sym c.self.view_is) ∙ ap (λ o. (solver_from a.vars a.given o).log) c.in_err-solver.ensures.err in
+    let before : c.args.self.now.log ≡ map Input a.given = ap (λ (s : Solver). s.log) (sym c.self.view_is) ∙ ap (λ o. (solver_from a.vars a.given o).log) c.in_err-solver.ensures.err in
     subst (λ o. IsHonestlyPaid c.args.self.now.log (solver_from a.vars a.given o).log left left) (sym c.taken.ensures.none)
-    (subst (λ (l : List LogStep). IsHonestlyPaid l a.given left left) (sym before) (given_unpaid a.vars left a.given c.self.invariant.given))
+    (subst (λ (l : List LogStep). IsHonestlyPaid l (map Input a.given) left left) (sym before) (given_unpaid left a.given))
+
+-- the log still has the given clauses, and no other answer is looked for
+pub invariant_of-self : goal.invariant_of-self
+invariant_of-self c = search rules

@@ -41,8 +41,8 @@ returns-in-Sat-clause-answer c =
     let ok = problem_after a.vars a.groups c.args.purse.now.left c.solve.new.purse.left a.solver.log solver.log c.self.invariant.well_formed paid in
     let h = honest_after a.vars a.groups c.args.purse.now.left c.solve.new.purse.left a.solver.log solver.log c.self.invariant.honest paid in
     let m : IsModel solver.vars _ c.deref.result.now c.in-Sat.assign = rw c.in-Sat.is at c.in_ok-assign.ensures.answer in
-    witness_found a.vars a.groups solver.vars c.args.set.now solver.log c.deref.result.now c.in-Sat.assign c.prefix.result ok h (c.in_ok-assign.ensures.vars ∙ c.self.invariant.vars)
-    (c.deref.ensures.value ∙ c.in_ok-assumed.ensures) m c.prefix.ensures
+    witness_found a.vars a.groups solver.vars c.args.set.now solver.log c.deref.result.now c.in-Sat.assign c.like_last-assign.result ok h (c.in_ok-assign.ensures.vars ∙ c.self.invariant.vars)
+    (c.deref.ensures.value ∙ c.in_ok-assumed.ensures) m (c.like_last-assign.ensures ∙ c.prefix.ensures)
 
 pub lits-requires-clause-within : goal.lits-requires-clause-within
 lits-requires-clause-within c =
