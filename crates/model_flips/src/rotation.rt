@@ -70,11 +70,13 @@ impl Rotation {
         }
     }
 
-    /// What a turn by a variable looks at, in clauses and in words of an assignment.
+    /// What a turn by a variable looks at: clauses, words of an assignment, of which a flip copies 64 at most, and pointers
+    /// to the others.
     pub fn cost(&self, var: u32) -> u64 {
         let words = self.places.len() / 64;
+        let copied = words.min(64).saturating_add(words / 64);
         let clauses = self.of(var).len();
-        words.saturating_add(clauses).saturating_add(16) as u64
+        copied.saturating_add(clauses).saturating_add(16) as u64
     }
 
     /// The variables of which one flip may make a false group true: those that stand in each of its false clauses.
