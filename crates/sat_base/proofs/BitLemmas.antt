@@ -1,7 +1,7 @@
 -- Lemmas on truth values as bits of words.
-use Rattle.std.proofs.Common.{◌≡◌, ◌≢◌, ℕ, zero, suc, ◌*◌, ◌/◌, ◌%◌, ◌<◌, min, Bool, true, false, ◌==◌, List, length, get_or, set, take, replicate, refl, sym, ◌∙◌, ap, inl, inr, arith, w64}
+use Rattle.std.proofs.Common.{◌≡◌, ◌≢◌, ℕ, zero, suc, ◌*◌, ◌/◌, ◌%◌, ◌<◌, ◌≤◌, min, Bool, true, false, ◌==◌, List, length, get_or, set, take, replicate, refl, sym, ◌∙◌, ap, inl, inr, arith, w64}
 use Rattle.std.proofs.lemmas.Bool.{cases_eq, cases_lt}
-use Rattle.std.proofs.lemmas.List.{length-set, get_or-set_same, get_or-set_other, get_or-replicate, length-replicate, take_all}
+use Rattle.std.proofs.lemmas.List.{length-set, get_or-set_same, get_or-set_other, get_or-replicate, get_or-take, length-replicate, take_all}
 use Rattle.std.proofs.lemmas.List.FromFn.{length-map-range_with_len, get_or-map-range_with_len, take-map-range_with_len, fill_by_all}
 use Rattle.std.proofs.lemmas.Nat.Bits.{bit_at-zero, bit_at_set_same, bit_at_set_other, bit_at_clear_same, bit_at_clear_other}
 use Rattle.std.specs.Prelude.{slice_index}
@@ -25,6 +25,18 @@ take-truths n len words =
           let least : min len n ≡ len = omega arith in
           rw least (take_all n (truths len words) (omega (arith, length-truths len words)))
     ]
+
+-- values stand in the first words alone
+pub truths-take : (len n : ℕ) (words : List ℕ) → len ≤ 64 * n → truths len (take n words) ≡ truths len words
+truths-take len n words within =
+    fill_by_all (truth_at words) (truths len (take n words)) len false (length-truths len (take n words))
+    (λ i small.
+    get_or-truths len (take n words) i false small
+    ∙ ap (λ w. bit_at w (i % 64) == 1) (get_or-take n words (i / 64) 0 (omega arith)))
+
+-- words that begin alike have the same first values
+pub truths-alike : (len n : ℕ) (words others : List ℕ) → len ≤ 64 * n → take n words ≡ take n others → truths len words ≡ truths len others
+truths-alike len n words others within same = sym (truths-take len n words within) ∙ ap (truths len) same ∙ truths-take len n others within
 
 zero_word : (k i : ℕ) → slice_index (replicate k 0) i ≡ 0
 zero_word zero i = refl

@@ -1,10 +1,10 @@
 -- Lemmas on words in full blocks: where a word stands, what a written one leaves, and what one more block adds.
-use Rattle.std.proofs.Common.{◌≡◌, ℕ, zero, suc, ◌+◌, ◌-◌, ◌*◌, ◌/◌, ◌%◌, ◌<◌, ◌≤◌, List, [], ◌∷◌, ◌++◌, length, get_or, set, drop, All, sym, ◌∙◌, ap, inl, inr, arith, append_assoc, length-drop, length-take-le}
+use Rattle.std.proofs.Common.{◌≡◌, ℕ, zero, suc, ◌+◌, ◌-◌, ◌*◌, ◌/◌, ◌%◌, ◌<◌, ◌≤◌, List, [], ◌∷◌, ◌++◌, length, get_or, set, take, drop, All, refl, sym, subst, ◌∙◌, ap, inl, inr, arith, append_assoc, length-drop, length-take-le}
 use Rattle.std.specs.Prelude.{slice_range}
 use Rattle.std.specs.List.{concat}
 use Rattle.std.proofs.lemmas.Bool.{cases_eq, cases_lt}
 use Rattle.std.proofs.lemmas.List.Folds.{concat-append, drop_split}
-use Rattle.std.proofs.lemmas.List.{append-nil, length-append, length-set, length_push, take_all, get_or_append_left, get_or-append-add, get_or-set_same, get_or-set_other, set-append_left, set-append_right}
+use Rattle.std.proofs.lemmas.List.{append-nil, length-append, length-set, length_push, take_all, get_or_append_left, get_or-append-add, get_or-take, get_or_past, get_or-set_same, get_or-set_other, set-append_left, set-append_right}
 use Rattle.sat_base.specs.FullBlocks.{AreFull}
 
 behind_first : (b : List ℕ) (bs : List (List ℕ)) → AreFull (b ∷ bs) → AreFull bs
@@ -139,3 +139,53 @@ cut_next blocks words at so_far =
     ∙ append_assoc (concat blocks) block (drop (at * 64 + 64) words)
     ∙ ap (λ ws. concat blocks ++ ws) (sym (drop_split words (at * 64) (at * 64 + 64) (omega arith)))
     ∙ so_far)
+
+-- what stands behind the same words is alike as far as it counts
+take_behind : (b xs ys : List ℕ) (count rest : ℕ) → rest ≡ count - length b → take rest xs ≡ take rest ys → take count (b ++ xs) ≡ take count (b ++ ys)
+take_behind [] xs ys count rest is same =
+    let all : rest ≡ count = omega arith in
+    subst (λ n. take n xs ≡ take n ys) all same
+take_behind (w ∷ b) xs ys zero rest is same = refl
+take_behind (w ∷ b) xs ys (suc count) rest is same = ap (λ ws. w ∷ ws) (take_behind b xs ys count rest (omega arith) same)
+
+-- the first blocks, which have the first so many words
+pub record HasFirst (blocks : List (List ℕ)) (k count : ℕ) : Type 0 where
+  pub same : take count (concat (take k blocks)) ≡ take count (concat blocks)
+  pub enough : count ≤ length (concat (take k blocks))
+
+pub has_first : (blocks : List (List ℕ)) (k count : ℕ) → AreFull blocks → count ≤ length (concat blocks) → count ≤ 64 * k → HasFirst blocks k count
+has_first [] zero count full lt few = record { same = refl; enough = lt }
+has_first [] (suc k) count full lt few = record { same = refl; enough = lt }
+has_first (b ∷ bs) zero zero full lt few = record { same = refl; enough = omega arith }
+has_first (b ∷ bs) zero (suc count) full lt few = absurd (omega arith)
+has_first (b ∷ []) (suc zero) count full lt few = record { same = refl; enough = lt }
+has_first (b ∷ []) (suc (suc k)) count full lt few = record { same = refl; enough = lt }
+has_first (b ∷ c ∷ cs) (suc k) count full lt few =
+    let bs = c ∷ cs in
+    let long : length b ≡ 64 = full.full 0 (omega arith) in
+    let len = length-append b (concat bs) in
+    let len_first = length-append b (concat (take k bs)) in
+    let rest = has_first bs k (count - length b) (behind_first b bs full) (omega arith) (omega arith) in
+    let enough = rest.enough in
+    record {
+      same = take_behind b (concat (take k bs)) (concat bs) count (count - length b) refl rest.same;
+      enough = omega arith;
+    }
+
+-- full blocks stay full where the last ones go
+pub full_take : (blocks : List (List ℕ)) (k : ℕ) → k ≤ length blocks → AreFull blocks → AreFull (take k blocks)
+full_take blocks k within full =
+    let len = length-take-le k blocks within in
+    record {
+      full = λ j before. ap length (get_or-take k blocks j [] (omega arith)) ∙ full.full j (omega arith);
+      most = λ j.
+          elim (cases_lt j k) [
+            | inl before ↦
+                let is = ap length (get_or-take k blocks j [] before) in
+                let most = full.most j in
+                omega arith
+            | inr behind ↦
+                let is = ap length (get_or_past (take k blocks) j [] (omega arith)) in
+                omega arith
+          ];
+    }

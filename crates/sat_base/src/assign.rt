@@ -5,11 +5,13 @@
 //! A search makes few assignments and its records keep many, so one is written by a builder, which has it alone, and is
 //! shared once it is finished: a copy is one more reference to the same words. The values are bits of those words, and how
 //! many there are stands beside the pointer, so that a prefix is a shorter length over what is shared. Behind that length
-//! the words keep what was written: that they differ says nothing of the values.
+//! the words keep what was written: that they differ says nothing of the values. A prefix of what nobody else holds gives
+//! back the blocks of words that it has no value in.
 //!
 //! Assignments of one search differ in few variables. So many words stand in blocks (`words.rt`), and what is made of an
 //! assignment, or beside it, holds the blocks that both have alike once.
 ghost use Rattle.std.specs.Prelude.{◌≡◌, ℕ, ◌<◌, ◌≤◌, ◌-◌, ◌*◌, ◌/◌, ◌%◌, ◌==◌, false, not, IfOk, length, replicate, slice_index_or, slice_set, take};
+ghost use Rattle.std.specs.Arc.{arc_value};
 ghost use Rattle.std.specs.Int.{bit_at};
 ghost use Rattle.sat_base.specs.Literals.{AreLiterals, clause_true, literal_true, var_of};
 
@@ -122,15 +124,15 @@ impl Assign {
         self.words.at(at)
     }
 
-    /// The values of the first variables alone, of so many.
+    /// The values of the first variables alone, of so many. Where nobody else holds the assignment, it gives back memory
+    /// that only other variables need.
     pub fn prefix(self, vars: u32) -> Assign
         ensures { result ≡ take vars self }
     {
         let Assign { len, words } = self;
-        Assign {
-            len: len.min(vars as usize),
-            words,
-        }
+        let len = len.min(vars as usize);
+        let words = first_words(words, len.div_ceil(64));
+        Assign { len, words }
     }
 
     /// The same values but for that of one variable, counted from 1, which is the other one. It costs a copy of 64 words at
@@ -194,4 +196,17 @@ impl Assign {
         }
         false
     }
+}
+
+// The words, without most of those behind the first so many where nobody else holds them.
+fn first_words(words: Arc<Words, Global>, count: usize) -> Arc<Words, Global>
+    requires { count ≤ length (arc_value words) }
+    ensures same { take count (arc_value result) ≡ take count (arc_value words) }
+    ensures enough { count ≤ length (arc_value result) }
+{
+    let mut words = words;
+    if let Some(alone) = Arc::get_mut(&mut words) {
+        alone.drop_behind(count);
+    }
+    words
 }

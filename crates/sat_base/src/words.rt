@@ -4,7 +4,7 @@
 //! many words, they stand in blocks of 64, each behind a shared pointer. A copy with one word written shares all blocks but
 //! the one that this word is in, and lists that were made apart can share each block that both have alike. Where one block
 //! is enough, the words stand in one list, which costs a reader no more than a test.
-ghost use Rattle.std.specs.Prelude.{◌≡◌, ◌<◌, IfOk, IsTrue, length, slice_index, slice_set};
+ghost use Rattle.std.specs.Prelude.{◌≡◌, ◌<◌, ◌≤◌, IfOk, IsTrue, length, slice_index, slice_set, take};
 ghost use Rattle.std.specs.List.{concat};
 ghost use Rattle.sat_base.specs.FullBlocks.{AreFull};
 
@@ -14,6 +14,9 @@ use std::sync::Arc;
 
 // How many words a block has, but for the last one, which may have fewer.
 const BLOCK: usize = 64;
+
+// Fewer words than these in one list stay as they are: there is little to give back.
+const FEW: usize = 8;
 
 #[derive(Debug, Drop)]
 struct Block {
@@ -140,6 +143,18 @@ impl Words {
             share_each(blocks, others);
         }
     }
+
+    /// Drops the blocks behind those that the first so many words are in. One list is cut where half of it and more goes.
+    pub(crate) fn drop_behind(&mut self, count: usize)
+        requires { count ≤ length self.old }
+        ensures same { take count self.new ≡ take count self.old }
+        ensures enough { count ≤ length self.new }
+    {
+        match &mut self.kept {
+            Kept::One(words) => drop_words(words, count),
+            Kept::Many(blocks) => drop_blocks(blocks, count),
+        }
+    }
 }
 
 fn without_room(words: Vec<u64>) -> Vec<u64>
@@ -220,5 +235,32 @@ fn share_each(blocks: &mut Vec<Block>, others: &[Block])
 {
     for at in 0..blocks.len().min(others.len()) {
         blocks[at].share(&others[at]);
+    }
+}
+
+// Keeps the first so many words, where half of the list and more goes.
+fn drop_words(words: &mut Vec<u64>, count: usize)
+    requires { count ≤ length words.old.items }
+    ensures same { take count words.new.items ≡ take count words.old.items }
+    ensures enough { count ≤ length words.new.items }
+{
+    if words.len() >= FEW && count <= words.len() / 2 {
+        words.truncate(count);
+        words.shrink_to_fit();
+    }
+}
+
+// Keeps the blocks that the first so many words are in.
+fn drop_blocks(blocks: &mut Vec<Block>, count: usize)
+    requires full { AreFull blocks.old.items }
+    requires in_range { count ≤ length (concat blocks.old.items) }
+    ensures same { take count (concat blocks.new.items) ≡ take count (concat blocks.old.items) }
+    ensures enough { count ≤ length (concat blocks.new.items) }
+    ensures full { AreFull blocks.new.items }
+{
+    let needed = count.div_ceil(BLOCK);
+    if needed < blocks.len() {
+        blocks.truncate(needed);
+        blocks.shrink_to_fit();
     }
 }
