@@ -12,6 +12,7 @@
 ghost use Rattle.std.specs.Prelude.{◌≡◌, [], ◌∷◌, ◌++◌, IfOk, IfSome, Some, OnOk, OnErr, slice_get};
 
 use crate::arena::{Lent, SetArena};
+use crate::marks::is_marked;
 use std::alloc::{AllocError, Global};
 use std::marker::Model;
 
@@ -24,8 +25,11 @@ const SET_BYTES: usize = 80;
 /// Sets with their evidence.
 #[derive(Drop)]
 pub struct SetIndex<E> {
+    alloc: Global,
+    groups: u32,
     sets: SetArena<E>,
     guards: Vec<u32>,
+    // None before the first set.
     lists: Vec<Vec<u32>>,
     bytes: usize,
     most: usize,
@@ -50,7 +54,7 @@ pub struct Wanted<'a> {
 
 impl Wanted<'_> {
     fn passes(&self, group: u32) -> bool {
-        group == self.but || self.marks.get(group as usize) == Some(&self.mark)
+        group == self.but || is_marked(self.marks, group) == self.mark
     }
 
     /// The first group that does not pass.
@@ -66,22 +70,19 @@ impl Wanted<'_> {
 
 impl<E> SetIndex<E> {
     /// No sets, of groups up to this one. They, their lists and their guards may take so many bytes at most; evidence is
-    /// not counted, since it is shared.
-    pub fn new(alloc: Global, groups: u32, most: usize) -> Result<SetIndex<E>, AllocError>
-        ensures { IfOk result (λ index. index ≡ []) }
+    /// not counted, since it is shared. It takes no memory before the first set.
+    pub fn new(alloc: Global, groups: u32, most: usize) -> SetIndex<E>
+        ensures { result ≡ [] }
     {
-        let mut lists = Vec::new(alloc);
-        lists.push(Vec::new(alloc))?;
-        for _ in 0..groups {
-            lists.push(Vec::new(alloc))?;
-        }
-        Ok(SetIndex {
+        SetIndex {
+            alloc,
+            groups,
             sets: SetArena::new(alloc),
             guards: Vec::new(alloc),
-            lists,
+            lists: Vec::new(alloc),
             bytes: 0,
             most,
-        })
+        }
     }
 
     /// How many sets there are.
@@ -149,6 +150,7 @@ impl<E: Drop> SetIndex<E> {
             return Err(AllocError);
         };
         self.guards.reserve(1)?;
+        begin_lists(self.alloc, &mut self.lists, self.groups)?;
         list_under(&mut self.lists, groups, number)?;
         self.sets.push(groups, evidence)?;
         self.guards
@@ -163,6 +165,23 @@ fn bytes_with(bytes: usize, groups: usize, most: usize) -> Option<usize> {
     let more = groups.checked_mul(GROUP_BYTES)?.checked_add(SET_BYTES)?;
     let with = bytes.checked_add(more)?;
     if with <= most { Some(with) } else { None }
+}
+
+// Makes a list for each group up to this one, where there are none yet.
+fn begin_lists(alloc: Global, lists: &mut Vec<Vec<u32>>, groups: u32) -> Result<(), AllocError> {
+    if lists.is_empty() {
+        *lists = empty_lists(alloc, groups)?;
+    }
+    Ok(())
+}
+
+fn empty_lists(alloc: Global, groups: u32) -> Result<Vec<Vec<u32>>, AllocError> {
+    let count = groups as usize + 1;
+    let mut lists = Vec::with_capacity(alloc, count)?;
+    for _ in 0..count {
+        lists.push(Vec::new(alloc))?;
+    }
+    Ok(lists)
 }
 
 // Writes the number of a set into the list of each of its groups. Where memory is wanting in between, some lists have a

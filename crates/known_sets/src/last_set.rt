@@ -2,24 +2,25 @@
 //!
 //! Most questions are about a set that differs from it in one group. Which one that is, is told from the two sets; and who
 //! looks up a question by that group finds the rest of the set marked, and needs no look at it.
+use crate::marks::Marks;
 use crate::neighbours::one_more;
 use gm_base::GroupSet;
-use std::alloc::{AllocError, Global};
+use std::alloc::Global;
 
 /// A set, if there is one, and marks at its groups.
 #[derive(Drop)]
 pub struct LastSet {
     set: Option<GroupSet>,
-    marks: Vec<bool>,
+    marks: Marks,
 }
 
 impl LastSet {
-    /// No set, of groups up to this one.
-    pub fn new(alloc: Global, groups: u32) -> Result<LastSet, AllocError> {
-        Ok(LastSet {
+    /// No set, of groups up to this one. It takes no memory.
+    pub fn new(alloc: Global, groups: u32) -> LastSet {
+        LastSet {
             set: None,
-            marks: no_marks(alloc, groups)?,
-        })
+            marks: Marks::new(alloc, groups),
+        }
     }
 
     /// The set, where there is one.
@@ -60,26 +61,11 @@ impl LastSet {
     pub fn replace(&mut self, alloc: Global, set: &GroupSet) {
         let copy = set.copy(alloc).ok();
         if let Some(before) = &self.set {
-            mark_all(&mut self.marks, before.as_slice(), false);
+            self.marks.clear(before.as_slice());
         }
         if let Some(now) = &copy {
-            mark_all(&mut self.marks, now.as_slice(), true);
+            self.marks.set(now.as_slice());
         }
         self.set = copy;
-    }
-}
-
-/// Marks for groups up to this one, all of them off.
-pub fn no_marks(alloc: Global, groups: u32) -> Result<Vec<bool>, AllocError> {
-    vec![in alloc; false; groups as usize + 1]
-}
-
-/// Sets the marks of these groups on or off.
-pub fn mark_all(marks: &mut [bool], groups: &[u32], mark: bool) {
-    for group in groups {
-        let at = *group as usize;
-        if at < marks.len() {
-            marks[at] = mark;
-        }
     }
 }

@@ -27,6 +27,7 @@ mod critical;
 mod entry;
 mod index;
 mod last_set;
+mod marks;
 mod memory;
 mod model_maker;
 mod neighbours;

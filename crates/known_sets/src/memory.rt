@@ -8,6 +8,9 @@
 //! Shrinking asks one question for each group of a set, and growing one for each group outside of a set, and there may be
 //! thousands. So the groups of the last refuted set and of the last satisfied set are marked, and a question that names such
 //! a set and the group is looked up without a look at the rest of the set.
+//!
+//! There is a memory for each worker, and many workers may never be asked anything. So what has a place for each group is
+//! made when the first of these is written: marks at a question, and the lists of an index at the first set in it.
 ghost use Rattle.std.specs.Prelude.{◌≡◌, true, IfOk, IfSome, List};
 ghost use Rattle.gm_base.specs.Sets.{without, with_group, IsSubset, all_groups};
 ghost use Rattle.gm_base.specs.Problem.{Problem};
@@ -47,8 +50,8 @@ impl Memory {
     {
         let groups = problem.groups();
         Ok(Memory {
-            refuted: RefutedSets::new(alloc, groups, most / 2)?,
-            satisfied: SatisfiedSets::new(alloc, groups, most / 2)?,
+            refuted: RefutedSets::new(alloc, groups, most / 2),
+            satisfied: SatisfiedSets::new(alloc, groups, most / 2),
             critical: CriticalGroups::new(alloc),
             models: ModelMaker::new(alloc, problem)?,
             told: 0,

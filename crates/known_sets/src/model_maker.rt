@@ -20,7 +20,7 @@ ghost use Rattle.known_sets.specs.Making.{MakesModelsOf};
 
 use crate::arena::set_of;
 use crate::critical::CriticalGroups;
-use crate::last_set::{mark_all, no_marks};
+use crate::marks::{Marks, is_marked};
 use crate::patience::Patience;
 use crate::refuted::RefutedSets;
 use crate::satisfied::SatisfiedSets;
@@ -56,7 +56,7 @@ pub struct ModelMaker {
     // How many questions the oracle within has answered.
     answers: u64,
     // No group is marked between repairs.
-    marks: Vec<bool>,
+    marks: Marks,
 }
 
 impl ModelMaker {
@@ -64,7 +64,6 @@ impl ModelMaker {
     pub fn new(alloc: Global, problem: &Problem) -> Result<ModelMaker, AllocError>
         ensures { IfOk result (MakesModelsOf problem.now) }
     {
-        let marks = no_marks(alloc, problem.groups())?;
         Ok(ModelMaker {
             problem: problem.copy()?,
             literals: literals_of(problem),
@@ -74,7 +73,7 @@ impl ModelMaker {
             repairs: 0,
             patience: Patience::new(),
             answers: 0,
-            marks,
+            marks: Marks::new(alloc, problem.groups()),
         })
     }
 
@@ -120,18 +119,18 @@ impl ModelMaker {
             return Ok(None);
         }
         let rotation = taken(alloc, &mut self.rotation, &self.problem)?;
-        mark_all(&mut self.marks, set.as_slice(), true);
+        self.marks.set(set.as_slice());
         let found = repair_one(
             alloc,
             &rotation,
             &self.problem,
             satisfied,
             number,
-            &self.marks,
+            self.marks.as_slice(),
             &mut self.repairs,
             most,
         );
-        mark_all(&mut self.marks, set.as_slice(), false);
+        self.marks.clear(set.as_slice());
         self.rotation = Some(rotation);
         self.patience.hear(matches!(&found, Ok(Some(_))));
         found
@@ -329,5 +328,5 @@ fn grow(flips: &mut Flips, refuted: &mut RefutedSets, groups: u32)
 fn may_be_true(marks: &[bool], refuted: &mut RefutedSets, group: u32) -> bool
     ensures { refuted.new ≡ refuted.old }
 {
-    marks.get(group as usize) != Some(&true) && !refuted.is_found(marks, group)
+    !is_marked(marks, group) && !refuted.is_found(marks, group)
 }

@@ -18,7 +18,8 @@ ghost use Rattle.known_sets.specs.Refuted.{AreRefuted};
 use crate::arena::set_of;
 use crate::entry::{Entry, Refuted};
 use crate::index::{SetIndex, Wanted};
-use crate::last_set::{LastSet, mark_all, no_marks};
+use crate::last_set::LastSet;
+use crate::marks::Marks;
 use crate::tested::are_within;
 use gm_base::{Derivation, GroupSet};
 use std::alloc::{AllocError, Global};
@@ -30,22 +31,20 @@ pub struct RefutedSets {
     held: Option<Refuted>,
     last: LastSet,
     // No group is marked between look-ups.
-    marks: Vec<bool>,
+    marks: Marks,
 }
 
 impl RefutedSets {
-    /// No sets, of groups up to this one, and so many bytes at most.
-    pub fn new(alloc: Global, groups: u32, most: usize) -> Result<RefutedSets, AllocError>
-        ensures { (p : Problem) → IfOk result (AreRefuted p) }
+    /// No sets, of groups up to this one, and so many bytes at most. It takes no memory.
+    pub fn new(alloc: Global, groups: u32, most: usize) -> RefutedSets
+        ensures { (p : Problem) → AreRefuted p result }
     {
-        let marks = no_marks(alloc, groups)?;
-        let last = LastSet::new(alloc, groups)?;
-        Ok(RefutedSets {
-            sets: SetIndex::new(alloc, groups, most)?,
+        RefutedSets {
+            sets: SetIndex::new(alloc, groups, most),
             held: None,
-            last,
-            marks,
-        })
+            last: LastSet::new(alloc, groups),
+            marks: Marks::new(alloc, groups),
+        }
     }
 
     /// The groups of the set that was answered last are marked.
@@ -111,13 +110,13 @@ impl RefutedSets {
         ensures sets { self.new.sets ≡ self.old.sets }
         ensures held { self.new.held ≡ self.old.held }
     {
-        mark_all(&mut self.marks, set.as_slice(), true);
+        self.marks.set(set.as_slice());
         let found = self.sets.find(Wanted {
-            marks: &self.marks,
+            marks: self.marks.as_slice(),
             mark: true,
             but: group,
         });
-        mark_all(&mut self.marks, set.as_slice(), false);
+        self.marks.clear(set.as_slice());
         found
     }
 

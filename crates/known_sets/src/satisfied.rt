@@ -14,7 +14,8 @@ ghost use Rattle.known_sets.specs.Entries.{IsSatisfied};
 
 use crate::arena::Lent;
 use crate::index::{SetIndex, Wanted};
-use crate::last_set::{LastSet, mark_all, no_marks};
+use crate::last_set::LastSet;
+use crate::marks::Marks;
 use crate::numbers::SetNumbers;
 use crate::tested::{misses, misses_but};
 use gm_base::{Assign, GroupSet};
@@ -28,7 +29,7 @@ pub struct SatisfiedSets {
     numbers: SetNumbers,
     last: LastSet,
     // No group is marked between look-ups.
-    marks: Vec<bool>,
+    marks: Marks,
 }
 
 impl Model for SatisfiedSets {
@@ -41,18 +42,16 @@ impl Model for SatisfiedSets {
 }
 
 impl SatisfiedSets {
-    /// No sets, of groups up to this one, and so many bytes at most.
-    pub fn new(alloc: Global, groups: u32, most: usize) -> Result<SatisfiedSets, AllocError>
-        ensures { IfOk result (λ sets. sets ≡ []) }
+    /// No sets, of groups up to this one, and so many bytes at most. It takes no memory.
+    pub fn new(alloc: Global, groups: u32, most: usize) -> SatisfiedSets
+        ensures { result ≡ [] }
     {
-        let marks = no_marks(alloc, groups)?;
-        let last = LastSet::new(alloc, groups)?;
-        Ok(SatisfiedSets {
-            index: SetIndex::new(alloc, groups, most)?,
+        SatisfiedSets {
+            index: SetIndex::new(alloc, groups, most),
             numbers: SetNumbers::new(alloc, groups),
-            last,
-            marks,
-        })
+            last: LastSet::new(alloc, groups),
+            marks: Marks::new(alloc, groups),
+        }
     }
 
     /// The complement of this number, and its assignment.
@@ -131,13 +130,13 @@ impl SatisfiedSets {
         let Some(group) = by else {
             return self.numbers.outside(set.as_slice());
         };
-        mark_all(&mut self.marks, set.as_slice(), true);
+        self.marks.set(set.as_slice());
         let found = self.index.find(Wanted {
-            marks: &self.marks,
+            marks: self.marks.as_slice(),
             mark: false,
             but: group,
         });
-        mark_all(&mut self.marks, set.as_slice(), false);
+        self.marks.clear(set.as_slice());
         found
     }
 

@@ -7,7 +7,7 @@ use Rattle.known_sets.proofs.memory.Memory.new.Goals as goal
 pub returns : goal.returns
 returns c =
     record {
-      refuted = c.in_ok-new.ensures c.args.problem.now;
-      satisfied = subst (All (IsSatisfied c.args.problem.now)) (sym c.in_ok-new-2.ensures) (λ k d none. absurd (omega arith));
-      models = c.in_ok-new-3.ensures;
+      refuted = c.new.ensures c.args.problem.now;
+      satisfied = subst (All (IsSatisfied c.args.problem.now)) (sym c.new-2.ensures) (λ k d none. absurd (omega arith));
+      models = c.in_ok-new.ensures;
     }
