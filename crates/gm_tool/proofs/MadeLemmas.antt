@@ -9,3 +9,7 @@ all_hold P xs made each same = λ k d low.
     let size = length-map xs Ok in
     let bound = subst (λ n. k < n) (sym size ∙ ap length same) low in
     subst (λ r. IfOk r P) (ap (λ l. get_or l k (Ok d)) (sym same) ∙ get_or-map Ok xs k d (Ok d) low) (each k (Ok d) bound)
+
+-- there are as many of them
+pub as_many : {X E : Type 0} (xs : List X) (made : List (Result X E)) → map Ok xs ≡ made → length xs ≡ length made
+as_many xs made same = sym (length-map xs Ok) ∙ ap length same

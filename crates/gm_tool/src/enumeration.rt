@@ -3,6 +3,7 @@ ghost use Rattle.std.specs.Prelude.{◌≡◌, ◌<◌, ◌≤◌, ◌^◌, fals
 ghost use Rattle.evidence_rec.specs.Records.{AllAccepted};
 ghost use Rattle.evidence_rec.specs.Seeding.{new_engine};
 ghost use Rattle.gm_words.specs.Requests.{AreGoodJobs};
+ghost use Rattle.group_oracle.specs.Fresh.{IsFresh as IsUnasked};
 ghost use Rattle.worker_pool.specs.Workers.{IsFresh};
 ghost use Rattle.gm_tool.specs.Closed.{IsLeft, greatest_bounds};
 ghost use Rattle.gm_tool.specs.Resuming.{AreGoodFirst};
@@ -115,7 +116,8 @@ pub fn fresh_map(alloc: Global, groups: u32, goal: Goal) -> Result<PowerMap, All
     }
 }
 
-/// An oracle for each worker, which remembers these records and what it is answered. All are made at once, in threads.
+/// An oracle for each worker, which remembers these records and what it is answered. All are made at once, in threads, as
+/// twins of one, so that the clauses stand once.
 pub fn fresh_oracles<R: Threads + Sync>(
     rt: &R,
     alloc: Global,
@@ -127,14 +129,16 @@ pub fn fresh_oracles<R: Threads + Sync>(
     ensures count { IfOk result (λ oracles. length oracles.items ≡ count) }
     ensures fresh { IfOk result (λ oracles. All (λ o. IsFresh problem.now o) oracles.items) }
 {
+    let solver = GroupOracle::new(alloc, problem)?;
     let made = thread::map_indices(
         rt,
         alloc,
         count as usize,
         &|_: usize| -> Result<KnownSets<GroupOracle>, AllocError>
-            requires { AllAccepted problem.now first.now }
+            requires accepted { AllAccepted problem.now first.now }
+            requires same { solver.problem ≡ problem.now }
             ensures { IfOk result (IsFresh problem.entry.now) }
-        { fresh_oracle(alloc, problem, first) },
+        { twin_of(alloc, problem, &solver, first) },
     )?;
     all_of(alloc, made)
 }
@@ -160,6 +164,35 @@ pub fn fresh_oracle(
     ensures { IfOk result (IsFresh problem.now) }
 {
     let solver = GroupOracle::new(alloc, problem)?;
+    remembering(alloc, problem, solver, first)
+}
+
+// The same, which shares the clauses of one that is there.
+fn twin_of(
+    alloc: Global,
+    problem: &Problem,
+    solver: &GroupOracle,
+    first: &[Record],
+) -> Result<KnownSets<GroupOracle>, AllocError>
+    requires accepted { AllAccepted problem.now first.now }
+    requires same { solver.now.problem ≡ problem.now }
+    ensures { IfOk result (IsFresh problem.now) }
+{
+    let twin = solver.twin(alloc)?;
+    remembering(alloc, problem, twin, first)
+}
+
+// An oracle that remembers these records, and what it is answered, around one that was asked nothing.
+fn remembering(
+    alloc: Global,
+    problem: &Problem,
+    solver: GroupOracle,
+    first: &[Record],
+) -> Result<KnownSets<GroupOracle>, AllocError>
+    requires accepted { AllAccepted problem.now first.now }
+    requires unasked { IsUnasked problem.now solver }
+    ensures { IfOk result (IsFresh problem.now) }
+{
     let mut oracle = KnownSets::new(alloc, problem, solver)?;
     know_all(alloc, &mut oracle, first);
     Ok(oracle)
