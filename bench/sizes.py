@@ -57,6 +57,22 @@ def clauses(folder, name, count):
     return put(folder, name, b"p gcnf 1 %d 1\n" % count, (b"{0} 1 0\n", 1000000), (b"{1} 0\n", count - 1000000))
 
 
+def full(folder, name):
+    """As many groups, clauses and bytes as there may be: a clause of each group says that the variable holds, the others are
+    empty and of group 1, and the rest of the bytes is a comment."""
+    groups, count, length = 1048576, 16777216, 134217728
+    path = put(folder, name, b"p gcnf 1 %d %d\n" % (count, groups))
+    with open(path, "ab") as out:
+        for group in range(1, groups + 1):
+            out.write(b"{%d} 1 0\n" % group)
+        for _ in range(count - groups):
+            out.write(b"{1} 0\n")
+        out.write(b"c")
+        for _ in range(length - out.tell()):
+            out.write(b"x")
+    return path
+
+
 def literals(folder, name, count, header=b"p gcnf 4194304 1000 0\n", group=b"{0} "):
     """So many literals in a thousand clauses, of which the last may be longer."""
     each = count // 1000
@@ -77,8 +93,8 @@ def alone_report(groups):
     return f"p gmus {groups}\ns COMPLETE\n{sets}e {groups} 1\n".encode()
 
 
-def one_report():
-    return b"p gmus 1\ns COMPLETE\nu 1 0\nm 1 0\ne 1 1\n"
+def one_report(groups=1):
+    return f"p gmus {groups}\ns COMPLETE\nu 1 0\nm 1 0\ne 1 1\n".encode()
 
 
 def empty_report(groups):
@@ -103,6 +119,7 @@ def limit_rows(folder):
     yield "1,048,577 clauses in CNF", put(folder, "d", b"p cnf 1 1048577"), 5, b"", REFUSED + "9 TooLarge groups at line 1 byte 9\n"
     yield "16,777,217 clauses in CNF", put(folder, "d", b"p cnf 1 16777217"), 5, b"", REFUSED + "9 TooLarge clauses at line 1 byte 9\n"
     yield "16,777,216 clauses", clauses(folder, "c", 16777216), 0, one_report(), ""
+    yield "all groups, clauses and bytes", full(folder, "f"), 0, one_report(1048576), ""
     yield "16,777,217 clauses", clauses(folder, "c", 16777217), 5, b"", REFUSED + "9 TooLarge clauses at line 1 byte 10\n"
     yield "8,000,000 literals", literals(folder, "l", 8000000), 0, empty_report(0), ""
     yield "8,000,001 literals", literals(folder, "l", 8000001), 5, b"", REFUSED + "9 TooLarge literals at line 1001 byte 16005\n"
