@@ -2,12 +2,17 @@
 # Runs the program on the examples, and once for each way in which a run can end. Compares what it wrote, its status and
 # its line on standard error.
 #
-#     examples/check.sh [PROGRAM]       without PROGRAM: ./gmus, which builds where that is due
+#     examples/check.sh [PROGRAM]       without PROGRAM: the one that ./gmus runs, which it builds where that is due
 #
 # No proof says what the system does with what it is handed, so this looks at it from outside: reports that come whole
 # through a slow pipe, and devices, pipes and files that take only a part of one.
 here=$(CDPATH='' cd -- "$(dirname -- "$0")" && pwd) || exit 1
-program=${1:-$here/../gmus}
+program=${1-}
+if [ -z "$program" ]; then
+    "$here/../gmus" drill 0 1 >/dev/null || exit 1
+    program=$here/../bin/gmus
+    [ -f "$program" ] || program=$here/../crates/gmus/out/gmus
+fi
 case $program in /*) ;; *) program=$PWD/$program ;; esac
 room=$(mktemp -d) || exit 1
 trap 'rm -rf "$room"' EXIT

@@ -5,11 +5,14 @@
 
 What the toolchain says goes to build.log at the top of the repository, a crate at a time; on standard error there is a line
 for each crate that is done with, and how long it has been so far. Where one fails, nothing above it is begun, and the
-status is 1.
+status is 1. It goes on where nobody reads standard error. What a call of the toolchain that was cut off left in a crate's out/,
+half copied, is removed before each call, since with it there the toolchain checks nothing.
 """
 import contextlib
+import glob
 import os
 import re
+import shutil
 import signal
 import subprocess
 import sys
@@ -45,6 +48,36 @@ def ends_of(below, top):
     while len(left) > 1 and set(lowest_first(below, left[-1])) == set(left):
         ends.insert(0, left.pop())
     return ends
+
+
+def began_at(process):
+    """When the process of this number began, in seconds since 1970, or 0 where that is not told; None where there is none, or
+    it has ended."""
+    try:
+        with open(f"/proc/{process}/stat", encoding="utf-8", errors="replace") as file:
+            # The name of its program, in brackets, may have blanks; its state is the first word behind it.
+            words = file.read().rpartition(")")[2].split()
+        with open("/proc/stat", encoding="ascii") as file:
+            booted = [int(line.split()[1]) for line in file if line.startswith("btime ")]
+    except OSError:
+        return None
+    if words[0] in "ZX":
+        return None
+    return booted[0] + int(words[19]) / os.sysconf("SC_CLK_TCK") if booted else 0
+
+
+def remove_left(top):
+    """Removes the folders in crates' out/ into which a call of the toolchain was copying when it was stopped.
+
+    Such a folder is named by the number of its process. That has ended, or the number is now that of one that began later."""
+    for path in glob.glob(os.path.join(glob.escape(top), "crates", "*", "out", "rt-work-*-*")):
+        process = os.path.basename(path).split("-")[2]
+        if process.isdigit() and not os.path.islink(path):
+            then = began_at(process)
+            with contextlib.suppress(OSError):
+                # When the machine began is told in whole seconds.
+                if then is None or then > os.lstat(path).st_mtime + 2:
+                    shutil.rmtree(path)
 
 
 class Building:
@@ -134,6 +167,7 @@ def beside_the_look(crates):
 
 def call(words, crate, building, is_enough):
     """Calls the toolchain in a crate's folder, and gives its status; where it is enough it is stopped, which is well."""
+    remove_left(TOP)
     with subprocess.Popen(words, cwd=os.path.join(TOP, "crates", crate), stdin=subprocess.DEVNULL, stdout=subprocess.PIPE,
                           stderr=subprocess.STDOUT, universal_newlines=True, errors="replace", start_new_session=True) as going:
         try:
@@ -148,6 +182,15 @@ def call(words, crate, building, is_enough):
     return going.returncode
 
 
+def say(line):
+    """Says a line on standard error. Where nobody reads that, nothing is said from then on."""
+    try:
+        # Where it was closed from the beginning, `print` would write to standard output.
+        print(line, file=sys.stderr or open(os.devnull, "w", encoding="utf-8"), flush=True)
+    except OSError:
+        os.dup2(os.open(os.devnull, os.O_WRONLY), sys.stderr.fileno())
+
+
 def main(words):
     if words:
         raise WrongWords("it takes no words")
@@ -159,7 +202,7 @@ def main(words):
         done.append(crate)
         minutes = int(time.monotonic() - began) // 60
         so_far = f", {minutes} min so far" if minutes else ""
-        print(f"{PROGRAM}: {crate} is done, {len(done)} of {many}{so_far}", file=sys.stderr, flush=True)
+        say(f"{PROGRAM}: {crate} is done, {len(done)} of {many}{so_far}")
 
     with open(os.path.join(TOP, "build.log"), "w", encoding="utf-8") as log:
         if prove(PROGRAM, below, log, told):

@@ -145,6 +145,8 @@ class Documents(unittest.TestCase):
         self.assertEqual(usage[len(commands):len(commands) + len(wanted)], wanted)
         self.assertIn(usage[-2].rstrip("."), readme)
         self.assertIn("```text\n" + "\n".join(commands) + "\n```", text_of("docs/FORMATS.md"))
+        passed_on = re.search(r"(?m)^    ([a-z |]+)\) ;;$", text_of("gmus"))[1]
+        self.assertEqual(passed_on.split(" | "), [it.split()[1] for it in commands])
 
     def test_the_man_page_is_the_one_that_is_made(self):
         self.assertEqual(man.page(), text_of("docs/gmus.1"), "tools/man.py > docs/gmus.1 makes it anew")

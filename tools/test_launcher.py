@@ -1,6 +1,6 @@
 #!/usr/bin/env python3
-"""Tests of ./gmus over a made-up repository and a made-up rt: when it builds, what it says, and what it passes on, to a
-file and to a terminal."""
+"""Tests of ./gmus over a made-up repository and a made-up rt: when it builds, what it says by itself, and what it passes on, to
+a file and to a terminal."""
 import fcntl
 import os
 import pty
@@ -11,6 +11,7 @@ import subprocess
 import tempfile
 import termios
 import threading
+import time
 import unittest
 
 TOP = os.path.dirname(os.path.dirname(os.path.abspath(__file__)))
@@ -41,12 +42,12 @@ shift
 mkdir -p out && cp "$ROOM/program" out/gmus && out/gmus "$@"
 """
 
-# What the program is asked for in these tests; any other words end as a refused file does.
+# What the program is asked for in these tests, behind a command; any other words end as a refused file does.
 PROGRAM = """#!/bin/sh
-case $1 in
-    ends) exit "$2" ;;
+case ${2-} in
+    ends) exit "$3" ;;
     tells) echo "$$ $(sed -n 's/^SigIgn:.*\\(.\\)$/\\1/p' /proc/$$/status) $([ -e /dev/fd/0 ] && cat)" && exit 0 ;;
-    dies) kill -s "$2" $$ ;;
+    dies) kill -s "$3" $$ ;;
     waits) echo $$ && exec sleep 9 ;;
     lingers) trap 'sleep 0.2; echo " done"; exit 7' INT TERM HUP && echo $$ && while :; do sleep 0.05; done ;;
 esac
@@ -60,6 +61,9 @@ SAID = ("gmus: building, which proves each crate first; what is said of it goes 
         "gmus: low is done, 1 of 2\ngmus: gmus is done, 2 of 2\n")
 BUILT = ["all gmus", "run gmus"]
 BAD = "gmus: bad command line\n"
+COMMANDS = ("list", "check", "drill", "export", "roles", "carry")
+CHANGES = "# Changes\n\n## Next\n\n- More.\n\n## 2.10.0, 2031-01-02\n\n- Some.\n\n## 2.9.0, 2030-01-02\n"
+MADE_OF = "gmus 2.10.0, for Linux on x86_64\ncommit: 12ab\ntoolchain: a kit, logic 12ab\nC library: GLIBC_2.34 or newer\n"
 
 
 def usage():
@@ -79,6 +83,7 @@ class Launcher(unittest.TestCase):
         self.write("crates.txt", "# NAME: libraries\nlow:\nother: low  # nothing of gmus\ngmus tests_may=Wait: low std\n")
         for crate in ("low", "other", "gmus"):
             self.write(f"crates/{crate}/src/lib.rt", "")
+        self.write("CHANGELOG.md", CHANGES)
         self.write("bin/rt", RT, executable=True)
         self.write("program", PROGRAM, executable=True)
 
@@ -147,29 +152,29 @@ class Launcher(unittest.TestCase):
 
     def test_the_first_call_builds_and_the_next_does_not(self):
         self.assertEqual(self.run_it("list", "a b"), (5, "to output: list a b", SAID + "to errors\n"))
-        self.assertEqual(self.run_it("x"), (5, "to output: x", "to errors\n"))
+        self.assertEqual(self.run_it("list"), (5, "to output: list", "to errors\n"))
         self.assertEqual(self.builds(), BUILT)
 
     def test_the_last_crate_gets_all_processors(self):
         self.write("is_slow", "")
-        self.assertEqual(self.run_it("x"), (5, "to output: x", SAID + "to errors\n"))
+        self.assertEqual(self.run_it("list"), (5, "to output: list", SAID + "to errors\n"))
         self.assertEqual(self.builds(), BUILT)
 
     def test_a_newer_source_of_a_crate_below_builds_again(self):
-        self.run_it("x")
+        self.run_it("list")
         for name, again in (("crates/low/src/lib.rt", 1), ("crates/gmus/src", 1), ("crates.txt", 1),
                             ("crates/other/src/lib.rt", 0), ("crates/low", 0)):
             before = self.builds()
             self.age(name, 5)
-            self.run_it("x")
+            self.run_it("list")
             self.assertEqual(self.builds()[len(before):], BUILT * again, name)
             self.age(name, -5)
 
     def test_where_the_build_fails_nothing_is_run(self):
-        self.run_it("x")
+        self.run_it("list")
         self.write("fails", "")
         self.age("crates/low/src/lib.rt", 5)
-        status, output, said = self.run_it("x")
+        status, output, said = self.run_it("list")
         self.assertEqual((status, output), (127, ""))
         self.assertTrue(said.endswith(f"gmus: the build failed: see the end of {self.room}/build.log, and CONTRIBUTING.md\n"))
         with open(self.room + "/build.log") as log:
@@ -178,28 +183,94 @@ class Launcher(unittest.TestCase):
 
     def test_without_the_toolchain_it_says_so(self):
         folders = [it for it in os.environ["PATH"].split(":") if not os.path.exists(it + "/rt")]
-        status, output, said = self.run_it("x", path=":".join(folders))
+        status, output, said = self.run_it("list", path=":".join(folders))
         self.assertEqual((status, output), (127, ""))
         self.assertEqual(said, "gmus: not built: the toolchain's command 'rt' is not there\n")
 
     def test_a_program_that_lost_its_leave_to_run_is_run(self):
-        self.run_it("x")
+        self.run_it("list")
         os.chmod(self.room + "/crates/gmus/out/gmus", 0o644)
-        self.assertEqual(self.run_it("x"), (5, "to output: x", "to errors\n"))
+        self.assertEqual(self.run_it("list"), (5, "to output: list", "to errors\n"))
 
-    def test_help_builds_nothing_and_ends_as_a_bad_command_line(self):
-        for words in ([], ["help"], ["-h"], ["--help", "x"], ["help", "list"]):
-            self.assertEqual(self.run_it(*words), (2, "", BAD), words)
+    def test_help_is_the_usage_and_builds_nothing(self):
+        for words in (["help"], ["-h"], ["--help", "x"], ["help", "list"]):
+            self.assertEqual(self.run_it(*words), (0, usage(), ""), words)
+            self.assertEqual(self.at_terminal(*words), (0, usage(), ""), words)
+        self.assertEqual(self.builds(), [])
+
+    def test_no_words_and_no_command_are_a_bad_command_line_and_build_nothing(self):
+        for words in ([], [""], ["lst"], ["lst", "f"], ["List", "f"], ["--jobs", "2", "list", "f"], ["--", "list", "f"], ["-"],
+                      ["--helpme"], ["lis*"], ["list\n"], ["list f"], [b"\xff"]):
+            self.assertEqual(self.run_it(*words), (2, "", BAD + usage()), words)
             self.assertEqual(self.at_terminal(*words), (2, "", BAD + usage()), words)
         self.assertEqual(self.builds(), [])
 
+    def test_each_command_reaches_the_program_with_all_its_words(self):
+        self.write("bin/gmus", PROGRAM, executable=True)
+        for command in COMMANDS:
+            for words in ([command], [command, "--help"], [command, "", "a  b"]):
+                self.assertEqual(self.run_it(*words), (5, "to output: " + " ".join(words), "to errors\n"), words)
+
+    def test_the_version_is_the_newest_with_a_number(self):
+        for words in (["--version"], ["-V"], ["-V", "list"]):
+            self.assertEqual(self.run_it(*words), (0, "gmus 2.10.0\n", ""), words)
+            self.assertEqual(self.at_terminal(*words), (0, "gmus 2.10.0\n", ""), words)
+        self.write("bin/gmus", PROGRAM, executable=True)
+        self.write("MADE-OF", MADE_OF)
+        self.assertEqual(self.run_it("-V"), (0, "gmus 2.10.0\ntoolchain: a kit, logic 12ab\n", ""))
+        self.write("CHANGELOG.md", "# Changes\n\n## Next\n")
+        self.assertEqual(self.run_it("-V"), (127, "", f"gmus: no version: {self.room}/CHANGELOG.md tells none\n"))
+        self.assertEqual(self.builds(), [])
+
+    @unittest.skipUnless(os.path.exists("/dev/full"), "no full device: usage and version are not written to one")
+    def test_usage_and_version_that_can_not_be_written(self):
+        for word, what in (("help", "usage"), ("--version", "version")):
+            for end in (">/dev/full", ">&-"):
+                ended = subprocess.run(["sh", "-c", f'exec "$0" "$1" {end}', self.room + "/gmus", word], stderr=subprocess.PIPE,
+                                       universal_newlines=True, check=False)
+                self.assertEqual((ended.returncode, ended.stderr), (7, f"gmus: write fault on {what}\n"), (word, end))
+
+    def test_it_goes_on_where_nobody_reads_standard_error(self):
+        reader, gone = os.pipe()
+        os.close(reader)
+        for times, before in ((1, lambda: None), (2, lambda: os.close(2))):
+            for words, status, output in (([], 2, ""), (["lst"], 2, ""), (["list", "ends", "9"], 9, ""),
+                                          (["list", "f", "ends"], None, "to output: list f ends")):
+                with self.begun(words, gone, before=before) as going:
+                    told = going.stdout.read().decode()
+                self.assertEqual(told, output, words)
+                if status is not None:
+                    self.assertEqual(going.returncode, status, words)
+            self.assertEqual(self.builds(), BUILT * times)
+            os.remove(self.room + "/crates/gmus/out/gmus")
+        os.close(gone)
+
+    def test_a_build_removes_what_calls_that_are_gone_left_half_copied(self):
+        gone = subprocess.Popen(["true"])
+        gone.wait()
+        later = subprocess.Popen(["sleep", "60"])
+        self.addCleanup(later.wait)
+        self.addCleanup(later.kill)
+        rows = (("low", f"rt-work-{gone.pid}-ab_c1", 0, False), ("other", f"rt-work-{gone.pid}-d-2", 0, False),
+                ("low", f"rt-work-{os.getpid()}-ab_c1", 0, True), ("gmus", f"rt-work-{later.pid}-ab_c1", -3600, False),
+                ("low", "rt-work-x-ab_c1", 0, True), ("low", f"rt-new-{gone.pid}-ab_c1", 0, True))
+        for crate, name, seconds, _ in rows:
+            self.write(f"crates/{crate}/out/{name}/rlib/low.antt", "half of it")
+            then = time.time() + seconds
+            os.utime(f"{self.room}/crates/{crate}/out/{name}", (then, then))
+        os.symlink(self.room + "/bin", f"{self.room}/crates/low/out/rt-work-{gone.pid}-link")
+        self.assertEqual(self.run_it("list"), (5, "to output: list", SAID + "to errors\n"))
+        for crate, name, _, stays in rows:
+            self.assertEqual(os.path.exists(f"{self.room}/crates/{crate}/out/{name}"), stays, name)
+        self.assertTrue(os.path.exists(self.room + "/bin/rt"))
+
     def test_only_a_terminal_is_told_the_usage_and_only_behind_a_2(self):
-        self.run_it("x")
+        self.run_it("list")
         for words, status, output, said in (
-                (["ends", "2"], 2, "", usage()),
-                (["ends", "0"], 0, "", ""),
-                (["ends", "9"], 9, "", ""),
-                (["", "a  b"], 5, "to output:  a  b", "to errors\n"),
+                (["list", "ends", "2"], 2, "", usage()),
+                (["list", "ends", "0"], 0, "", ""),
+                (["list", "ends", "9"], 9, "", ""),
+                (["check", "", "a  b"], 5, "to output: check  a  b", "to errors\n"),
         ):
             self.assertEqual(self.at_terminal(*words), (status, output, said), words)
             self.assertEqual(self.run_it(*words), (status, output, said.replace(usage(), "")), words)
@@ -213,7 +284,7 @@ class Launcher(unittest.TestCase):
                 (plain, subprocess.PIPE, "0", "in put", False), (plain, None, "0", "in put", True),
                 (ignores, subprocess.PIPE, "2", "in put", False), (ignores, None, "2", "in put", False),
                 (closed, None, "0", "", False)):
-            with self.begun(["tells"], errors, **how) as going:
+            with self.begun(["list", "tells"], errors, **how) as going:
                 told = going.communicate(b"in put" if how is not closed else None)[0].decode().rstrip("\n").split(" ", 2)
             self.assertEqual((told[0] != str(going.pid), told[1], told[2]), (is_beside, ignored, given), (how, errors))
 
@@ -221,14 +292,14 @@ class Launcher(unittest.TestCase):
         self.write("bin/gmus", PROGRAM, executable=True)
         for name in ("INT", "TERM", "HUP", "KILL", "SEGV", "PIPE"):
             for run in (self.run_it, self.at_terminal):
-                self.assertEqual(run("dies", name)[0], -getattr(signal, "SIG" + name), (name, run))
+                self.assertEqual(run("list", "dies", name)[0], -getattr(signal, "SIG" + name), (name, run))
 
     def test_signals_reach_the_program_and_its_end_is_waited_for(self):
         self.write("bin/gmus", PROGRAM, executable=True)
         for word, status, output in (("waits", None, b""), ("lingers", 7, b" done\n")):
             for name, keys in (("INT", None), ("INT", b"\x03"), ("TERM", None), ("HUP", None)):
                 row = word, name, keys
-                with self.begun([word], None) as going:
+                with self.begun(["list", word], None) as going:
                     program = int(going.stdout.readline())
                     if keys:
                         os.write(self.terminal, keys)
@@ -241,8 +312,8 @@ class Launcher(unittest.TestCase):
     def test_a_release_builds_nothing(self):
         self.write("bin/gmus", PROGRAM, executable=True)
         os.symlink(self.room + "/gmus", self.room + "/bin/linked")
-        self.assertEqual(self.run_it("x"), (5, "to output: x", "to errors\n"))
-        self.assertEqual(self.run_it("x", launcher="/bin/linked"), (5, "to output: x", "to errors\n"))
+        self.assertEqual(self.run_it("list"), (5, "to output: list", "to errors\n"))
+        self.assertEqual(self.run_it("list", launcher="/bin/linked"), (5, "to output: list", "to errors\n"))
         self.assertEqual(self.builds(), [])
 
 
