@@ -82,6 +82,8 @@ try_archive() { # the archive
     mkdir "$room/empty" && cd "$room/empty" && tar xzf "$1" && cd "$name" || fails "the archive can't be unpacked"
     try 'its checksums' '' sha256sum -c --quiet SHA256SUMS
     try 'gmus list' examples/laptop.report ./gmus list examples/laptop.gcnf
+    { echo "gmus $version" && sed -n '/^toolchain: /p' MADE-OF; } >"$room/version"
+    try 'gmus --version' "$room/version" ./gmus --version
     try 'gmus check' examples/first.report ./gmus check examples/first.gcnf examples/first.evidence
     try 'gmus drill' '' ./gmus drill 7 12
     try 'examples/check.sh' '' examples/check.sh "$PWD/bin/gmus"
