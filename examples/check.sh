@@ -1,6 +1,6 @@
 #!/bin/sh
 # Runs the program on the examples, and once for each way in which a run can end. Compares what it wrote, its status and
-# its line on standard error.
+# what it said on standard error: a line, and behind a 2, 6 or 7 a second one.
 #
 #     examples/check.sh [PROGRAM]       without PROGRAM: the one that ./gmus runs, which it builds where that is due
 #
@@ -24,8 +24,13 @@ differs() { # what was tried, and what is wrong with it
     failed=1
 }
 
-# Judges the run before: its status, its line on standard error, and its output in the file out.
-judge() { # what was tried, wanted status, wanted line, file with the wanted output
+# Two lines on standard error.
+both() { # the first, and what the second says
+    printf '%s\n  %s' "$1" "$2"
+}
+
+# Judges the run before: its status, what it said on standard error, and its output in the file out.
+judge() { # what was tried, wanted status, wanted line or both, file with the wanted output
     if [ "$status" != "$2" ]; then
         differs "$1" "status $status in place of $2"
     elif [ "$(cat err)" != "$3" ]; then
@@ -37,7 +42,7 @@ judge() { # what was tried, wanted status, wanted line, file with the wanted out
     fi
 }
 
-try() { # what to try, wanted status, wanted line, file with the wanted output, the program's words
+try() { # what to try, wanted status, wanted line or both, file with the wanted output, the program's words
     what=$1 wanted=$2 line=$3 output=$4
     shift 4
     "$program" "$@" >out 2>err </dev/null
@@ -104,13 +109,77 @@ for jobs in 1 2 3 7 64; do
     try_partial "a limit of 5 by $jobs" 4 'gmus: limit of 5 records reached' "$here/laptop.report" 5 list "$here/laptop.gcnf" --limit 5 --jobs "$jobs"
 done
 
-bad='gmus: bad command line'
-try 'no words' 2 "$bad" nothing
-try 'another command' 2 "$bad" nothing lost "$here/first.gcnf"
-try 'no file' 2 "$bad" nothing list
-try 'a limit of 0' 2 "$bad" nothing list "$here/first.gcnf" --limit 0
-try 'no worker' 2 "$bad" nothing list "$here/first.gcnf" --jobs 0
-try '65 workers' 2 "$bad" nothing list "$here/first.gcnf" --jobs 65
+# Words without a reading: the second line has the word that can't stand there, and says what may.
+wrong() { # what the second line says, the program's words
+    more=$1
+    shift
+    try "wrong words: $*" 2 "$(both 'gmus: bad command line' "$more")" nothing "$@"
+}
+first="has to be list, check, drill, export, roles or carry"
+for word in lst List help --help -h --version -V -- - --jobs list.gcnf ''; do
+    wrong "$word: the first word $first" "$word" list f
+done
+wrong 'the first word is missing: list, check, drill, export, roles or carry'
+wrong "l\\u{a}\\u{1b}st: the first word $first" "$(printf 'l\n\033st')"
+wrong 'list: FILE is missing' list
+wrong 'list: FILE is missing' list --jobs 2
+wrong 'check: FILE is missing' check
+wrong 'check: EVIDENCE is missing' check f
+wrong 'drill: SEED is missing' drill
+wrong 'drill: SIZE is missing' drill 7
+wrong 'export: NUMBER is missing' export f e
+wrong 'export: LRAT is missing' export f e 1 cnf
+wrong 'roles: FILE is missing' roles --focus 1
+wrong 'carry: NEW is missing' carry f e
+wrong 'g: one word too many, as list takes FILE' list f g
+wrong 'g: one word too many, as check takes FILE and EVIDENCE' check f e g
+wrong '3: one word too many, as drill takes SEED and SIZE' drill 1 2 3
+wrong 'g: one word too many, as export takes FILE, EVIDENCE, NUMBER, CNF and LRAT' export f e 1 cnf lrat g
+wrong '--jobs: one word too many, as roles takes FILE' roles f -- --jobs 2
+wrong 'g: one word too many, as carry takes OLD, EVIDENCE and NEW' carry f e f g
+options='--jobs, --conflicts, --limit, --evidence, --resume, --journal and --focus'
+for word in --job --help -j --Jobs --jobs2 --=2; do
+    wrong "${word%=*}: list takes $options" list f "$word" 2
+done
+wrong '--limit: check takes --focus' check f e --limit=5
+wrong '--limit: drill takes --jobs' drill 7 12 --limit 5
+wrong '-1: drill takes --jobs' drill -1 12
+wrong '--jobs: export takes no option' export f e 1 cnf lrat --jobs 2
+wrong '--limit: roles takes --jobs and --focus' roles f --limit 3
+wrong '--focus: carry takes --jobs and --evidence' carry f e f --focus 1
+for value in 0 65 -0 x 1.5 '' ' 1' 18446744073709551617; do
+    wrong "--jobs $value: has to be a number from 1 to 64" list f "--jobs=$value"
+done
+wrong '--limit 0: has to be a number from 1 to 1000000000' list f --limit 0
+wrong '--conflicts 18446744073709551616: has to be a number from 0 to 18446744073709551615' list f --conflicts=18446744073709551616
+list='a list of numbers from 1 to 4294967295 with commas between them'
+for value in 1-3 0 1,,2 '1, 2' 4294967296 ''; do
+    wrong "--focus $value: has to be $list" list f "--focus=$value"
+done
+wrong '--jobs: a number from 1 to 64 is missing' list f --jobs
+wrong '--jobs: a number from 1 to 64 is missing' list --jobs --limit 5 f
+wrong '--conflicts: a number from 0 to 18446744073709551615 is missing' list f --conflicts -1
+wrong '--evidence: a name is missing' list f --evidence
+wrong "--focus: $list is missing" check f e --focus
+wrong '--jobs: may stand once' list f --jobs 2 --jobs=3
+wrong '--evidence: may stand once' carry f e f --evidence a --evidence
+wrong '0: SIZE has to be a number from 1 to 1000' drill 7 0
+wrong 'x: SEED has to be a number from 0 to 18446744073709551615' drill x 12
+for number in 0 1000000001 one ''; do
+    wrong "$number: NUMBER has to be a number from 1 to 1000000000" export f e "$number" cnf lrat
+done
+wrong '--journal: may not stand beside --resume' list f --journal j --resume e
+wrong '--journal: may not stand beside --resume' list --resume=j f --journal=j
+wrong 'cnf: CNF and LRAT have to be two files' export f e 1 cnf cnf
+wrong 'word 1: has to be UTF-8' "$(printf '\377')" f
+wrong 'word 3: has to be UTF-8' list --evidence "$(printf 'e\300')" f
+
+# Reasons of the system's.
+no_file='No such file or directory (os error 2)'
+folder='Is a directory (os error 21)'
+no_space='No space left on device (os error 28)'
+too_large='File too large (os error 27)'
+links='Too many levels of symbolic links (os error 40)'
 try_partial 'no budget' 3 'gmus: budget of 0 conflicts spent' "$here/door.report" '' list "$here/door.gcnf" --conflicts 0
 try_partial 'a small budget' 3 'gmus: budget of 9 conflicts spent' pairs.report '' list --conflicts=9 pairs.gcnf
 try_partial 'a limit of 1' 4 'gmus: limit of 1 records reached' "$here/first.report" 1 list "$here/first.gcnf" --limit 1
@@ -118,16 +187,17 @@ try_partial 'a limit of 5' 4 'gmus: limit of 5 records reached' "$here/laptop.re
 try_partial 'a limit of all' 4 'gmus: limit of 5 records reached' "$here/first.report" 5 list "$here/first.gcnf" --limit 5
 try 'a refused file' 5 'gmus: input refused: 5 GroupTooBig at line 2 byte 2' nothing list refused
 try 'an empty file' 5 'gmus: input refused: 1 NoHeader at line 1 byte 1' nothing list nothing
-try 'a file that is not there' 6 'gmus: read fault on input' nothing list lost
-try 'a folder' 6 'gmus: read fault on input' nothing list .
+try 'a file that is not there' 6 "$(both 'gmus: read fault on input' "lost: $no_file")" nothing list lost
+try 'a folder that is not there' 6 "$(both 'gmus: read fault on input' "lost/f: $no_file")" nothing list lost/f
+try 'a folder' 6 "$(both 'gmus: read fault on input' ".: $folder")" nothing list .
+ln -s loop loop
+try 'a link to itself' 6 "$(both 'gmus: read fault on input' "loop: $links")" nothing list loop
 
 # Cases that two numbers make, whose counts are known beforehand; no file is read or written for them.
 echo 'drill 16 8 13' >drilled
 for jobs in 1 4; do
     try "a drill by $jobs" 0 '' drilled drill 7 12 --jobs "$jobs"
 done
-try 'a drill of no size' 2 "$bad" nothing drill 7 0
-try 'a drill with a limit' 2 "$bad" nothing drill 7 12 --limit 5
 
 # Evidence about the three smallest problems has no step that isn't needed: an input that is a goal is named itself.
 try_evidence() { # what to try, the file's text, the wanted evidence; each with "%" for a line's end
@@ -154,8 +224,8 @@ sed '8s/ 1 3 4 0$/ 1 4 0/' "$evidence" >bad_evidence
 try 'a step without a hint' 9 'gmus: evidence refused: line 8: 12 NotFalse' nothing check "$here/first.gcnf" bad_evidence
 try 'evidence about another file' 9 'gmus: evidence refused: line 1: 4 OtherProblem' nothing check "$here/door.gcnf" "$evidence"
 try 'a refused file with evidence' 5 'gmus: input refused: 5 GroupTooBig at line 2 byte 2' nothing check refused "$evidence"
-try 'no evidence' 6 'gmus: read fault on evidence' nothing check "$here/first.gcnf" lost
-try 'one name' 2 "$bad" nothing check "$here/first.gcnf"
+no_evidence=$(both 'gmus: read fault on evidence' "lost: $no_file")
+try 'no evidence' 6 "$no_evidence" nothing check "$here/first.gcnf" lost
 
 # The roles of groups, of which nothing is written unless all are told.
 printf 'p roles 4\nr 1 every\nr 2 some\nr 3 some\nr 4 some\n' >roles
@@ -165,13 +235,12 @@ for jobs in 1 4; do
     try "roles in focus by $jobs" 0 '' roles_in_focus roles --focus=2,1,2 "$here/first.gcnf" --jobs "$jobs"
 done
 try 'roles of a refused file' 5 'gmus: input refused: 5 GroupTooBig at line 2 byte 2' nothing roles refused
-try 'roles of no file' 6 'gmus: read fault on input' nothing roles lost
-try 'roles with a limit' 2 "$bad" nothing roles "$here/first.gcnf" --limit 3
+try 'roles of no file' 6 "$(both 'gmus: read fault on input' "lost: $no_file")" nothing roles lost
 if [ -c /dev/full ]; then
     "$program" roles "$here/first.gcnf" >/dev/full 2>err </dev/null
     status=$?
     cp nothing out
-    judge 'roles to a full device' 7 'gmus: write fault on report' nothing
+    judge 'roles to a full device' 7 "$(both 'gmus: write fault on report' "standard output: $no_space")" nothing
 fi
 if ! command -v python3 >/dev/null; then
     echo 'skipped the roles of each example: no python3'
@@ -185,14 +254,14 @@ fi
 try 'whole evidence resumed' 0 '' "$here/first.report" list "$here/first.gcnf" --resume "$evidence" --conflicts 0
 try 'a limit that is resumed' 4 'gmus: limit of 5 records reached' partial_report list "$here/first.gcnf" --resume "$evidence" --limit 5
 try 'bad evidence resumed' 9 'gmus: evidence refused: line 8: 12 NotFalse' nothing list "$here/first.gcnf" --resume bad_evidence
-try 'no evidence resumed' 6 'gmus: read fault on evidence' nothing list "$here/first.gcnf" --resume lost
+try 'no evidence resumed' 6 "$no_evidence" nothing list "$here/first.gcnf" --resume lost
 for jobs in 1 4; do
     "$program" list pairs.gcnf --limit 100 --evidence part --jobs "$jobs" >out 2>err </dev/null
     try "a part resumed by $jobs" 0 '' pairs.report list pairs.gcnf --resume part --evidence part --jobs "$jobs"
     try "what it wrote by $jobs" 0 '' pairs.report check pairs.gcnf part
 done
 
-# A journal is made, read back and gone on from. What is no journal counts as an empty one, and a false record is refused.
+# A journal is made, read back and gone on from. What is no journal is not opened, and a false record is refused.
 try_journal() { # what to try; the journal then has the one record of no groups
     try "$1" 0 '' none.report list none.gcnf --journal j
     cmp -s j wanted || differs "$1" 'the journal is another one'
@@ -204,18 +273,22 @@ try_journal 'a journal that is made'
 try_journal 'a journal with nothing to add'
 printf '\000' | dd of=j conv=notrunc 2>/dev/null
 try_journal 'a journal whose first gate is closed'
-echo 'no journal' >j
-try_journal 'a text as a journal'
+journal_fault='gmus: read fault on journal'
+echo 'a text' >j
+cp j before
+try 'a text as a journal' 6 "$(both "$journal_fault" 'j: is no journal; if a crash left it so, remove it')" nothing list none.gcnf --journal j
+cmp -s j before || differs 'a text as a journal' 'it was changed'
+rm j
+try_journal 'a journal that is made anew'
 sed 's/m/u/' wanted >j
 cp j before
 try 'a journal with a false record' 10 'gmus: journal refused at byte 0' nothing list none.gcnf --journal j
 cmp -s j before || differs 'a journal with a false record' 'it was changed'
 try 'a journal of another file' 10 'gmus: journal refused at byte 0' nothing list "$here/first.gcnf" --journal wanted
-try 'a folder as a journal' 6 'gmus: read fault on journal' nothing list none.gcnf --journal .
-try 'a journal in no folder' 6 'gmus: read fault on journal' nothing list none.gcnf --journal lost/j
-try 'a journal and evidence to go on from' 2 "$bad" nothing list "$here/first.gcnf" --journal j --resume "$evidence"
+try 'a folder as a journal' 6 "$(both "$journal_fault" ".: $folder")" nothing list none.gcnf --journal .
+try 'a journal in no folder' 6 "$(both "$journal_fault" "lost/j: $no_file")" nothing list none.gcnf --journal lost/j
 try 'a journal of a refused file' 5 'gmus: input refused: 5 GroupTooBig at line 2 byte 2' nothing list refused --journal new
-try 'a journal of no file' 6 'gmus: read fault on input' nothing list lost --journal new
+try 'a journal of no file' 6 "$(both 'gmus: read fault on input' "lost: $no_file")" nothing list lost --journal new
 [ ! -e new ] || differs 'a journal of a refused file' 'it was made'
 for jobs in 1 4; do
     rm -f part
@@ -233,7 +306,7 @@ if (
     echo $? >status
 ); then
     status=$(cat status)
-    judge 'a journal with little room' 7 'gmus: write fault on journal' nothing
+    judge 'a journal with little room' 7 "$(both 'gmus: write fault on journal' "full: $too_large")" nothing
     try 'the same with room' 0 '' "$here/laptop.report" list "$here/laptop.gcnf" --journal full
 else
     echo 'skipped a journal with little room: no limit for files'
@@ -250,12 +323,28 @@ if command -v python3 >/dev/null; then
 else
     echo 'skipped journals of killed runs: no python3'
 fi
-if ! command -v python3 >/dev/null || ! strace -f -o /dev/null true 2>/dev/null; then
-    echo 'skipped the calls of a journal: no python3, or strace is not there or may not trace'
-elif python3 "$here/journal_calls.py" "$program" >found 2>&1; then
-    echo "ok      the calls of a journal: $(cat found)"
+
+# Files: one under two names, what is left of an output, which journals are opened, and what comes in which order.
+part() { # what the part looks at, its program, and further words
+    what=$1 part=$2
+    shift 2
+    if python3 "$here/$part" "$program" "$@" >found 2>&1; then
+        echo "ok      $what: $(cat found)"
+    else
+        differs "$what" "$(cat found)"
+    fi
+}
+if command -v python3 >/dev/null; then
+    part 'files under two names, outputs and journals' outputs.py
+    part 'two runs on one journal, and kills over a name' races.py --rounds 10
+    if strace -f -o /dev/null true 2>/dev/null; then
+        part 'the calls of a journal' journal_calls.py
+        part 'the calls of an output' output_calls.py
+    else
+        echo 'skipped the calls of a journal and of an output: strace is not there or may not trace'
+    fi
 else
-    differs 'the calls of a journal' "$(cat found)"
+    echo 'skipped files under two names, outputs, journals and their calls: no python3'
 fi
 
 # Evidence that is asked for: whole and partial ones are accepted, by this program and by one that shares nothing with it.
@@ -278,11 +367,11 @@ accepted pairs.gcnf written partial
 try_partial 'a limit with evidence' 4 'gmus: limit of 5 records reached' "$here/laptop.report" 5 list "$here/laptop.gcnf" --limit 5 --evidence written
 accepted "$here/laptop.gcnf" written partial
 evidence_fault='gmus: write fault on evidence'
-try 'evidence into a folder' 7 "$evidence_fault" nothing list "$here/first.gcnf" --evidence .
-try 'evidence without a name' 7 "$evidence_fault" nothing list "$here/first.gcnf" --evidence=
+try 'evidence into a folder' 7 "$(both "$evidence_fault" ".: $folder")" nothing list "$here/first.gcnf" --evidence .
+try 'evidence without a name' 7 "$(both "$evidence_fault" ": $no_file")" nothing list "$here/first.gcnf" --evidence=
 try 'evidence of a refused file' 5 'gmus: input refused: 5 GroupTooBig at line 2 byte 2' nothing list refused --evidence none
 [ -e none ] && differs 'evidence of a refused file' 'it was opened'
-[ ! -c /dev/full ] || try 'evidence on a full device' 7 "$evidence_fault" nothing list "$here/first.gcnf" --evidence /dev/full
+[ ! -c /dev/full ] || try 'evidence on a full device' 7 "$(both "$evidence_fault" "/dev/full: $no_space")" nothing list "$here/first.gcnf" --evidence /dev/full
 
 # A file that got longer is listed from evidence about what it was, whole or partial, by any number of workers.
 try 'evidence of the old file' 0 '' "$here/laptop.report" list "$here/laptop.gcnf" --evidence old
@@ -321,22 +410,17 @@ try_export 'an export of an empty clause' empty.gcnf empty.evidence 1 empty.cnf 
 rm -f cnf lrat
 try 'no such conflict' 11 'gmus: no conflict 3' nothing export "$here/first.gcnf" "$evidence" 3 cnf lrat
 try 'the greatest number of a conflict' 11 'gmus: no conflict 1000000000' nothing export "$here/first.gcnf" "$evidence" 1000000000 cnf lrat
-for number in 0 -1 1000000001 one ''; do
-    try "no number of a conflict, '$number'" 2 "$bad" nothing export "$here/first.gcnf" "$evidence" "$number" cnf lrat
-done
-try 'an export to one name' 2 "$bad" nothing export "$here/first.gcnf" "$evidence" 1 cnf cnf
-try 'an export without a refutation' 2 "$bad" nothing export "$here/first.gcnf" "$evidence" 1 cnf
 try 'an export of a refused file' 5 'gmus: input refused: 5 GroupTooBig at line 2 byte 2' nothing export refused "$evidence" 3 cnf lrat
 try 'an export by bad evidence' 9 'gmus: evidence refused: line 8: 12 NotFalse' nothing export "$here/first.gcnf" bad_evidence 3 cnf lrat
-try 'an export of no file' 6 'gmus: read fault on input' nothing export lost "$evidence" 1 cnf lrat
-try 'an export by no evidence' 6 'gmus: read fault on evidence' nothing export "$here/first.gcnf" lost 1 cnf lrat
+try 'an export of no file' 6 "$(both 'gmus: read fault on input' "lost: $no_file")" nothing export lost "$evidence" 1 cnf lrat
+try 'an export by no evidence' 6 "$no_evidence" nothing export "$here/first.gcnf" lost 1 cnf lrat
 export_fault='gmus: write fault on export'
-try 'a CNF into a folder' 7 "$export_fault" nothing export "$here/first.gcnf" "$evidence" 1 . lrat
-[ ! -c /dev/full ] || try 'a CNF on a full device' 7 "$export_fault" nothing export "$here/first.gcnf" "$evidence" 1 /dev/full lrat
+try 'a CNF into a folder' 7 "$(both "$export_fault" ".: $folder")" nothing export "$here/first.gcnf" "$evidence" 1 . lrat
+[ ! -c /dev/full ] || try 'a CNF on a full device' 7 "$(both "$export_fault" "/dev/full: $no_space")" nothing export "$here/first.gcnf" "$evidence" 1 /dev/full lrat
 [ ! -e cnf ] && [ ! -e lrat ] || differs 'an export that fails' 'an output was opened'
-try 'a refutation into a folder' 7 "$export_fault" nothing export "$here/first.gcnf" "$evidence" 1 cnf .
+try 'a refutation into a folder' 7 "$(both "$export_fault" ".: $folder")" nothing export "$here/first.gcnf" "$evidence" 1 cnf .
 cmp -s cnf first_1.cnf || differs 'a refutation into a folder' 'the CNF is another one'
-[ ! -c /dev/full ] || try 'a refutation on a full device' 7 "$export_fault" nothing export "$here/first.gcnf" "$evidence" 1 cnf /dev/full
+[ ! -c /dev/full ] || try 'a refutation on a full device' 7 "$(both "$export_fault" "/dev/full: $no_space")" nothing export "$here/first.gcnf" "$evidence" 1 cnf /dev/full
 
 # Each conflict of each example is exported, and what was written is compared and checked by programs that share nothing with it.
 if command -v python3 >/dev/null; then
@@ -353,12 +437,12 @@ else
     echo 'skipped the exports of each conflict: no python3'
 fi
 
-fault='gmus: write fault on report'
+report_fault='gmus: write fault on report'
 if [ -c /dev/full ]; then
     "$program" list "$here/first.gcnf" >/dev/full 2>err </dev/null
     status=$?
     cp nothing out
-    judge 'a full device' 7 "$fault" nothing
+    judge 'a full device' 7 "$(both "$report_fault" "standard output: $no_space")" nothing
     "$program" list refused >out 2>/dev/full </dev/null
     status=$?
     cp nothing err
@@ -368,7 +452,7 @@ fi
 "$program" list "$here/first.gcnf" >&- 2>err </dev/null
 status=$?
 cp nothing out
-judge 'a closed output' 7 "$fault" nothing
+judge 'a closed output' 7 "$(both "$report_fault" 'standard output: Bad file descriptor (os error 9)')" nothing
 
 # A file that may have so many blocks takes a part of the last write, and the next one fails.
 if (
@@ -382,7 +466,7 @@ if (
     head -c "$size" pairs.report >front
     [ "$size" -gt 0 ] || differs 'a file with little room' 'nothing was written'
     [ "$size" -lt "$(wc -c <pairs.report)" ] || differs 'a file with little room' 'it took all'
-    judge 'a file with little room' 7 "$fault" front
+    judge 'a file with little room' 7 "$(both "$report_fault" "standard output: $too_large")" front
 else
     echo 'skipped a file with little room: no limit for files'
 fi
@@ -417,7 +501,7 @@ if command -v python3 >/dev/null; then
     for reader in slow gone; do
         case $reader in
             slow) wanted=0 line='' output=pairs.report ;;
-            gone) wanted=7 line=$fault output=nothing ;;
+            gone) wanted=7 line=$(both "$report_fault" 'standard output: Broken pipe (os error 32)') output=nothing ;;
         esac
         python3 "$here/reader.py" "$reader" "$program" list pairs.gcnf >out 2>err
         status=$?

@@ -4,9 +4,9 @@
     examples/journal_calls.py PROGRAM
 
 A kill loses nothing that was written, so only the calls show what a crash of the machine may lose. Of each run, by 1 and by 4
-workers, on a name that is not there, on an empty file and on a part of a journal:
+workers, on a name that is not there, on a link that leads to none, on an empty file and on a part of a journal:
 
-- A file that was made has its folder synced before the first record is written.
+- A file that was made has its folder synced before the first record is written, also if a link led there from another folder.
 - The file is synced first; an empty one then gets a byte 0 at its beginning, and is synced.
 - Each record is four calls: one write from behind the closed gate on, of the length, the text and a byte 0; a sync; one write
   of the byte 1 at the gate; and a sync. No call begins before the one before it has ended, and no other call writes.
@@ -75,21 +75,21 @@ def calls_in(trace):
         yield Call("sync" if what in ("fsync", "fdatasync") else what, os.fsdecode(plain(path)), at, front, count, begins, ends)
 
 
-def traced(program, file, name, *words):
-    """The calls of a listing with this journal."""
-    with tempfile.NamedTemporaryFile() as trace:
-        strace = ["strace", "-f", "-y", "-xx", "-s", "9", "-e", "signal=none", "-e", "trace=" + TRACED, "-o", trace.name]
-        ended = subprocess.run([*strace, program, "list", file, "--journal", name, *words], stdin=subprocess.DEVNULL,
-                               stdout=subprocess.DEVNULL, stderr=subprocess.PIPE, universal_newlines=True)
+def traced(words, calls=TRACED, out=os.devnull):
+    """The trace of a run, of these calls; standard output goes to a file."""
+    with tempfile.NamedTemporaryFile() as trace, open(out, "wb") as output:
+        strace = ["strace", "-f", "-y", "-xx", "-s", "9", "-e", "signal=none", "-e", "trace=" + calls, "-o", trace.name]
+        ended = subprocess.run([*strace, *words], stdin=subprocess.DEVNULL, stdout=output, stderr=subprocess.PIPE, universal_newlines=True)
         if ended.returncode not in (0, 4):
             raise Differs(f"a run ended with {ended.returncode}: {ended.stderr}")
-        return list(calls_in(trace.read().decode()))
+        return trace.read().decode()
 
 
 class Order:
     """The calls on one journal, which are taken one by one."""
 
     def __init__(self, calls, name):
+        calls = list(calls)
         self.calls = [call for call in calls if call.path == name]
         folders = [call for call in calls if call.path == os.path.dirname(name)]
         self.folder_synced = min((call.ends for call in folders if call.what == "sync"), default=None)
@@ -135,9 +135,10 @@ def held_in(name):
 
 def try_run(program, file, name, wanted, *words):
     """How many records a run adds to what stands under this name, which have to be so many."""
-    is_made = not os.path.exists(name)
+    is_made, place = not os.path.exists(name), os.path.realpath(name)
     held = b"" if is_made else held_in(name)
-    gate, added = Order(traced(program, file, name, *words), name).judge(is_made, held)
+    trace = traced([program, "list", file, "--journal", name, *words])
+    gate, added = Order(calls_in(trace), place).judge(is_made, held)
     left = held_in(name)
     texts, ends = journal.texts_in(left)
     if (ends, len(texts), left[ends:]) != (gate, len(journal.texts_in(held)[0]) + added, b"\0"):
@@ -158,8 +159,12 @@ def main():
             part, empty, made = (os.path.join(folder, word + jobs) for word in ("part", "empty", "made"))
             with open(empty, "wb"):
                 pass
+            # a link to no file, in another folder
+            link = os.path.join(folder, "link" + jobs)
+            os.mkdir(os.path.join(folder, "far" + jobs))
+            os.symlink(os.path.join("far" + jobs, "made"), link)
             try:
-                for name, wanted, *words in ((part, 3, "--limit", "3"), (part, sets - 3), (part, 0), (empty, sets), (made, sets)):
+                for name, wanted, *words in ((part, 3, "--limit", "3"), (part, sets - 3), (part, 0), (empty, sets), (made, sets), (link, sets)):
                     added += try_run(program, file, name, wanted, "--jobs", jobs, *words)
             except Differs as differs:
                 sys.exit(f"by {jobs} on {os.path.basename(name)}: {differs}")
