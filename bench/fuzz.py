@@ -3,20 +3,25 @@
 
     bench/fuzz.py --gmus PROGRAM [--cases 20000] [--seed 1] [--only NUMBER]
 
-Of five cases two are files, and one each is evidence, a journal and a line of words. A file is told by the table of plain_reader.py, and
-an accepted one is listed by brute_force.py, whose report tells the roles too, with a focus or without. Evidence is checked by tools/check_evidence.py, and a conflict of it is exported,
-which examples/exports.py judges, and it is carried over to a file with some groups more, or to one that is none. A journal is
-read back by tools/journal.py, and has to keep its front and to get what is missing. Of words, plain_reader.py says what they
-ask for, about small files whose reports are known.
+Of five cases two are files, and one each is evidence, a journal and a line of words. A file is told by the table of
+plain_reader.py, and an accepted one is listed by brute_force.py, whose report tells the roles too, with a focus or without.
+Evidence is checked by tools/check_evidence.py, and a conflict of it is exported, which examples/exports.py judges, and it is
+carried over to a file with some groups more, or to one that is none. A journal is read back by tools/journal.py, and has to
+keep its front and to get what is missing. Of words, plain_reader.py says what they ask for, about small files whose reports are
+known, and plain_files.py which of them is one file under two names, by links or as the file of standard output or error, and which
+can't be opened; some journals are held open meanwhile.
 Status, standard output, standard error and what stands under the names of outputs have to be those. A case is made from the
 seed and its number alone, so --only makes one again. Commands that PROGRAM does not have are left out. Ends with 1 where
 there is a difference, and says how to make it again. Needs Python 3.9.
 """
 import argparse
 import collections
+import contextlib
+import fcntl
 import os
 import random
 import re
+import shutil
 import subprocess
 import sys
 import tempfile
@@ -31,6 +36,7 @@ import exports  # noqa: E402
 import journal  # noqa: E402
 import make_case  # noqa: E402
 import mutate_evidence  # noqa: E402
+import plain_files  # noqa: E402
 import plain_reader  # noqa: E402
 
 
@@ -269,6 +275,9 @@ def try_journal(chance, gmus, folder):
         journal.salvaged(problem, held)
     except journal.Foreign as at:
         wanted = refused_journal(at)
+    why = plain_files.unopened(name, None)
+    if why:
+        wanted = unopened_journal(name, why)
     what = repr((text, held))
     compare(wanted, run(gmus, ["list", file, "--journal", name, "--jobs", chance.choice("113")]), what)
     if wanted[0]:
@@ -276,6 +285,10 @@ def try_journal(chance, gmus, folder):
     else:
         compare_journal(problem, held, held_in(name), sets_in(wanted[1]), what)
     return f"journal, status {wanted[0]}"
+
+
+def unopened_journal(name, why):
+    return 6, b"", plain_files.lines("read fault on journal", name, why)
 
 
 def refused_journal(at):
@@ -301,14 +314,18 @@ TEXTS = {"f": ONE, "-": ONE, "-x": ONE, "--limit": ONE, "help": ONE, "list": ONE
 CONFLICT, CORRECTION = records_in(BOTH)
 TEXTS.update({"j": journal.framed([CORRECTION, CONFLICT]), "ju": journal.framed([CONFLICT]) + b"\1\2", "jm": journal.framed([CORRECTION]),
               "jbad": journal.framed([CORRECTION, CONFLICT[:-1]]), "closed": b"\0" + journal.framed([CORRECTION])[1:]})
-FILES = ["f", "f", "f", "f", "-", "-x", "--limit", "help", "list", "=", "g", "bad", "missing", ""]
-EVIDENCE = ["e", "e", "half", "wrong", "f", "missing", "", "-"]
-OUTPUTS = ["out", "out", "-", "f", "", "no/out", "-o", "--jobs"]
-JOURNALS = ["new", "new", "j", "ju", "jm", "jbad", "closed", "f", "e", "-", "", "no/out", "-o", "out"]
-EXPORTS = ["out", "cnf", "lrat", "cnf", "lrat", "./out", "-", "f", "e", "", "no/out", "-o"]
+# Names that are links, and where they lead; and other names of files.
+LINKS = {"to_f": "f", "to_to_f": "to_f", "to_e": "e", "to_j": "j", "to_new": "new", "loop": "loop"}
+HARD = {"hard_f": "f", "hard_e": "e", "hard_j": "j"}
+FILES = ["f", "f", "f", "f", "f", "f", "./f", "to_f", "to_to_f", "hard_f", "-", "-x", "--limit", "help", "list", "=", "g", "bad", "missing",
+         "mis\x1bsing\n", "", "d", "loop"]
+EVIDENCE = ["e", "e", "e", "to_e", "hard_e", "half", "wrong", "f", "missing", "", "-", "d"]
+OUTPUTS = ["out", "out", "-", "f", "to_f", "e", "hard_e", "new", "to_new", "", "no/out", "-o", "--jobs", "d", "loop"]
+JOURNALS = ["new", "new", "j", "ju", "jm", "jbad", "closed", "f", "e", "-", "", "no/out", "-o", "out", "to_j", "hard_j", "to_new", "./j", "d", "loop"]
+EXPORTS = ["out", "cnf", "lrat", "cnf", "lrat", "./out", "-", "f", "e", "", "no/out", "-o", "to_f", "hard_e", "to_new", "new", "d"]
+STREAMS = ["out", "report", "f", "to_f", "e", "j", "hard_j", "new", "to_new", "more"]
 EXPORTED = {"cnf": b"p cnf 0 1\n0\n", "lrat": b"2 0 1 0\n"}  # the one conflict of ONE
-LOST = ["", "no/out"]                                        # names that can't be written
-MADE = ["out", "cnf", "lrat", "-o", "--jobs", "new"]                # names that are free before
+MADE = ["out", "cnf", "lrat", "-o", "--jobs", "new", "report"]      # names that are free before
 NUMBERS = ["0", "1", "2", "3", "5", "64", "65", "+2", "007", "-1", "", "x", "1x", " 1", "1000000000", "1000000001", "18446744073709551615",
            "18446744073709551616", "+", "\u0661"]
 FOCI = ["1", "1", "2", "1,1", "2,007,1", "+1", "4294967295", "4294967296", "0", "", ",", "1,", ",1", "1, 2", "1;2", "x", "-1", "\u0661"]
@@ -353,25 +370,46 @@ def draw_words(chance, commands):
     return words
 
 
-def opening(given, text):
+def read_as(what, name):
+    """The text under a name, or the answer of who can't read it."""
+    why = plain_files.unread(name)
+    return (None, (6, b"", plain_files.lines(f"read fault on {what}", name, why))) if why else (held_in(name), None)
+
+
+def file_under(name):
+    """The text of an accepted file under a name, or the answer to one that is none."""
+    text, ends = read_as("input", name)
+    offence = None if ends else plain_reader.first_offence(text)
+    return (None, (5, b"", offence)) if offence else (text, ends)
+
+
+def opening(given, text, locked):
     """The kinds of the sets that the first records hold, or the answer that ends the run."""
     problem = check_evidence.Problem(text_in_focus(text, given.get("focus")))
     if "journal" in given:
-        if given["journal"] in LOST:
-            return None, (6, b"", "gmus: read fault on journal\n")
+        why = plain_files.unopened(given["journal"], locked)
+        if why:
+            return None, unopened_journal(given["journal"], why)
         try:
-            return [kind for kind, *_ in journal.salvaged(problem, TEXTS.get(given["journal"], b""))], None
+            return [kind for kind, *_ in journal.salvaged(problem, held_in(given["journal"]) or b"")], None
         except journal.Foreign as at:
             return None, refused_journal(at)
     if "resume" not in given:
         return [], None
-    if given["resume"] not in TEXTS:
-        return None, (6, b"", "gmus: read fault on evidence\n")
+    evidence, ends = read_as("evidence", given["resume"])
+    if ends:
+        return None, ends
     try:
-        sets = check_evidence.check(problem, TEXTS[given["resume"]])[1]
+        sets = check_evidence.check(problem, evidence)[1]
         return ["u"] * len(sets["u"]) + ["m"] * len(sets["m"]), None
     except check_evidence.Refused as refused:
         return None, (9, b"", f"gmus: evidence refused: {refused}\n")
+
+
+def unwritten(what, name):
+    """The answer of who can't open an output, or None."""
+    why = plain_files.unwritten(name)
+    return (7, b"", plain_files.lines(f"write fault on {what}", name, why)) if why else None
 
 
 def in_focus(text, focus):
@@ -394,20 +432,16 @@ def report_of(text, status, focus=None):
     return f"p gmus {groups}\ns {'COMPLETE' if status == 0 else 'PARTIAL'}\n{sets}".encode()
 
 
-def wanted_of_list(given):
+def wanted_of_list(given, locked):
     """The answers that a listing may give; which set of two is found first is free."""
-    name = given["file"]
-    if name not in TEXTS:
-        return [(6, b"", "gmus: read fault on input\n")]
-    text = TEXTS[name]
-    offence = plain_reader.first_offence(text)
-    if offence:
-        return [(5, b"", offence)]
-    held, ends = opening(given, text)
+    text, ends = file_under(given["file"])
     if ends:
         return [ends]
-    if given.get("evidence") in ("", "no/out"):
-        return [(7, b"", "gmus: write fault on evidence\n")]
+    held, ends = opening(given, text, locked)
+    if ends:
+        return [ends]
+    if "evidence" in given and unwritten("evidence", given["evidence"]):
+        return [unwritten("evidence", given["evidence"])]
     focus = given.get("focus")
     limit, sets = given.get("limit", 1000000000), report_of(text, 0, focus).count(b"\n") - 3
     if limit > sets:
@@ -420,37 +454,34 @@ def wanted_of_list(given):
 
 
 def wanted_of_check(given):
-    if given["file"] not in TEXTS:
-        return [(6, b"", "gmus: read fault on input\n")]
-    text = TEXTS[given["file"]]
-    offence = plain_reader.first_offence(text)
-    if offence:
-        return [(5, b"", offence)]
-    if given["evidence"] not in TEXTS:
-        return [(6, b"", "gmus: read fault on evidence\n")]
+    text, ends = file_under(given["file"])
+    if ends:
+        return [ends]
+    evidence, ends = read_as("evidence", given["evidence"])
+    if ends:
+        return [ends]
     problem = check_evidence.Problem(text_in_focus(text, given.get("focus")))
-    kind, told = mutate_evidence.plain(problem, TEXTS[given["evidence"]])
+    kind, told = mutate_evidence.plain(problem, evidence)
     return [(0, told, "")] if kind == "yes" else [(9, b"", f"gmus: evidence refused: {told.decode()}\n")]
 
 
 def wanted_of_carry(given):
     """OLD, NEW, the extension and EVIDENCE are judged in this order, and NEW is listed."""
+    texts = []
     for name in (given["file"], given["longer"]):
-        if name not in TEXTS:
-            return [(6, b"", "gmus: read fault on input\n")]
-        offence = plain_reader.first_offence(TEXTS[name])
-        if offence:
-            return [(5, b"", offence)]
-    old, new = (plain_reader.problem_of(TEXTS[given[name]]) for name in ("file", "longer"))
-    place = first_break(old, new)
+        text, ends = file_under(name)
+        if ends:
+            return [ends]
+        texts.append(text)
+    place = first_break(*map(plain_reader.problem_of, texts))
     if place is not None:
         return [no_extension(place)]
     checked, = wanted_of_check({"file": given["file"], "evidence": given["known"]})
     if checked[0]:
         return [checked]
-    if given.get("evidence") in LOST:
-        return [(7, b"", "gmus: write fault on evidence\n")]
-    return [(0, report_of(TEXTS[given["longer"]], 0), "")]
+    if "evidence" in given and unwritten("evidence", given["evidence"]):
+        return [unwritten("evidence", given["evidence"])]
+    return [(0, report_of(texts[1], 0), "")]
 
 
 def first_break(old, new):
@@ -471,15 +502,13 @@ def wanted_of_export(given):
     conflicts = exports.conflicts_of(checked[1].decode())
     if given["number"] > len(conflicts):
         return [(NO_SUCH, b"", told_of_none(given["number"])[2])]
-    if given["cnf"] in LOST or given["lrat"] in LOST:
-        return [(7, b"", "gmus: write fault on export\n")]
-    return [(0, b"", "")]
+    return [unwritten("export", given["cnf"]) or unwritten("export", given["lrat"]) or (0, b"", "")]
 
 
 def written_of_export(given, status):
     """What an export that ends so leaves under its names, of which the CNF's is written first."""
-    names = {0: ["cnf", "lrat"], 7: [] if given["cnf"] in LOST else ["cnf"]}.get(status, [])
-    return {os.path.normpath(given[name]): EXPORTED[name] for name in names}
+    names = {0: ["cnf", "lrat"], 7: [] if plain_files.unwritten(given["cnf"]) else ["cnf"]}.get(status, [])
+    return {given[name]: EXPORTED[name] for name in names}
 
 
 def wanted_of_drill(given):
@@ -489,62 +518,131 @@ def wanted_of_drill(given):
 
 
 def wanted_of_roles(given):
-    if given["file"] not in TEXTS:
-        return [(6, b"", "gmus: read fault on input\n")]
-    return [wanted_roles(TEXTS[given["file"]], given.get("focus"))]
+    text, ends = file_under(given["file"])
+    return [ends or wanted_roles(text, given.get("focus"))]
+
+
+def make_names(folder):
+    """All names anew."""
+    shutil.rmtree(folder, ignore_errors=True)
+    os.makedirs(os.path.join(folder, "d"))
+    for name, text in TEXTS.items():
+        write(os.path.join(folder, name), text)
+    for name, target in LINKS.items():
+        os.symlink(target, os.path.join(folder, name))
+    for name, target in HARD.items():
+        os.link(os.path.join(folder, target), os.path.join(folder, name))
+
+
+class Names:
+    """What stands under all names before a run."""
+
+    def __init__(self):
+        self.names = [*TEXTS, *MADE, *LINKS, *HARD]
+        self.texts = {name: held_in(name) for name in self.names}
+        self.leads = {name: plain_files.leads(name) for name in self.names}
+
+    def like(self, name):
+        """The names that lead to the same file, or would."""
+        place = plain_files.leads(name)
+        return [other for other in self.names if place is not None and self.leads[other] == place]
+
+
+def draw_streams(chance):
+    """The file of standard output or standard error, if it is one, which is added to; and a journal that is held open, if one is."""
+    streams = {"out": None, "err": None}
+    if chance.random() < 0.3:
+        streams[chance.choice(["out", "out", "err"])] = chance.choice(STREAMS)
+    return streams, chance.choice(["j", "j", "ju", "closed", "f", "e"]) if chance.random() < 0.2 else None
 
 
 def try_words(chance, gmus, folder, commands):
-    words = draw_words(chance, commands)
+    words, (streams, locked) = draw_words(chance, commands), draw_streams(chance)
     asked = plain_reader.words_read(words, commands)
-    here = os.getcwd()
-    for name, text in TEXTS.items():
-        write(os.path.join(folder, name), text)
-    for name in MADE:
-        if os.path.exists(os.path.join(folder, name)):
-            os.remove(os.path.join(folder, name))
+    here, folder = os.getcwd(), os.path.join(folder, "words")
+    make_names(folder)
     os.chdir(folder)
     try:
-        found = run(gmus, words)
-        compare(True, found in wanted_of(asked), f"{words} {asked} {found}")
-        compare_names(asked, found, words)
+        with contextlib.ExitStack() as files:
+            pipes = {which: files.enter_context(open(name, "ab")) if name else subprocess.PIPE for which, name in streams.items()}
+            if locked:
+                fcntl.flock(files.enter_context(open(locked, "rb")), chance.choice([fcntl.LOCK_EX, fcntl.LOCK_SH]))
+            before = Names()
+            what = f"{words} {asked} {streams} {locked}"
+            wanted = wanted_of(words, asked, streams, locked)
+            outputs = outputs_of(asked, before)
+            ended = subprocess.run([gmus, *words], stdout=pipes["out"], stderr=pipes["err"], timeout=60)
+        found = ended.returncode, ended.stdout, None if ended.stderr is None else ended.stderr.decode()
+        if not any(fits(one, found, before, streams) for one in wanted):
+            raise Difference(f"{what}\nwanted {wanted}\ncame   {found}")
+        compare_names(asked, found, what, before, outputs, streams)
     finally:
         os.chdir(here)
-    return f"words, status {found[0]}"
+    return f"words, status {found[0]}" + (f", {found[2].split(': ', 2)[-1].strip()}" if found[0] == 6 and found[2] and " is " in found[2] else "")
 
 
-def wanted_of(asked):
+def wanted_of(words, asked, streams, locked):
     if asked is None:
-        return [(2, b"", "gmus: bad command line\n")]
+        return [(2, b"", f"gmus: bad command line\n  {plain_reader.why_unread(words)}\n")]
     command, given = asked
-    return {"list": wanted_of_list, "check": wanted_of_check, "export": wanted_of_export, "drill": wanted_of_drill, "roles": wanted_of_roles,
+    clash = plain_files.clash(command, given, streams)
+    if clash:
+        return [(6, b"", plain_files.lines("read fault on input", *clash))]
+    if command == "list":
+        return wanted_of_list(given, locked)
+    return {"check": wanted_of_check, "export": wanted_of_export, "drill": wanted_of_drill, "roles": wanted_of_roles,
             "carry": wanted_of_carry}[command](given)
 
 
-def compare_names(asked, found, words):
-    """No name changes but those that were asked to be written: an export's hold its two texts, that of evidence holds evidence
-    of the report."""
+def fits(wanted, found, before, streams):
+    """Whether a run ended so: what went to a file stands behind what that had."""
+    status, output, said = wanted
+    kept = [held_in(name) == before.texts[name] + text for name, text in ((streams["out"], output), (streams["err"], said.encode())) if name]
+    return all(kept) and found[0] == status and found[1] in (None, output) and found[2] in (None, said)
+
+
+def outputs_of(asked, before):
+    """The outputs and the journal that words name, each with the names that lead to the same file."""
     command, given = asked or (None, {})
-    wanted = dict(TEXTS)
+    return {what: before.like(given[what]) for what in plain_files.WRITTEN.get(command, []) if what in given}
+
+
+def compare_names(asked, found, what, before, outputs, streams):
+    """No name changes but those that were asked to be written: an export's hold its two texts, that of evidence holds evidence
+    of the report. Links stay links, and files with two names one file."""
+    command, given = asked or (None, {})
+    wanted = dict(before.texts)
+
+    def expect(which, text):
+        wanted.update({name: text for name in outputs[which]})
+
+    for name in filter(None, streams.values()):
+        wanted.update({other: held_in(other) for other in before.like(name)})
     if command == "export":
-        wanted.update(written_of_export(given, found[0]))
-    if command in ("list", "carry") and "evidence" in given and found[0] in (0, 4):
-        listed = TEXTS[given["longer" if command == "carry" else "file"]]
-        problem, output = check_evidence.Problem(text_in_focus(listed, given.get("focus"))), given["evidence"]
-        wanted[output] = held_in(output)
-        compare(("yes", found[1]), mutate_evidence.plain(problem, wanted[output]), f"{words}")
-    if command == "list" and "journal" in given and (found[0] in (0, 4) or found[2] == "gmus: write fault on evidence\n"):
-        name, problem = given["journal"], check_evidence.Problem(text_in_focus(TEXTS[given["file"]], given.get("focus")))
-        if name != given.get("evidence"):
-            compare_journal(problem, TEXTS.get(name, b""), held_in(name), sets_in(found[1]) if found[0] in (0, 4) else None, f"{words}")
-            wanted[name] = held_in(name)
-    for name in [*TEXTS, *MADE]:
-        compare(wanted.get(name), held_in(name), f"{words} {name}")
+        for name, text in written_of_export(given, found[0]).items():
+            expect(next(which for which in ("cnf", "lrat") if given[which] == name), text)
+    if command in ("list", "carry") and "evidence" in outputs and found[0] in (0, 4) and outputs["evidence"]:
+        listed = before.texts[before.like(given["longer" if command == "carry" else "file"])[0]]
+        problem = check_evidence.Problem(text_in_focus(listed, given.get("focus")))
+        expect("evidence", held_in(given["evidence"]))
+        kind, told = mutate_evidence.plain(problem, held_in(given["evidence"]))
+        compare(("yes", found[1] or told), (kind, told), what)
+    if outputs.get("journal") and (found[0] in (0, 4) or found[0] == 7):
+        name, file = given["journal"], before.texts[before.like(given["file"])[0]]
+        problem = check_evidence.Problem(text_in_focus(file, given.get("focus")))
+        held = before.texts[outputs["journal"][0]] or b""
+        compare_journal(problem, held, held_in(name), sets_in(found[1]) if found[0] in (0, 4) and found[1] else None, what)
+        expect("journal", held_in(name))
+    for name in before.names:
+        compare(wanted[name], held_in(name), f"{what} {name}")
+    compare(LINKS, {name: os.readlink(name) for name in LINKS}, f"{what}: the links")
+    compare([True] * len(HARD), [os.path.samefile(*pair) for pair in HARD.items()], f"{what}: files with two names")
+    compare([], [name for name in os.listdir() if name not in [*before.names, "d"] and name not in streams.values()], f"{what}: further files")
 
 
 def held_in(name):
     """What stands under a name; None where there is no file."""
-    if not os.path.exists(name):
+    if not os.path.isfile(name):
         return None
     with open(name, "rb") as held:
         return held.read()

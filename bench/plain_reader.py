@@ -1,10 +1,11 @@
 """The reader of GCNF and CNF and the reader of the words, as tables: slow, plain, and independent of gmus.
 
 `first_offence(text)` is None where the text is accepted, and else the line that a refused file is told. `problem_of(text)`
-is the problem of an accepted one. `words_read(words, commands)` is what the words of a command line ask for, or None.
-Both are from docs/FORMATS.md and the README alone.
+is the problem of an accepted one. `words_read(words, commands)` is what the words of a command line ask for, or None, and then
+`why_unread(words)` is what a second line on standard error says of them. All are from docs/FORMATS.md and the README alone.
 """
 import re
+import unicodedata
 
 MAX = {"vars": 4194304, "clauses": 16777216, "groups": 1048576, "literals": 8000000, "bytes": 134217728}
 NAMES = {1: "NoHeader", 2: "BadHeader", 3: "BadToken", 4: "VarTooBig", 5: "GroupTooBig", 6: "NoGroup", 7: "Truncated",
@@ -138,8 +139,8 @@ def problem_of(text):
 GREATEST = 2 ** 64 - 1
 GROUPS = (1, 2 ** 32 - 1)
 COMMANDS = {
-    "list": (["file"], {"jobs": (1, 64), "conflicts": (0, GREATEST), "limit": (1, 1000000000), "evidence": None, "resume": None, "focus": GROUPS,
-                        "journal": None}),
+    "list": (["file"], {"jobs": (1, 64), "conflicts": (0, GREATEST), "limit": (1, 1000000000), "evidence": None, "resume": None,
+                        "journal": None, "focus": GROUPS}),
     "check": (["file", "evidence"], {"focus": GROUPS}),
     "export": (["file", "evidence", ("number", (1, 1000000000)), "cnf", "lrat"], {}),
     "drill": ([("seed", (0, GREATEST)), ("size", (1, 1000))], {"jobs": (1, 64)}),
@@ -197,3 +198,69 @@ def words_read(words, commands):
     if command == "export" and given["cnf"] == given["lrat"] or command == "list" and {"resume", "journal"} <= given.keys():
         return None
     return command, given
+
+
+# ---- what is said of words without a reading: the first word that can't stand where it does, and what may
+
+SHOWN_PLACES = {"carry": ["OLD", "EVIDENCE", "NEW"]}
+
+
+def shown(text):
+    """A text whose control characters can't change the line."""
+    return "".join("\\u{%x}" % ord(char) if unicodedata.category(char) == "Cc" else char for char in text)
+
+
+def listed(words):
+    return " and ".join(filter(None, [", ".join(words[:-1]), *words[-1:]])) or "no option"
+
+
+def wanted(numbers):
+    if numbers is None:
+        return "a name"
+    low, high = numbers
+    return "a list of numbers from 1 to 4294967295 with commas between them" if numbers is GROUPS else f"a number from {low} to {high}"
+
+
+def is_option(word):
+    return word.startswith("-") and word != "-"
+
+
+def why_unread(words):
+    """What the second line says of words that words_read refuses."""
+    commands = "list, check, drill, export, roles or carry"
+    if not words:
+        return f"the first word is missing: {commands}"
+    command, rest = words[0], list(words[1:])
+    if command not in COMMANDS:
+        return f"{shown(command)}: the first word has to be {commands}"
+    places, options = COMMANDS[command]
+    numbers = [place[1] if isinstance(place, tuple) else None for place in places]
+    names = SHOWN_PLACES.get(command) or [(place[0] if isinstance(place, tuple) else place).upper() for place in places]
+    seen, taken, ended = set(), [], False
+    while rest:
+        word = rest.pop(0)
+        if not ended and word == "--":
+            ended = True
+        elif ended or not is_option(word):
+            if len(taken) == len(places):
+                return f"{shown(word)}: one word too many, as {command} takes {listed(names)}"
+            if value_of(word, numbers[len(taken)]) is None:
+                return f"{shown(word)}: {names[len(taken)]} has to be {wanted(numbers[len(taken)])}"
+            taken.append(word)
+        else:
+            head, equals, value = word.partition("=")
+            name = head[2:]
+            if head[:2] != "--" or name not in options:
+                return f"{shown(head)}: {command} takes {listed(['--' + it for it in options])}"
+            if name in seen:
+                return f"--{name}: may stand once"
+            seen.add(name)
+            if not equals:
+                if not rest or is_option(rest[0]):
+                    return f"--{name}: {wanted(options[name])} is missing"
+                value = rest.pop(0)
+            if value_of(value, options[name]) is None:
+                return f"--{name} {shown(value)}: has to be {wanted(options[name])}"
+    if len(taken) < len(places):
+        return f"{command}: {names[len(taken)]} is missing"
+    return f"{shown(taken[-1])}: CNF and LRAT have to be two files" if command == "export" else "--journal: may not stand beside --resume"
