@@ -74,6 +74,13 @@ class Library(unittest.TestCase):
                  ("InputRefused", "input refused: 9 TooLarge vars at line 1 byte 8",
                   {"status": 5, "number": 9, "name": "TooLarge", "limit": "vars", "line": 1, "byte": 8})),
                 (6, "gmus: read fault on input\n", ("ReadFault", "read fault on input", {"status": 6, "on": "input"})),
+                # a second line tells a person more, and does not change what is raised
+                (2, "gmus: bad command line\n  --limit x: has to be a number from 1 to 1000000000\n",
+                 ("BadWords", "bad command line", {"status": 2})),
+                (6, "gmus: read fault on input\n  f: No such file or directory (os error 2)\n",
+                 ("ReadFault", "read fault on input", {"status": 6, "on": "input"})),
+                (7, "gmus: write fault on evidence\n  gmus: : is the input\n",
+                 ("WriteFault", "write fault on evidence", {"status": 7, "on": "evidence"})),
                 (7, "gmus: write fault on evidence\n",
                  ("WriteFault", "write fault on evidence", {"status": 7, "on": "evidence"})),
                 (8, "gmus: out of memory\n", ("OutOfMemory", "out of memory", {"status": 8})),
