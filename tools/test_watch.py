@@ -20,7 +20,7 @@ from telling import Refused, WrongWords  # noqa: E402
 BUILT = os.environ.get("GMUS") or os.path.join(TOP, "crates", "gmus", "out", "gmus")
 
 # It knows a problem of 50 conflicts, each of one group. It notes its words, writes evidence of as many conflicts as the limit
-# allows, and ends as gmus does, but at a limit with a status that it was told, or never.
+# allows, beside its name as gmus does, and ends as gmus does, but at a limit with a status that it was told, or never.
 FAKE = f"""#!{sys.executable} -SE
 import os, re, sys, time
 words = sys.argv[1:]
@@ -32,18 +32,23 @@ if "--resume" in words and not open(value("--resume")).read().endswith("e partia
     print("gmus: evidence refused: line 1: 1 BadLine", file=sys.stderr)
     sys.exit(9)
 told = dict(line.split("=") for line in open(room + "/told").read().split())
-evidence = open(value("--evidence"), "w")
+folder, last = os.path.split(value("--evidence"))
+beside = os.path.join(folder, f".{{last}}.gmus-{{os.getpid()}}")
+evidence = open(beside, "w")
 evidence.write("p gmev 1 1 50 50\\n")
 evidence.flush()
 if told.get("hangs") == str(limit):
     print("begun", file=open(room + "/begun", "w"))
     time.sleep(60)
 if told.get("fails") == str(limit):
+    os.rename(beside, value("--evidence"))
     print("gmus: out of memory", file=sys.stderr)
     sys.exit(8)
 found = min(limit, 50)
 lines = [f"u {{group}} 0" for group in sorted(range(1, 51), key=str)[:found]]
 evidence.write("".join(f"{{line}}\\nd 51 0 1 0\\nr 0 51\\nw 1 0\\n" for line in lines) + "e partial\\n")
+evidence.close()
+os.rename(beside, value("--evidence"))
 spent = told.get("spends") == str(limit)
 print("\\n".join(["p gmus 50", "s PARTIAL" if limit <= 50 or spent else "s COMPLETE", *lines, f"e {{found}} 0"]))
 if spent:

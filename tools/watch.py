@@ -162,6 +162,9 @@ class Watch:
         output = self.output_of(child, limit)
         said.join(1)
         status = child.returncode
+        # A run that is ended as it writes leaves that beside the name, under its own number.
+        folder, last = os.path.split(self.new)
+        remove(os.path.join(folder, f".{last}.gmus-{child.pid}"))
         return status if status >= 0 else BY_SIGNAL - status, output, said.at_the_limit
 
     def output_of(self, child, limit):
