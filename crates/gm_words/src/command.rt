@@ -12,11 +12,11 @@ use std::alloc::{AllocError, Global};
 pub(crate) fn gmus_command<'a>(alloc: Global) -> Result<Command<'a>, AllocError>
     ensures app { IfOk result (λ c. app_of c ≡ gmus_app) }
 {
-    let command = with_subcommand(gmus_top_command(alloc), list_command(alloc))?;
-    let command = with_subcommand(command, check_command(alloc))?;
-    let command = with_subcommand(command, drill_command(alloc))?;
-    let command = with_subcommand(command, export_command(alloc))?;
-    let command = with_subcommand(command, roles_command(alloc))?;
+    let command = with_subcommand(Ok(gmus_top_command(alloc)), list_command(alloc));
+    let command = with_subcommand(command, check_command(alloc));
+    let command = with_subcommand(command, drill_command(alloc));
+    let command = with_subcommand(command, export_command(alloc));
+    let command = with_subcommand(command, roles_command(alloc));
     with_subcommand(command, carry_command(alloc))
 }
 
@@ -100,13 +100,14 @@ fn carry_command<'a>(alloc: Global) -> Result<Command<'a>, AllocError>
 
 /// With a subcommand, if there is one.
 fn with_subcommand<'a>(
-    command: Command<'a>,
+    command: Result<Command<'a>, AllocError>,
     subcommand: Result<Command<'a>, AllocError>,
 ) -> Result<Command<'a>, AllocError>
-    ensures { (a s : App) → app_of command.entry ≡ a → IfOk subcommand.entry (IsLocal s)
+    ensures { (a s : App) → IfOk command.entry (λ c. app_of c ≡ a) → IfOk subcommand.entry (IsLocal s)
         → IfOk result (λ c. app_of c ≡ with_subcommand a s.top) }
 {
-    command.subcommand(subcommand?)
+    let subcommand = subcommand?;
+    command?.subcommand(subcommand)
 }
 
 /// With the option.
