@@ -25,6 +25,8 @@ mod focus;
 mod options;
 mod read;
 mod request;
+mod unread;
 
 pub use read::read_words;
 pub use request::{Asking, Carrying, Checking, Drilling, Exporting, Listing, Request};
+pub use unread::{Shown, Unread, why_unread};
