@@ -113,8 +113,16 @@ def fault(words, found, full, folder, gmus):
     if status == 8:
         return None if (out, err) in (("", LINES[8]), ("", "")) else "8 with an output"
     if status in (6, 7):
-        return None if err in LINES[status] and (status == 7 or not out) and full.startswith(out) else "a fault that is told wrongly"
+        is_told = first_line(err) in LINES[status] and (status == 7 or not out) and full.startswith(out)
+        return None if is_told else "a fault that is told wrongly"
     return "another status"
+
+
+def first_line(err):
+    """What programs read of standard error: behind it may stand a line for a person, if there is memory for it."""
+    line, _, more = err.partition("\n")
+    is_second = more == "" or more.startswith("  ") and more.count("\n") == 1 and more.endswith("\n")
+    return line + "\n" if is_second else err
 
 
 def numbers(last, dense, step):

@@ -131,9 +131,10 @@ def limit_rows(folder):
     yield "134,217,729 bytes in CNF", padded(folder, "b", 134217729, b"p cnf 0 0\nc"), 5, b"", REFUSED + "9 TooLarge bytes at line 0 byte 0\n"
     yield "all clauses promised", put(folder, "p", b"p gcnf 4194304 16777216 1048576"), 5, b"", REFUSED + "7 Truncated at line 1 byte 32\n"
     yield "a report of 16,384 groups", alone(folder, "r", 16384), 0, alone_report(16384), ""
-    yield "no file", os.path.join(folder, "none"), 6, b"", "gmus: read fault on input\n"
-    yield "a folder", folder, 6, b"", "gmus: read fault on input\n"
-    yield "a name that is not UTF-8", os.fsencode(put(folder, "n", b"p gcnf 0 0 0")) + b"\xff", 2, b"", "gmus: bad command line\n"
+    none = os.path.join(folder, "none")
+    yield "no file", none, 6, b"", f"gmus: read fault on input\n  {none}: No such file or directory (os error 2)\n"
+    yield "a folder", folder, 6, b"", f"gmus: read fault on input\n  {folder}: Is a directory (os error 21)\n"
+    yield "a name that is not UTF-8", os.fsencode(put(folder, "n", b"p gcnf 0 0 0")) + b"\xff", 2, b"", "gmus: bad command line\n  word 2: has to be UTF-8\n"
 
 
 def evidence_rows(folder):
@@ -186,13 +187,16 @@ def main():
                 table.row(what, Run([gmus, "list", path]), status, out, err)
         small = put(folder, "s", b"p gcnf 0 0 0")
         if table.wants("a reader that leaves"):
-            table.row("a reader that leaves", leaving_reader(gmus, small), 7, UNKNOWN, "gmus: write fault on report\n")
+            table.row("a reader that leaves", leaving_reader(gmus, small), 7, UNKNOWN,
+                      "gmus: write fault on report\n  standard output: Broken pipe (os error 32)\n")
         if table.wants("a full disk"):
             with open("/dev/full", "wb") as full:
-                table.row("a full disk", Run([gmus, "list", small], stdout=full), 7, UNKNOWN, "gmus: write fault on report\n")
+                table.row("a full disk", Run([gmus, "list", small], stdout=full), 7, UNKNOWN,
+                          "gmus: write fault on report\n  standard output: No space left on device (os error 28)\n")
         if table.wants("a file that may not be read"):
             os.chmod(small, 0)
-            table.row("a file that may not be read", Run([gmus, "list", small], preexec_fn=as_nobody), 6, b"", "gmus: read fault on input\n")
+            table.row("a file that may not be read", Run([gmus, "list", small], preexec_fn=as_nobody), 6, b"",
+                      f"gmus: read fault on input\n  {small}: Permission denied (os error 13)\n")
             os.chmod(small, 0o644)
         for what, path, err in evidence_rows(folder) if given.evidence_limit else ():
             table.row(what, Run([gmus, "check", small, path]), 9, b"", err)

@@ -43,11 +43,13 @@ class Races:
         begins = time.monotonic()
         self.report = subprocess.run([program, "list", file, "--journal", self.name, "--evidence", self.whole], stdout=subprocess.PIPE,
                                      check=True).stdout
-        self.lasts, self.journal, self.evidence = time.monotonic() - begins, held_in(self.name), held_in(self.whole)
+        self.lasts, self.journal = time.monotonic() - begins, held_in(self.name)
         self.sets = sorted(journal.salvaged(self.problem, self.journal))
         begins = time.monotonic()
         self.write().communicate()
-        self.writes = time.monotonic() - begins
+        self.writes, self.evidence = time.monotonic() - begins, held_in(self.output)
+        if check_evidence.report(self.problem, *check_evidence.check(self.problem, self.evidence)).encode() != self.report:
+            raise Differs("evidence that was written shows another report")
 
     # ---- two runs on one journal
 

@@ -1,59 +1,85 @@
 //! A file of the system as a disk. What it holds, and what a crash leaves of it, is not told.
-ghost use Rattle.std.specs.Prelude.{None, ⊤, ◌≤◌, ◌-◌, ◌^◌};
+ghost use Rattle.std.specs.Prelude.{None, ⊤, ◌+◌, ◌<◌, ◌≤◌, ◌-◌, ◌^◌, OnOk, length};
 ghost use Rattle.gm_ports.specs.Faults.{Rose};
 
+use crate::clash::no_clash;
+use crate::fault::{Fault, nothing_opened};
+use crate::journal_file::open_journal;
+use crate::names::Names;
 use gm_ports::{Disk, Failed};
-use std::fs::{File, OpenOptions};
+use std::alloc::Global;
+use std::fs::File;
 use std::io;
 use std::os::unix::fs::FileExt;
 
-/// A file of the system, with a count of the calls that did not work. It is read and written at places, and its position is
-/// not used.
+/// A file of the system, with a count of the calls that did not work, and why the last of them did not. It is read and written at
+/// places, and its position is not used.
 #[derive(Drop)]
 pub struct RealDisk<'a> {
     rt: &'a HostRuntime,
+    alloc: Global,
+    names: Names<'a>,
     file: Option<File>,
+    /// The file's name, as it was given.
+    name: &'a str,
+    fault: Option<Fault<'a>>,
     faults: u64,
     ghost in_range: { faults ≤ 2 ^ 64 - 1 },
 }
 
 impl<'a> RealDisk<'a> {
-    pub fn new(rt: &'a HostRuntime) -> Self {
+    /// `names` are those of the command line.
+    pub fn new(rt: &'a HostRuntime, alloc: Global, names: Names<'a>) -> Self {
         RealDisk {
             rt,
+            alloc,
+            names,
             file: None,
+            name: "",
+            fault: None,
             faults: 0,
         }
     }
 
-    fn failed(&mut self) -> Failed
+    /// Why the last call that failed did not work.
+    pub fn fault(&self) -> Option<Fault<'a>> {
+        self.fault
+    }
+
+    /// Opens the journal of this name, if no name of the command line leads where another one does.
+    fn opened(&self, name: &str) -> Result<File, Fault<'a>> {
+        no_clash(self.rt, self.alloc, &self.names)?;
+        match open_journal(self.rt, self.alloc, name) {
+            Ok(file) => Ok(file),
+            Err(why) => Err(self.on_file(why)),
+        }
+    }
+
+    /// Writes the whole piece. A place that is past the greatest one is refused, before anything is written.
+    fn written(&self, at: u64, piece: &[u8]) -> io::Result<()>
+        ensures within { OnOk result (at + length piece.now < 2 ^ 64) }
+    {
+        let Some(file) = &self.file else {
+            return Err(nothing_opened());
+        };
+        if at.checked_add(piece.len() as u64).is_none() {
+            return Err(io::Error::other("a place past the greatest one"));
+        }
+        file.write_all_at(piece, at)
+    }
+
+    fn on_file(&self, why: io::Error) -> Fault<'a> {
+        let name = self.name;
+        Fault { name, why }
+    }
+
+    fn failed(&mut self, fault: Fault<'a>) -> Failed
         ensures rose { Rose self.old.faults self.new.faults }
         ensures never_falls { self.old.faults ≤ self.new.faults }
     {
+        self.fault = Some(fault);
         self.faults = self.faults.saturating_add(1);
         Failed
-    }
-}
-
-/// Opens the file of this name for reading and writing, and makes it where there is none.
-///
-/// Its folder is synced each time: whoever made the file may have been stopped before that, and then a crash could take it.
-fn open_named(rt: &HostRuntime, name: &str) -> io::Result<File> {
-    let file = OpenOptions::new()
-        .read(true)
-        .write(true)
-        .create(true)
-        .open(rt, name)?;
-    File::open(rt, folder_of(name))?.sync_all()?;
-    Ok(file)
-}
-
-/// The name of the folder in which this name stands.
-fn folder_of(name: &str) -> &str {
-    match name.rsplit_once('/') {
-        Some((folder, _)) if folder.is_empty() => "/",
-        Some((folder, _)) => folder,
-        None => ".",
     }
 }
 
@@ -64,53 +90,55 @@ impl<'a> Disk for RealDisk<'a> {
 
     fn open_disk(&mut self, name: &str) -> Result<(), Failed> {
         self.file = None;
-        match open_named(self.rt, name) {
+        self.name = self.names.given(name);
+        match self.opened(name) {
             Ok(file) => {
                 self.file = Some(file);
                 Ok(())
             }
-            Err(_) => Err(self.failed()),
+            Err(fault) => Err(self.failed(fault)),
         }
     }
 
     fn len(&mut self) -> Result<u64, Failed> {
-        if let Some(file) = &self.file {
-            if let Ok(metadata) = file.metadata() {
-                return Ok(metadata.len());
-            }
+        let metadata = match &self.file {
+            Some(file) => file.metadata(),
+            None => Err(nothing_opened()),
+        };
+        match metadata {
+            Ok(metadata) => Ok(metadata.len()),
+            Err(why) => Err(self.failed(self.on_file(why))),
         }
-        Err(self.failed())
     }
 
     fn read(&mut self, at: u64, into: &mut [u8]) -> Result<usize, Failed> {
-        if let Some(file) = &self.file {
-            if let Ok(count) = file.read_at(into, at) {
-                return Ok(count);
-            }
+        let count = match &self.file {
+            Some(file) => file.read_at(into, at),
+            None => Err(nothing_opened()),
+        };
+        match count {
+            Ok(count) => Ok(count),
+            Err(why) => Err(self.failed(self.on_file(why))),
         }
-        Err(self.failed())
     }
 
-    /// A place that is past the greatest one is a fault, before anything is written.
     fn write_at(&mut self, at: u64, piece: &[u8]) -> Result<(), Failed> {
-        if at.checked_add(piece.len() as u64).is_some() {
-            if let Some(file) = &self.file {
-                if file.write_all_at(piece, at).is_ok() {
-                    return Ok(());
-                }
-            }
+        match self.written(at, piece) {
+            Ok(()) => Ok(()),
+            Err(why) => Err(self.failed(self.on_file(why))),
         }
-        Err(self.failed())
     }
 
     /// What was written reaches the device, and how long the file is.
     fn sync(&mut self) -> Result<(), Failed> {
-        if let Some(file) = &self.file {
-            if file.sync_data().is_ok() {
-                return Ok(());
-            }
+        let synced = match &self.file {
+            Some(file) => file.sync_data(),
+            None => Err(nothing_opened()),
+        };
+        match synced {
+            Ok(()) => Ok(()),
+            Err(why) => Err(self.failed(self.on_file(why))),
         }
-        Err(self.failed())
     }
 
     fn faults(&self) -> u64 {

@@ -2,16 +2,30 @@
 ghost use Rattle.std.specs.Prelude.{◌≡◌, None, ◌≤◌, ◌-◌, ◌^◌};
 ghost use Rattle.gm_ports.specs.Faults.{Rose};
 
+use crate::clash::no_clash;
+use crate::fault::{Fault, nothing_opened, nothing_taken};
+use crate::names::Names;
+use crate::output::{Maker, Output};
 use gm_ports::{Failed, Files};
-use std::io::{Read, Write};
-use std::{fs, rt};
+use std::alloc::Global;
+use std::io::Read;
+use std::{fs, io, rt};
 
-/// The system's files, with counts of the calls that did not work. Each call is one call of the system.
+/// The system's files, with counts of the calls that did not work, and why the last of them did not.
 #[derive(Drop)]
 pub struct RealFiles<'a, R: rt::Files> {
     rt: &'a R,
+    alloc: Global,
+    /// The number of this process.
+    process: u32,
+    names: Names<'a>,
     input: Option<R::File>,
-    output: Option<R::File>,
+    /// The name of the input, as it was given.
+    reading: &'a str,
+    output: Option<Output<R>>,
+    /// The name of the output, as it was given.
+    writing: &'a str,
+    fault: Option<Fault<'a>>,
     read_faults: u64,
     write_faults: u64,
     ghost reads_in_range: { read_faults ≤ 2 ^ 64 - 1 },
@@ -19,13 +33,35 @@ pub struct RealFiles<'a, R: rt::Files> {
 }
 
 impl<'a, R: rt::Files> RealFiles<'a, R> {
-    pub fn new(rt: &'a R) -> Self {
+    /// `names` are those of the command line, `process` is the number of this process.
+    pub fn new(rt: &'a R, alloc: Global, names: Names<'a>, process: u32) -> Self {
         RealFiles {
             rt,
+            alloc,
+            process,
+            names,
             input: None,
+            reading: "",
             output: None,
+            writing: "",
+            fault: None,
             read_faults: 0,
             write_faults: 0,
+        }
+    }
+
+    /// Why the last call that failed did not work.
+    pub fn fault(&self) -> Option<Fault<'a>> {
+        self.fault
+    }
+
+    /// Leaves an output that was not ended as it is, since the run ends.
+    pub fn leave_output(&mut self)
+        ensures reads { self.new.read_faults ≡ self.old.read_faults }
+        ensures writes { self.new.write_faults ≡ self.old.write_faults }
+    {
+        if let Some(output) = self.output.take() {
+            output.leave(self.rt);
         }
     }
 
@@ -35,22 +71,59 @@ impl<'a, R: rt::Files> RealFiles<'a, R> {
         (self.read_faults, self.write_faults)
     }
 
-    fn read_failed(&mut self) -> Failed
+    fn read_failed(&mut self, fault: Fault<'a>) -> Failed
         ensures rose { Rose self.old.read_faults self.new.read_faults }
         ensures never_falls { self.old.read_faults ≤ self.new.read_faults }
         ensures other { self.new.write_faults ≡ self.old.write_faults }
     {
+        self.fault = Some(fault);
         self.read_faults = self.read_faults.saturating_add(1);
         Failed
     }
 
-    fn write_failed(&mut self) -> Failed
+    fn write_failed(&mut self, fault: Fault<'a>) -> Failed
         ensures rose { Rose self.old.write_faults self.new.write_faults }
         ensures never_falls { self.old.write_faults ≤ self.new.write_faults }
         ensures other { self.new.read_faults ≡ self.old.read_faults }
     {
+        self.fault = Some(fault);
         self.write_faults = self.write_faults.saturating_add(1);
         Failed
+    }
+
+    /// Opens the input of this name, if no name of the command line leads where another one does.
+    fn opened(&self, name: &str) -> Result<R::File, Fault<'a>> {
+        no_clash(self.rt, self.alloc, &self.names)?;
+        match fs::open(self.rt, name) {
+            Ok(file) => Ok(file),
+            Err(why) => Err(self.on_input(why)),
+        }
+    }
+
+    /// Opens the output of this name likewise.
+    fn made(&self, name: &str) -> Result<Output<R>, Fault<'a>> {
+        no_clash(self.rt, self.alloc, &self.names)?;
+        let maker = Maker {
+            rt: self.rt,
+            alloc: self.alloc,
+            process: self.process,
+        };
+        match maker.open(name) {
+            Ok(output) => Ok(output),
+            Err(why) => Err(self.on_output(why)),
+        }
+    }
+
+    /// Why a call on the input did not work.
+    fn on_input(&self, why: io::Error) -> Fault<'a> {
+        let name = self.reading;
+        Fault { name, why }
+    }
+
+    /// Why a call on the output did not work.
+    fn on_output(&self, why: io::Error) -> Fault<'a> {
+        let name = self.writing;
+        Fault { name, why }
     }
 }
 
@@ -59,52 +132,63 @@ impl<'a, R: rt::Files> Files for RealFiles<'a, R> {
 
     fn open_in(&mut self, name: &str) -> Result<(), Failed> {
         self.input = None;
-        match fs::open(self.rt, name) {
+        self.reading = self.names.given(name);
+        match self.opened(name) {
             Ok(file) => {
                 self.input = Some(file);
                 Ok(())
             }
-            Err(_) => Err(self.read_failed()),
+            Err(fault) => Err(self.read_failed(fault)),
         }
     }
 
     fn read(&mut self, into: &mut [u8]) -> Result<usize, Failed> {
-        if let Some(file) = &mut self.input {
-            if let Ok(count) = file.read(into) {
-                return Ok(count);
-            }
+        let count = match &mut self.input {
+            Some(file) => file.read(into),
+            None => Err(nothing_opened()),
+        };
+        match count {
+            Ok(count) => Ok(count),
+            Err(why) => Err(self.read_failed(self.on_input(why))),
         }
-        Err(self.read_failed())
     }
 
     fn open_out(&mut self, name: &str) -> Result<(), Failed> {
-        self.output = None;
-        match fs::create(self.rt, name) {
-            Ok(file) => {
-                self.output = Some(file);
+        self.leave_output();
+        self.writing = self.names.given(name);
+        match self.made(name) {
+            Ok(output) => {
+                self.output = Some(output);
                 Ok(())
             }
-            Err(_) => Err(self.write_failed()),
+            Err(fault) => Err(self.write_failed(fault)),
         }
     }
 
     fn write(&mut self, piece: &[u8]) -> Result<usize, Failed> {
-        if let Some(file) = &mut self.output {
-            if let Ok(count) = file.write(piece) {
+        let count = match &mut self.output {
+            Some(output) => output.write(piece),
+            None => Err(nothing_opened()),
+        };
+        match count {
+            Ok(count) => {
                 if count == 0 && !piece.is_empty() {
-                    let _ = self.write_failed();
+                    let _ = self.write_failed(self.on_output(nothing_taken()));
                 }
-                return Ok(count);
+                Ok(count)
             }
+            Err(why) => Err(self.write_failed(self.on_output(why))),
         }
-        Err(self.write_failed())
     }
 
-    /// Closes the output. That the system could not close it is not seen.
     fn finish_out(&mut self) -> Result<(), Failed> {
-        match self.output.take() {
-            Some(_) => Ok(()),
-            None => Err(self.write_failed()),
+        let ended = match self.output.take() {
+            Some(output) => output.finish(self.rt),
+            None => Err(nothing_opened()),
+        };
+        match ended {
+            Ok(()) => Ok(()),
+            Err(why) => Err(self.write_failed(self.on_output(why))),
         }
     }
 }

@@ -1,7 +1,9 @@
 //! The standard streams of the system. What they got is not told.
 ghost use Rattle.std.specs.Prelude.{None, ◌≤◌, ◌-◌, ◌^◌};
 
+use crate::fault::{Fault, nothing_taken};
 use gm_ports::{Failed, Sink};
+use std::io;
 use std::io::Print;
 
 /// A standard stream with a count of the writes that did not work. Each write is one call of the system, so no bytes
@@ -9,13 +11,28 @@ use std::io::Print;
 #[derive(Drop)]
 pub struct StreamSink<P: Print> {
     stream: P,
+    /// What a person calls it.
+    name: &'static str,
+    /// Why the last write that failed did not work.
+    why: Option<io::Error>,
     faults: u64,
     ghost in_range: { faults ≤ 2 ^ 64 - 1 },
 }
 
 impl<P: Print> StreamSink<P> {
-    pub fn new(stream: P) -> Self {
-        StreamSink { stream, faults: 0 }
+    pub fn new(stream: P, name: &'static str) -> Self {
+        StreamSink {
+            stream,
+            name,
+            why: None,
+            faults: 0,
+        }
+    }
+
+    /// Why the last write that failed did not work.
+    pub fn fault(&self) -> Option<Fault<'static>> {
+        let (name, why) = (self.name, self.why?);
+        Some(Fault { name, why })
     }
 
     #[cfg(test)]
@@ -33,11 +50,13 @@ impl<P: Print> Sink for StreamSink<P> {
         match self.stream.write_some(piece) {
             Ok(count) => {
                 if count == 0 && !piece.is_empty() {
+                    self.why = Some(nothing_taken());
                     self.faults = self.faults.saturating_add(1);
                 }
                 Ok(count)
             }
-            Err(_) => {
+            Err(why) => {
+                self.why = Some(why);
                 self.faults = self.faults.saturating_add(1);
                 Err(Failed)
             }

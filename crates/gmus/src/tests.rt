@@ -49,8 +49,9 @@ fn disk_keeps_bytes_and_counts_faults(rt: HostRuntime) -> Result<(), Fail> {
     assert_eq!(rt; told.sizes, [0, 16, 16]);
     assert_eq!(rt; told.written, [true, true, false, true]);
     assert_eq!(rt; told.read, [8, 0, 0]);
-    assert!(rt; told.is_same && told.removed && !told.filled);
-    assert_eq!(rt; told.faults, [4, 7, 8, 9]);
+    assert!(rt; told.is_same && told.removed);
+    assert_eq!(rt; told.refused, [false, false, false]);
+    assert_eq!(rt; told.faults, [4, 7, 8, 10]);
     Ok(())
 }
 

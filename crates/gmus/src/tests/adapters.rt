@@ -1,5 +1,6 @@
 //! Calls of the adapters in a row, and what they answered.
 use crate::files::RealFiles;
+use crate::names::Names;
 use crate::sinks::StreamSink;
 use gm_ports::{Files, Reading, Sink, read_whole};
 use std::alloc::Global;
@@ -30,7 +31,7 @@ pub(super) struct Told {
 /// at afterwards.
 pub(super) fn try_adapters(rt: &HostRuntime, name: &str) -> Told {
     let alloc = rt.alloc();
-    let mut files = RealFiles::new(rt);
+    let mut files = RealFiles::new(rt, alloc, Names::none(), 1);
     let written = write_text(&mut files, name);
     let behind_writing = files.faults();
     let whole = read_text(alloc, &mut files, name, 13);
@@ -97,7 +98,7 @@ fn fill<R: rt::Files>(files: &mut RealFiles<'_, R>) -> [bool; 2] {
 
 /// How many bytes of a line a stream took, and how many faults it counted.
 fn tell<P: Print + Drop>(stream: P, line: &[u8]) -> (usize, u64) {
-    let mut sink = StreamSink::new(stream);
+    let mut sink = StreamSink::new(stream, "a stream");
     let taken = sink.write(line).unwrap_or(0);
     (taken, sink.faults())
 }

@@ -1,10 +1,11 @@
 //! Calls of a file as a disk in a row, and what they answered.
 use crate::disk::RealDisk;
+use crate::names::Names;
 use gm_ports::Disk;
 use std::fs;
 
-// The text that is written at the front, and what is written over its end.
-const FRONT: &[u8] = b"0123456789";
+// The text that is written at the front, as a journal begins, and what is written over its end.
+const FRONT: &[u8] = b"\x01123456789";
 
 const BEHIND: &[u8] = b"abcdef";
 
@@ -25,15 +26,15 @@ pub(super) struct ToldOfDisk {
     pub(super) is_same: bool,
     /// Whether the file could be removed.
     pub(super) removed: bool,
-    /// Whether a device that is full takes a byte.
-    pub(super) filled: bool,
+    /// Which names open that are no journal: of a file while another disk has it open, of a text, and of a device.
+    pub(super) refused: [bool; 3],
     /// The counts of faults: where nothing was opened, behind the opening, behind the file's calls, and at the end.
     pub(super) faults: [u64; 4],
 }
 
 /// Tries a file of this name as a disk. It has no branch: what was answered is looked at afterwards.
 pub(super) fn try_disk(rt: &HostRuntime, name: &str, lost: &str) -> ToldOfDisk {
-    let mut disk = RealDisk::new(rt);
+    let mut disk = RealDisk::new(rt, rt.alloc(), Names::none());
     let unopened = try_unopened(&mut disk);
     let behind_unopened = disk.faults();
     let opened = [
@@ -53,8 +54,12 @@ pub(super) fn try_disk(rt: &HostRuntime, name: &str, lost: &str) -> ToldOfDisk {
     let past_end = disk.read(1000, &mut middle).unwrap_or(99);
     let again = reopen(&mut disk, name);
     let behind_file = disk.faults();
+    let refused = [
+        open_twice(rt, name),
+        open_text(&mut disk, name),
+        disk.open_disk("/dev/full").is_ok(),
+    ];
     let removed = fs::remove_file(rt, name).is_ok();
-    let filled = disk.open_disk("/dev/full").is_ok() && disk.write_at(0, b"x").is_ok();
     ToldOfDisk {
         unopened,
         opened,
@@ -63,7 +68,7 @@ pub(super) fn try_disk(rt: &HostRuntime, name: &str, lost: &str) -> ToldOfDisk {
         read: [count, at_end, past_end],
         is_same,
         removed,
-        filled,
+        refused,
         faults: [behind_unopened, behind_opening, behind_file, disk.faults()],
     }
 }
@@ -83,6 +88,18 @@ fn write_pieces(disk: &mut RealDisk<'_>) -> [bool; 4] {
     let past = disk.write_at(u64::MAX, b"x").is_ok();
     let synced = disk.sync().is_ok();
     [front, behind, past, synced]
+}
+
+// Whether another disk opens the file, which one has open.
+fn open_twice(rt: &HostRuntime, name: &str) -> bool {
+    let mut other = RealDisk::new(rt, rt.alloc(), Names::none());
+    other.open_disk(name).is_ok()
+}
+
+// Whether the file opens once its first byte is a letter.
+fn open_text(disk: &mut RealDisk<'_>, name: &str) -> bool {
+    let _ = disk.write_at(0, b"n");
+    disk.open_disk(name).is_ok()
 }
 
 // How long the file is when it is opened once more: opening keeps what it holds.
