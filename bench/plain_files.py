@@ -8,6 +8,8 @@ import errno
 import os
 import stat
 
+import plain_reader
+
 # What a name is read or written as, and what is said of another name that leads there. Of each command what stays, what may be
 # written over, and what is written, in the order in which the names are looked at.
 KEPT = {"list": ["file"], "check": ["file", "evidence"], "export": ["file", "evidence"], "roles": ["file"], "carry": ["file", "longer"], "drill": []}
@@ -18,7 +20,7 @@ SAID = {"file": "is the input", "evidence": "is the evidence", "journal": "is th
 
 
 def lines(first, name, why):
-    return f"gmus: {first}\n  {name}: {why}\n"
+    return f"gmus: {first}\n  {plain_reader.shown(name)}: {why}\n"
 
 
 def of_system(number):
