@@ -187,10 +187,9 @@ def text_of(given, source):
     name = source if is_text(given) else os.fspath(given)
     try:
         held = bytes(given) if is_text(given) else telling.bytes_of(os.path.abspath(name))
-        return held.decode("utf-8-sig"), name
-    except UnicodeDecodeError as error:
-        line = held.count(b"\n", 0, error.start) + 1
-        raise RulesRefused(f"{name}: line {line}: the bytes are no UTF-8") from None
+        return telling.text_in(held, name), name
+    except telling.Refused as why:
+        raise RulesRefused(str(why)) from None
     except OSError as error:
         raise RulesRefused(f"{name}: {error.strerror}") from None
 

@@ -5,8 +5,11 @@ and the tool's usage says which have. `--help` writes what the tool does to stan
 in a traceback.
 """
 import os
+import shlex
 import sys
 import unicodedata
+
+from text_kinds import guessed_kind, known_kind
 
 DONE, REFUSED, WRONG_WORDS = 0, 1, 2
 
@@ -77,12 +80,27 @@ def bytes_of(name):
 
 def text_of(name):
     """The text of a file, or of standard input where the name is `-`, without a byte order mark."""
-    held = bytes_of(name)
+    return text_in(bytes_of(name), name)
+
+
+def text_in(held, name):
+    """The text of a file's bytes, without a byte order mark. If they are no UTF-8 they are refused, by what they are as far
+    as that is known, and with the command that makes a text of them."""
+    kind = known_kind(held)
+    if kind:
+        raise Refused(f"{name}: this is {kind[0]}, and a text in UTF-8 is wanted: {making(kind[1], name)}")
     try:
         return held.decode("utf-8-sig")
     except UnicodeDecodeError as error:
         line = held.count(b"\n", 0, error.start) + 1
-        raise Refused(f"{name}: line {line}: the bytes are no UTF-8") from None
+        kind = guessed_kind(held)
+        guess = f". If they are {kind[0]}: {making(kind[1], name)}" if kind else ""
+        raise Refused(f"{name}: line {line}: the bytes are no UTF-8{guess}") from None
+
+
+def making(command, name):
+    """The command that makes a text in UTF-8 of a file."""
+    return f"{command} {'FILE' if name == '-' else shlex.quote(name)} > TEXT"
 
 
 def plain(text):

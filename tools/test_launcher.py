@@ -78,7 +78,7 @@ class Launcher(unittest.TestCase):
         self.addCleanup(shutil.rmtree, self.room)
         shutil.copy(os.path.join(TOP, "gmus"), self.room)
         os.mkdir(os.path.join(self.room, "tools"))
-        for name in ("build.py", "crates.py", "read_of.py", "telling.py"):
+        for name in ("build.py", "crates.py", "read_of.py", "telling.py", "text_kinds.py"):
             shutil.copy(os.path.join(TOP, "tools", name), os.path.join(self.room, "tools"))
         self.write("crates.txt", "# NAME: libraries\nlow:\nother: low  # nothing of gmus\ngmus tests_may=Wait: low std\n")
         for crate in ("low", "other", "gmus"):

@@ -306,7 +306,8 @@ class Program(unittest.TestCase):
         with tempfile.TemporaryDirectory() as folder:
             for words, given, status, told in (
                     (["-"], b"[r]\na b\n", 1, b"gcnf.py: -: line 2: 'b' can't come here"),
-                    (["-"], b"[r]\n# x\ngr\xf6\xdfe\n", 1, b"gcnf.py: -: line 3: the bytes are no UTF-8\n"),
+                    (["-"], b"[r]\n# x\ngr\xf6\xdfe\n", 1, b"gcnf.py: -: line 3: the bytes are no UTF-8. "
+                                                   b"If they are Latin-1: iconv -f LATIN1 -t UTF-8 FILE > TEXT\n"),
                     (["-"], b"\x7fELF\x02\x01\0\0\xff", 1, b"gcnf.py: -: line 1: the bytes are no UTF-8\n"),
                     (["-"], b"\0\0", 1, b"gcnf.py: -: line 1: "),
                     ([folder], b"", 1, f"gcnf.py: {folder}: Is a directory\n".encode()),

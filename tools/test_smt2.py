@@ -219,7 +219,8 @@ class Refusals(unittest.TestCase):
                 (["-x"], b"", 2, b"smt2.py: '-x' is no option\n    tools/smt2.py FILE.smt2 > RULES\n"),
                 ([missing], b"", 1, b"smt2.py: " + os.fsencode(missing) + b": No such file or directory\n"),
                 ([TOOLS], b"", 1, b"smt2.py: " + os.fsencode(TOOLS) + b": Is a directory\n"),
-                (["-"], b"\xff", 1, b"smt2.py: -: line 1: the bytes are no UTF-8\n"),
+                (["-"], b"\xff", 1, b"smt2.py: -: line 1: the bytes are no UTF-8. "
+                                    b"If they are Latin-1: iconv -f LATIN1 -t UTF-8 FILE > TEXT\n"),
                 (["-"], b"\x00", 1, b"smt2.py: -: line 1, column 1: '\\x00' may not stand here; a name with such a character "
                                     b"stands in | |\n"),
         ):

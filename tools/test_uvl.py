@@ -227,7 +227,8 @@ class Refusals(unittest.TestCase):
                 ([], b"", 2, b"uvl.py: one file is wanted" + usage),
                 (["--x"], b"", 2, b"uvl.py: '--x' is no option" + usage),
                 ([missing], b"", 1, b"uvl.py: " + os.fsencode(missing) + b": No such file or directory\n"),
-                (["-"], b"\xff", 1, b"uvl.py: -: line 1: the bytes are no UTF-8\n"),
+                (["-"], b"\xff", 1, b"uvl.py: -: line 1: the bytes are no UTF-8. "
+                                    b"If they are Latin-1: iconv -f LATIN1 -t UTF-8 FILE > TEXT\n"),
                 (["-"], b"p gcnf 1 1 1\n", 1, b"uvl.py: -: line 1, column 1: 'p' begins no section; one of namespace, "
                                              b"include, imports, features, constraints does\n"),
         ):
