@@ -240,7 +240,7 @@ class Reader:
         if word.kind == "always":
             raise Mistake("'always' is no literal", word.at,
                           "[always] is a line of its own; a name that is a keyword stands in quotes")
-        hint = f". Is '{MEANT[word.text]}' meant?" if word.kind == "other" else ""
+        hint = f". Is '{MEANT[word.text]}' meant?" if word.text in MEANT and word.kind == "other" else ""
         raise Mistake(f"'{word.text}' can't come here{hint}", word.at, f"here may come {OPERAND}")
 
     def refuse_behind(self, may):
@@ -252,9 +252,13 @@ class Reader:
         elif word.kind == ")":
             hint = ": no bracket is open"
         elif not word.quoted and word.kind in ("name", "other", "of"):
-            is_plain = before.kind == "name" and not before.quoted
-            hint = behind(word.text, before.text if is_plain else "")
+            hint = behind([it.text if is_plain(it) else "" for it in self.words], self.at)
         raise Mistake(f"{self.named()} can't come here{hint}", word.at, may)
+
+
+def is_plain(word):
+    """Whether a word is a name without quotes, or what others write."""
+    return word.kind in ("name", "other", "of") and not word.quoted
 
 
 def literal_of(tree):

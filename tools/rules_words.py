@@ -9,7 +9,7 @@ import collections
 import re
 import unicodedata
 
-from rules_hints import MEANT, meant_by
+from rules_hints import COMPARED, MEANT, meant_by
 from telling import plain
 
 # A word of a line: its kind ("name", "end", a mark, a keyword in small letters, "other" or "mistake"), its text, where it
@@ -109,7 +109,7 @@ def name_or_keyword(text, at):
     if text.lower() in KEYWORDS:
         return Word(text.lower(), text, at, False)
     if not PLAIN_NAME.fullmatch(text):
-        if text in MEANT:
+        if text in MEANT or text in COMPARED:
             return Word("other", text, at, False)
         refuse_name(text, at)
     return Word("name", text, at, False)
@@ -129,7 +129,8 @@ def refuse_name(text, at):
         hint = f". Is 'not {text[1:]}' meant?" if text[0] == "~" else ""
         raise Mistake(f"a name doesn't begin with '{text[0]}' without quotes{hint}", at, NAMES_ARE)
     if text[-1] in NEVER_LAST:
-        raise Mistake(f"a name doesn't end with '{text[-1]}' without quotes", at + len(text) - 1, NAMES_ARE)
+        raise Mistake(f"a name doesn't end with '{text[-1]}' without quotes{meant_by(text, len(text) - 1)}", at + len(text) - 1,
+                      NAMES_ARE)
 
 
 def written(name):

@@ -22,6 +22,8 @@ LIST = "here may come ',' or the list's end; a formula that counts as one stands
 COUNT = "here may come ',' or the list's end; a list that is part of a formula stands in brackets: exactly one of (a, b)"
 HEAD = "a rule begins with [NAME]"
 SCREEN = "'screen' can't come here: a name with a blank in it stands in quotes, \"touch screen\""
+TOGETHER = "'at most one of a, b' says that they exclude each other"
+COMPARED = "there is no arithmetic. What is compared has a name of its own, such as "
 QUOTES = 'a name in quotes is "any text"'
 # A line with | before the place, what is told of it, and what may come there.
 MISTAKES = (
@@ -38,6 +40,23 @@ MISTAKES = (
     ("a |xor b", "'xor' can't come here: 'exactly one of (a, b)' says this", OPERATOR),
     ("a |unless b", "'unless' can't come here: 'b implies a' says that a holds if b does", OPERATOR),
     ("if |a then b", "'a' can't come here: without 'if', 'a implies b' says that b holds if a does", OPERATOR),
+    ("a |excludes b", "'excludes' can't come here: 'never a and b' says that not both hold", OPERATOR),
+    ("a and b |mutually exclusive", "'mutually' can't come here: " + TOGETHER, OPERATOR),
+    ("mutually |exclusive a, b", "'exclusive' can't come here: " + TOGETHER, OPERATOR),
+    ("exclusive|: a, b", "a name doesn't end with ':' without quotes: " + TOGETHER, NAMES),
+    ("between |1 and 2 of a, b, c",
+     "'1' can't come here: 'at least 1 of (a, b) and at most 2 of (a, b)' says this", OPERATOR),
+    ("price |<= 40000", "'<=' can't come here: " + COMPARED + "price_up_to_40000", OPERATOR),
+    ("price|<=40000", "a name has no '<' without quotes: " + COMPARED + "price_up_to_40000", NAMES),
+    ("x and price |≥ 3", "'≥' can't come here: " + COMPARED + "price_from_3", OPERATOR),
+    ("price |= 1.5", "'=' can't come here: " + COMPARED + "price_is_1.5", OPERATOR),
+    ("a |+ b + c <= 2", "'+' can't come here: 'at most 2 of a, b, c' says this", OPERATOR),
+    ("2 |* a + b > 3", "'*' can't come here: there is no arithmetic. What is compared has a name of its own", OPERATOR),
+    ("a |< b", "'<' can't come here: there is no arithmetic", OPERATOR),
+    ("a |!= b", "'!=' can't come here: 'exactly one of (a, b)' says that one holds and the other doesn't", OPERATOR),
+    ("price |1.5", "'1.5' can't come here: a name with a blank in it stands in quotes, \"price 1.5\", and there is no arithmetic",
+     OPERATOR),
+    ("at most |1.5 of a, b", "a number is due in place of '1.5': what is counted is whole", "here may come 'one', or a number as 2"),
     ("nver |a and b", "'a' can't come here. Is 'never' meant in place of 'nver'?", OPERATOR),
     ("touch |screen implies glossy", SCREEN, OPERATOR),
     ("a|, b", "',' can't come here: commas stand in the lists of counts alone", "such as: at most one of a, b"),
