@@ -16,10 +16,12 @@ RULES is a text (- is standard input):
     touch
 
 A line [NAME] begins a rule, and each line below it is a formula that it asks for. What stands under [always] holds whatever
-is given up. docs/RULES.md has the whole language.
+is given up. Under [names] all names may be declared, with commas between: then any other name is refused. docs/RULES.md has the
+whole language.
 
 Names that stand with one sign only are told on standard error, since no clause with such a name is in any conflict, and so
-is a name that they may be meant for. With --strict nothing is written if there is such a name, and the status is 1.
+is a name that they may be meant for; but not if they are declared. With --strict each of them is told with its line, nothing
+is written, and the status is 1.
 
 --after OLD.gcnf: the file begins with all of OLD.gcnf, which was made from some of these rules before, and has the new ones
 behind it. RULES are all rules, in any order: those of OLD are known by their names, and keep their numbers. If one of them
@@ -51,11 +53,11 @@ def main(words):
     if files == ["-"] and after == "-":
         raise telling.WrongWords("RULES and OLD.gcnf can't both come from standard input")
     made = rules.read(telling.text_of(files[0]), files[0])
-    notes = made.notes()
+    notes = made.notes(is_strict)
     for note in notes:
         print(f"gcnf.py: {note}", file=sys.stderr)
     if notes and is_strict:
-        raise telling.Refused(f"{files[0]}: with --strict this is refused")
+        raise telling.Refused(f"{files[0]}: with --strict this is refused; names that are meant so are declared under [names]")
     text = made.gcnf() if after is None else Old(telling.text_of(after), after).longer(made)
     file = text.encode("utf-8", "replace")
     if len(file) > limits.BYTES:

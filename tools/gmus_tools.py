@@ -211,8 +211,8 @@ def text_of_mapping(rules):
     """The names of the rules of a mapping, and their text: a line, or a list of lines, for each name."""
     lines, names = [], []
     for name, given in rules.items():
-        if name.strip().lower() == rule_language.ALWAYS:
-            lines.append(f"[{rule_language.ALWAYS}]")
+        if name.strip().lower() in rule_language.RESERVED:
+            lines.append(f"[{name.strip().lower()}]")
         else:
             names.append(name)
             lines.append(f"[{name_in_text(name, len(names), rules)}]")

@@ -70,9 +70,9 @@ class RuleText:
 
 
 def name_of_rule(name):
-    """The name as a line [NAME] can have it: in it a '#' may begin a comment, and 'always' is the background."""
+    """The name as a line [NAME] can have it: in it a '#' may begin a comment, and two names begin no rule."""
     name = printable(name)
-    if name.lower() == rules.ALWAYS:
+    if name.lower() in rules.RESERVED:
         return f"'{name}'"
     # Something may come behind it, to tell it from another.
     is_fine = may_be_rule(name) and may_be_rule(name + " (2)")
@@ -82,7 +82,7 @@ def name_of_rule(name):
 def may_be_rule(name):
     """Whether a line [NAME] begins a rule of this name."""
     try:
-        return name != "" and rules.head_of(f"[{name}]") == name and name.lower() != rules.ALWAYS
+        return name != "" and rules.head_of(f"[{name}]") == name and name.lower() not in rules.RESERVED
     except Mistake:
         return False
 

@@ -6,6 +6,7 @@
     made.names        the names of the groups; the first is the background's, which has none
     made.variables    the number of each name
     made.notes()      what may be a mistake, a line of text each
+    made.declared     the names that stand under [names], as keys
 
 docs/RULES.md has the language, docs/FORMATS.md the comments in the file. For those who write rules by a program,
 `rules.written(name)` is the name as formulas have it, with quotes if it needs them, and `rules.heading(name)` the line with
@@ -25,11 +26,14 @@ from telling import Refused, plain
 
 __all__ = ["Rules", "heading", "read", "written"]
 
-ALWAYS = "always"
+ALWAYS, NAMES = "always", "names"
+RESERVED = ALWAYS, NAMES      # in any case these begin no rule
 # Defined variables are counted from here until all names are known. Then they are numbered behind the names.
 DEFINED = 1 << 40
 POSITIVE, NEGATIVE = 1, 2
 FRAMES = 40       # how many calls deep one pair of brackets is read, and turned into clauses, at most
+MOST_TOLD = 20    # undeclared names
+IN_NONE = ": no clause with {} is in any conflict"
 FILES = "p gcnf ", "p cnf ", "p gmus ", "p gmev ", "c group ", "c variable "      # what files of gmus begin with
 IN_FORMATS = "docs/FORMATS.md has the limits of a file"
 
@@ -49,7 +53,8 @@ class Rules:
         self.groups = {}            # by name
         self.defined = self.clauses = self.literals = 0
         self.signs = {}             # of each name, by its number
-        self.first_lines = []       # in which each name stands
+        self.first_places = []      # where each name stands first: its line, and the place in it
+        self.declared = {}          # the names that stand under [names], as keys in their order
         self.told = []              # notes on single lines
 
     def gcnf(self):
@@ -77,19 +82,40 @@ class Rules:
             if count > limit:
                 raise Mistake(f"more than {limit:,} {what}", may=IN_FORMATS)
 
-    def notes(self):
-        """What may be a mistake: what was seen in single lines, and names that stand with one sign only."""
-        names = list(self.variables)
-        pure = [name for name, number in self.variables.items() if self.signs[number] != POSITIVE | NEGATIVE]
-        near = near_names(pure, names)
-        told = [f"{self.source}: line {self.first_lines[self.variables[name] - 1]}: "
-                f"'{plain(name)}' stands with one sign only. Is '{plain(near[name])}' meant?" for name in pure if name in near]
-        others = len(pure) - len(near)
+    def notes(self, is_each=False):
+        """What may be a mistake: what was seen in single lines, and names that stand with one sign only, each with its line if
+        so asked, or else as a number but for those that are near to another name. Declared names may have one sign."""
+        pure = [name for name, number in self.variables.items()
+                if self.signs[number] != POSITIVE | NEGATIVE and name not in self.declared]
+        near = near_names(pure, list(self.variables))
+        told = [f"{self.source}: line {self.line_of(name)}: '{plain(name)}' stands with one sign only"
+                + (f". Is '{plain(near[name])}' meant?" if name in near else IN_NONE.format("it"))
+                for name in pure if name in near or is_each]
+        others = 0 if is_each else len(pure) - len(near)
         if others:
             other = "other " if near else ""
             count = f"1 {other}name stands" if others == 1 else f"{others} {other}names stand"
-            told.append(f"{self.source}: {count} with one sign only: no clause with such a name is in any conflict")
+            told.append(f"{self.source}: {count} with one sign only" + IN_NONE.format("such a name"))
         return self.told + told
+
+    def line_of(self, name):
+        """The line in which a name stands first."""
+        return self.first_places[self.variables[name] - 1][0]
+
+    def refuse_undeclared(self, text):
+        """Where names are declared, refuses those that aren't, each at the place where it stands first."""
+        unknown = [name for name in self.variables if name not in self.declared] if self.declared else []
+        if not unknown:
+            return
+        near, lines = near_names(unknown, [*unknown, *self.declared]), text.split("\n")
+        told = []
+        for name in unknown[:MOST_TOLD]:
+            number, at = self.first_places[self.variables[name] - 1]
+            meant = f". Is '{plain(near[name])}' meant?" if near.get(name) in self.declared else ""
+            told.append(Mistake(f"'{plain(name)}' is not declared under [{NAMES}]{meant}", at).told(self.source, number, lines[number - 1]))
+        if len(unknown) > MOST_TOLD:
+            told.append(f"  and {len(unknown) - MOST_TOLD} more names")
+        raise Refused("\n".join([*told, f"  under [{NAMES}] stand all names that rules may have, with commas between"]))
 
 
 def read(text, source):
@@ -143,14 +169,16 @@ def heading(name):
         is_read_back = head_of(line) == name
     except Mistake:
         is_read_back = False
-    if not name or not is_read_back or name.lower() == ALWAYS:
+    if not name or not is_read_back or name.lower() in RESERVED:
         raise Refused(f"no rule can have the name '{plain(name)}'")
     return line
 
 
-def is_glued_comment(line, words):
-    """Whether the line's comment stands right behind a name, as if it belonged to it."""
-    return line.startswith("#", words[-1].at) and words[-2].kind == "name" and not words[-2].quoted
+def remarks_on(line, words):
+    """What is told of the line's comment if it stands right behind a name, as if it belonged to it."""
+    if line.startswith("#", words[-1].at) and words[-2].kind == "name" and not words[-2].quoted:
+        return [f"'#' begins a comment, though it stands right behind '{plain(words[-2].text)}': a name with '#' stands in quotes"]
+    return []
 
 
 class Reader:
@@ -158,8 +186,9 @@ class Reader:
 
     def __init__(self, rules):
         self.rules = rules
-        self.group = None
-        self.number = 0       # of the line
+        self.group = None         # of the rule that was begun
+        self.is_in_names = False  # whether [names] was
+        self.number = 0           # of the line
 
     def read(self, number, line):
         self.number = number
@@ -169,18 +198,21 @@ class Reader:
         name = head_of(line)
         if name is not None:
             self.begin(name, line)
+        elif self.is_in_names:
+            self.declare(line)
         elif self.group is None:
             hint = ": this is a file of gmus, and no text of rules" if bare.startswith(FILES) else ""
             raise Mistake("no rule begins before this line" + hint, len(line) - len(line.lstrip()),
-                          "here may come [NAME] or [always]")
+                          f"here may come [NAME], [{ALWAYS}] or [{NAMES}]")
         else:
             self.add(line)
 
     def begin(self, name, line):
         rules, at = self.rules, line.index("[")
         self.end_rule()
-        if name.lower() == ALWAYS:
-            self.group = 0
+        self.is_in_names = name.lower() == NAMES
+        if name.lower() in RESERVED:
+            self.group = None if self.is_in_names else 0
             return
         if not name:
             raise Mistake("a rule without a name", at + 1, "a rule begins with [NAME]")
@@ -207,15 +239,28 @@ class Reader:
             last = max(1, self.number - text.endswith("\n"))
             raise Refused(f"{self.rules.source}: line {last}: no rule stands in this text\n"
                           "  a rule begins with [NAME], and below it comes what it asks for, such as: a implies b")
+        self.rules.refuse_undeclared(text.lstrip("\ufeff"))
+
+    def declare(self, line):
+        """The names of one line under [names]."""
+        words = words_of(line)
+        for at, word in enumerate(words):
+            if word.kind == "mistake":
+                raise word.text
+            wanted = ("name",) if at % 2 == 0 else (",", "end")
+            if word.kind not in wanted:
+                named = "the line's end" if word.kind == "end" else f"'{word.text}'"
+                raise Mistake(f"{named} can't come here", word.at, "here may come " + (
+                    "a name; a keyword is one in quotes alone" if at % 2 == 0 else "',' and another name, or the line's end"))
+            if word.kind == "name":
+                self.rules.declared[word.text] = None
+        self.tell(remarks_on(line, words))
 
     def add(self, line):
         """The clauses of one line of a rule."""
         rules, words = self.rules, words_of(line)
         tree, remarks = formula_of(words, self.number_of)
-        if is_glued_comment(line, words):
-            remarks.append(f"'#' begins a comment, though it stands right behind '{plain(words[-2].text)}': "
-                           "a name with '#' stands in quotes")
-        rules.told += [f"{rules.source}: line {self.number}: {remark}" for remark in remarks]
+        self.tell(remarks + remarks_on(line, words))
         for literal in signs_in(tree):
             rules.signs[abs(literal)] |= POSITIVE if literal > 0 else NEGATIVE
         clauses = Clauses(self.new_variable).of(tree)
@@ -224,13 +269,17 @@ class Reader:
         rules.refuse_too_many()
         rules.lines[self.group].append(Line(self.number, line[:words[-1].at].strip(), clauses))
 
-    def number_of(self, name):
+    def tell(self, remarks):
+        """Keeps what may be a mistake in this line."""
+        self.rules.told += [f"{self.rules.source}: line {self.number}: {remark}" for remark in remarks]
+
+    def number_of(self, name, at):
         rules = self.rules
         number = rules.variables.get(name)
         if number is None:
             number = rules.variables[name] = len(rules.variables) + 1
             rules.signs[number] = 0
-            rules.first_lines.append(self.number)
+            rules.first_places.append((self.number, at))
         return number
 
     def new_variable(self):

@@ -3,7 +3,7 @@
     from rules_formula import formula_of
     tree, remarks = formula_of(words_of("touch implies not matte"), number_of)
 
-`number_of` gives the number of the variable of a name. A tree is a literal, which is a number above or below 0, or one of
+`number_of` gives the number of the variable of a name, which stands at a place of the line. A tree is a literal, which is a number above or below 0, or one of
 
     ("not", tree)
     ("and", trees), ("or", trees)
@@ -130,7 +130,7 @@ class Reader:
             if not word.quoted and word.text.lower() in COUNT_STARTS and is_count(word, self.words[self.at + 1]):
                 return self.count()
             self.take()
-            return self.number_of(word.text)
+            return self.number_of(word.text, word.at)
         if word.kind == "(":
             return self.brackets(self.formula)
         return self.refuse_operand()

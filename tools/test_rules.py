@@ -186,7 +186,7 @@ class Clauses(unittest.TestCase):
 
     def test_headings(self):
         for name, wanted in (("a", "[a]"), (" a \n b] ", "[a b]]"), ("C# or #2", "[C# or #2]"), ("always on", "[always on]"),
-                             ("a # b", None), ("a] #", None), ("Always", None), (" ", None)):
+                             ("a # b", None), ("a] #", None), ("Always", None), ("NAMES", None), (" ", None)):
             if wanted:
                 self.assertEqual(rules.heading(name), wanted)
                 self.assertEqual(rules.read(f"{wanted}\nx", "r").names, ["", wanted[1:-1]])
@@ -239,9 +239,9 @@ class Mistakes(unittest.TestCase):
         ask = "  below it comes what it asks for, such as: a implies b"
         none = "  a rule begins with [NAME], and below it comes what it asks for, such as: a implies b"
         for text, wanted in (
-                ("a or b", "line 1: no rule begins before this line\n    a or b\n    ^\n  here may come [NAME] or [always]"),
+                ("a or b", "line 1: no rule begins before this line\n    a or b\n    ^\n  here may come [NAME], [always] or [names]"),
                 ("p gmus 7\ns COMPLETE", "line 1: no rule begins before this line: this is a file of gmus, and no text of rules\n"
-                                         "    p gmus 7\n    ^\n  here may come [NAME] or [always]"),
+                                         "    p gmus 7\n    ^\n  here may come [NAME], [always] or [names]"),
                 ("[a]\nx\n[b]\n# nothing\n\n[c]\nx", "line 3: the rule 'b' has no line\n" + ask),
                 ("[a]\n[always]\nx", "line 1: the rule 'a' has no line\n" + ask),
                 ("[a]\nx\n[b]\n", "line 3: the rule 'b' has no line\n" + ask),
@@ -319,6 +319,51 @@ class Notes(unittest.TestCase):
             self.assertEqual(rules.read(f"[r]\n{lines}", "r").notes(), wanted, lines)
 
 
+class Declared(unittest.TestCase):
+    """Names that stand under [names]."""
+
+    def test_a_declared_name_may_have_one_sign_and_changes_no_file(self):
+        text = "[r]\na implies b\n[s]\na\n"
+        for names in ("[names]\na, b\n", "[NAMES]   # all\na   # one\n\n\"b\",c\n", "[names]\nb, a, b\n[names]\n\"not\", a"):
+            made = rules.read(names + "\n" + text, "f")
+            self.assertEqual((made.notes(), made.notes(True), list(made.variables)), ([], [], ["a", "b"]))
+            plain = rules.read("\n" * (names.count("\n") + 1) + text, "f").gcnf()
+            self.assertEqual(made.gcnf(), plain)
+        behind = rules.read(text + "[names]\na, b", "f")
+        self.assertEqual((behind.notes(), behind.gcnf()), ([], rules.read(text, "f").gcnf()))
+        self.assertEqual(len(rules.read(text + "[names]\n# none\n", "f").notes(True)), 1)
+
+    def test_an_undeclared_name_is_refused_at_each_first_place(self):
+        may = "  under [names] stand all names that rules may have, with commas between"
+        for text, told in (
+                ("[names]\nglossy, touch\n[r]\ntouch implies glosy\nglosy", [
+                    "f.rules: line 4: 'glosy' is not declared under [names]. Is 'glossy' meant?", "    touch implies glosy",
+                    "                  ^", may]),
+                ("[r]\nx or (\"y z\" and q)\n[names]\nx", [
+                    "f.rules: line 2: 'y z' is not declared under [names]", '    x or ("y z" and q)', "          ^",
+                    "f.rules: line 2: 'q' is not declared under [names]", '    x or ("y z" and q)', "                    ^", may]),
+        ):
+            self.assertEqual(refusal(text), "\n".join(told))
+        many = refusal("[names]\nx\n[r]\n" + " or ".join(f"a{number}" for number in range(99))).split("\n")
+        self.assertEqual((len(many), many[-2]), (20 * 3 + 2, "  and 79 more names"))
+
+    def test_what_is_no_list_of_names(self):
+        name, comma = "here may come a name; a keyword is one in quotes alone", "here may come ',' and another name, or the line's end"
+        for marked, told, may in (("a |b", "'b' can't come here", comma), ("a, |or", "'or' can't come here", name),
+                                  ("a,|", "the line's end can't come here", name), ("|, a", "',' can't come here", name),
+                                  ("a |implies b", "'implies' can't come here", comma), ("a, b|.", "a name doesn't end with '.' without quotes", NAMES)):
+            line, before = marked.replace("|", "", 1), marked.partition("|")[0]
+            self.assertEqual(refusal(f"[names]\n{line}\n[r]\na"), f"f.rules: line 2: {told}\n    {line}\n    {' ' * len(before)}^\n  {may}", marked)
+        self.assertEqual(rules.read("[names]\na#b\n[r]\na", "f").notes(),
+                         ["f: line 2: '#' begins a comment, though it stands right behind 'a': a name with '#' stands in quotes"])
+
+    def test_each_example_holds_with_strict(self):
+        for name in sorted(os.listdir(EXAMPLES)):
+            if name.endswith(".rules"):
+                with open(os.path.join(EXAMPLES, name), encoding="utf-8") as file:
+                    self.assertEqual(rules.read(file.read(), name).notes(True), [], name)
+
+
 class Program(unittest.TestCase):
     def test_how_it_ends(self):
         usage = b"    tools/gcnf.py RULES [--strict] > FILE.gcnf\n"
@@ -335,8 +380,12 @@ class Program(unittest.TestCase):
                     ([], b"", 2, b"gcnf.py: one file of rules is wanted\n" + usage),
                     (["a", "b"], b"", 2, b"gcnf.py: one file of rules is wanted\n" + usage),
                     (["--lax", "a"], b"", 2, b"gcnf.py: what is --lax?\n" + usage),
-                    (["--strict", "-"], b"[r]\na\n", 1, b"gcnf.py: -: 1 name stands with one sign only: no clause with such "
-                     b"a name is in any conflict\ngcnf.py: -: with --strict this is refused\n"),
+                    (["--strict", "-"], b"[r]\nglosy\nglossy or\\\nb implies c".replace(b"\\\n", b" "), 1,
+                     b"gcnf.py: -: line 2: 'glosy' stands with one sign only. Is 'glossy' meant?\n"
+                     b"gcnf.py: -: line 3: 'glossy' stands with one sign only. Is 'glosy' meant?\n"
+                     b"gcnf.py: -: line 3: 'b' stands with one sign only: no clause with it is in any conflict\n"
+                     b"gcnf.py: -: line 3: 'c' stands with one sign only: no clause with it is in any conflict\n"
+                     b"gcnf.py: -: with --strict this is refused; names that are meant so are declared under [names]\n"),
             ):
                 ended = run(*words, given=given)
                 self.assertEqual((ended.returncode, ended.stdout), (status, b""), words)
