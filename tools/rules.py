@@ -18,6 +18,7 @@ import re
 import sys
 
 import limits
+from rules_alike import alike, looks, mixed, why_alike
 from rules_clauses import Clauses
 from rules_formula import DEPTH, formula_of, signs_in
 from rules_near import near_names
@@ -96,7 +97,23 @@ class Rules:
             other = "other " if near else ""
             count = f"1 {other}name stands" if others == 1 else f"{others} {other}names stand"
             told.append(f"{self.source}: {count} with one sign only" + IN_NONE.format("such a name"))
-        return self.told + told
+        return self.told + self.alike_rules() + self.alike_names() + told
+
+    def alike_rules(self):
+        """Notes on rules whose names look alike, or differ in capitals alone."""
+        found = alike(self.names[1:], lambda name: looks(name).casefold())
+        return [f"{self.source}: line {self.heads[self.groups[name]]}: the rule '{plain(name)}' and '{plain(other)}' of line "
+                f"{self.heads[self.groups[other]]} differ {why_alike(name, other)}" for name, other in found.items()]
+
+    def alike_names(self):
+        """Notes on names that look like others, and on those with a word of two scripts."""
+        foreign = [name for name in self.variables if not name.isascii()]
+        found = alike(self.variables) if foreign else {}
+        told = [f"{self.source}: line {self.line_of(name)}: '{plain(name)}' and '{plain(other)}' of line {self.line_of(other)} "
+                f"differ {why_alike(name, other)}" for name, other in found.items()]
+        seen = {*found, *found.values()}
+        return told + [f"{self.source}: line {self.line_of(name)}: '{plain(name)}' has letters of two scripts in one word, "
+                       f"such as U+{ord(mixed(name)):04X}" for name in foreign if name not in seen and mixed(name)]
 
     def line_of(self, name):
         """The line in which a name stands first."""
@@ -108,10 +125,14 @@ class Rules:
         if not unknown:
             return
         near, lines = near_names(unknown, [*unknown, *self.declared]), text.split("\n")
+        like = {name: other for name, other in alike([*self.declared, *unknown]).items() if other in self.declared}
         told = []
         for name in unknown[:MOST_TOLD]:
             number, at = self.first_places[self.variables[name] - 1]
-            meant = f". Is '{plain(near[name])}' meant?" if near.get(name) in self.declared else ""
+            other = like.get(name) or near.get(name)
+            meant = f". Is '{plain(other)}' meant?" if other in self.declared else ""
+            if name in like:
+                meant = f"; it and '{plain(other)}' differ {why_alike(name, other)}"
             told.append(Mistake(f"'{plain(name)}' is not declared under [{NAMES}]{meant}", at).told(self.source, number, lines[number - 1]))
         if len(unknown) > MOST_TOLD:
             told.append(f"  and {len(unknown) - MOST_TOLD} more names")

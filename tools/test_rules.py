@@ -319,6 +319,31 @@ class Notes(unittest.TestCase):
             self.assertEqual(rules.read(f"[r]\n{lines}", "r").notes(), wanted, lines)
 
 
+class Alike(unittest.TestCase):
+    """Names that look like others. The Cyrillic letters are written as such."""
+
+    def test_rules_and_names_that_look_like_others(self):
+        both = "f: line {}: {} differ by letters of two scripts that look alike, such as U+{}"
+        for text, wanted in (
+                ("[a]\nx iff y\n[A]\nx iff y", ["f: line 3: the rule 'A' and 'a' of line 1 differ in capitals alone"]),
+                ("[a b]\nx iff y\n[a-b]\nx iff y", []),
+                ("[\u0430]\nx iff y\n\n[a]\nx iff y", [both.format(4, "the rule 'a' and '\u0430' of line 1", "0430")]),
+                ("[PAGE]\nx iff y\n[p\u0430ge]\nx iff y", [both.format(3, "the rule 'p\u0430ge' and 'PAGE' of line 1", "0430")]),
+                ("[r]\npage iff x\nx iff p\u0430ge", [both.format(3, "'p\u0430ge' and 'page' of line 2", "0430")]),
+                ("[r]\nA iff \u0391", [both.format(2, "'\u0391' and 'A' of line 2", "0391")]),
+                ("[r]\ncafe\u0301 iff caf\u00e9", ["f: line 2: 'caf\u00e9' and 'cafe\u0301' of line 2 differ in how their letters are composed"]),
+                ("[r]\np\u0430ge iff x", ["f: line 2: 'p\u0430ge' has letters of two scripts in one word, such as U+0430"]),
+                ("[r]\nA iff a", []),
+                ("[r]\n\u0446\u0435\u043d\u0430_max iff \u03bcm", []),
+        ):
+            self.assertEqual(rules.read(text, "f").notes(), wanted, text)
+
+    def test_a_letter_of_another_script_is_told_where_names_are_declared(self):
+        told = refusal("[names]\npage\n[r]\np\u0430ge").split("\n")[0]
+        self.assertEqual(told, "f.rules: line 4: 'p\u0430ge' is not declared under [names]; it and 'page' differ by letters of two "
+                               "scripts that look alike, such as U+0430")
+
+
 class Declared(unittest.TestCase):
     """Names that stand under [names]."""
 
