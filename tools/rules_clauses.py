@@ -6,17 +6,21 @@
 The plain form has the line's own variables alone: what is said is distributed over its parts, and a count has a clause for
 each choice of so many from its list. If that is large, a part gets a variable of its own, which implies the part or is
 implied by it as its place needs (Tseitin 1968; Plaisted and Greenbaum 1986), and a count gets variables that say how many
-hold up to a place of its list (the sequential counter of Sinz 2005). Such a variable stands in the clauses of this one line
-alone. So whatever the names are, the plain form holds exactly if the defined variables can be chosen such that these
-clauses hold.
+hold up to a place of its list (the sequential counter of Sinz 2005), or if the list is long how many hold of parts of it
+(rules_network.py). Such a variable stands in the clauses of this one line alone. So whatever the names are, the plain form
+holds exactly if the defined variables can be chosen such that these clauses hold.
 """
 import itertools
 import math
+
+from rules_network import Network
 
 PLAIN_CLAUSES = 64       # so many clauses of a part, or choices of a count, are written plainly
 PLAIN_LITERALS = 2_000   # and they have at most so many literals
 PLAIN_IFF = 4            # so many clauses of each side of an `iff`, each of which is written twice
 PLAIN_PAIRS = 64         # the list of an `at most one of` with a clause for each pair is at most so long
+LONG_LIST = 200          # so many formulas and more are counted by a network,
+FEW_COUNTED = 2          # if more than so many of them, or of their negations, are looked for
 
 
 class Clauses:
@@ -100,6 +104,8 @@ class Clauses:
 
     def count(self, tree, sign):
         _, least, most, trees = tree
+        if sign and least == most and is_long(min(least, len(trees) - least), trees):
+            return self.long_exactly(least, trees)
         if sign:
             return self.at_least(least, trees) + self.at_most(most, trees)
         if least and most < len(trees):
@@ -134,10 +140,13 @@ class Clauses:
     def counter(self, goal, trees, sign):
         """With defined variables: at least `goal` of the trees hold, or fewer than that if the sign is false.
 
-        A state is a place i and a number j: at least j of the first i trees hold, or fewer do. Only those have a variable for
+        If the list is long they are those of a network. Else a state is a place i and a number j: at least j of the first i trees hold, or fewer do. Only those have a variable for
         which the trees behind the place can still decide, and which don't follow from the goal.
         """
         literals = [self.literal(tree, sign) for tree in trees]
+        if is_long(min(goal, len(trees) + 1 - goal), trees):
+            # fewer than `goal` of the trees hold where so many of their negations do that no more than that are left
+            return self.long_at_least(goal if sign else len(trees) + 1 - goal, literals)
         found, before = [], {}
         for place, literal in enumerate(literals, 1):
             left = len(literals) - place
@@ -153,6 +162,40 @@ class Clauses:
                 found += with_state(head, first) + with_state([*head, literal], second)
             before = now
         return found
+
+
+    # ---- counts of long lists; where fewer of the negations have to be counted, these are
+
+    def long_at_least(self, goal, literals):
+        """That at least so many of the literals hold."""
+        rest = len(literals) + 1 - goal
+        if rest < goal:
+            return self.defined_by(Network(self.new_variable, up=True, down=False), "fewer_than", rest, negated(literals))
+        return self.defined_by(Network(self.new_variable, up=False, down=True), "at_least", goal, literals)
+
+    def long_exactly(self, goal, trees):
+        """That so many of the trees hold, and no more: a variable of a part has to hold just if the part does."""
+        literals = [self.literal(tree, True) for tree in trees]
+        for tree in trees:
+            self.literal(tree, False)
+        network, rest = Network(self.new_variable, up=True, down=True), len(trees) - goal
+        goal, literals = (rest, negated(literals)) if rest < goal else (goal, literals)
+        return self.defined_by(network, "exactly", goal, literals)
+
+    def defined_by(self, network, what, goal, literals):
+        """What the network says of the literals; its outputs are defined once for all."""
+        found = getattr(network, what)(goal, literals)
+        self.definitions += network.definitions
+        return found
+
+
+def negated(literals):
+    return [-literal for literal in literals]
+
+
+def is_long(goal, trees):
+    """Whether a list is counted by a network, of which, or of whose negations, at least so many are looked for."""
+    return len(trees) >= LONG_LIST and goal > FEW_COUNTED
 
 
 def is_plain(size, trees):

@@ -3,6 +3,7 @@
 
 GMUS_TRIALS=1000 in the environment tries so many of them.
 """
+import contextlib
 import itertools
 import os
 import random
@@ -16,11 +17,13 @@ sys.path[:0] = [TOOLS, BENCH]
 
 import rules          # noqa: E402
 import rules_clauses  # noqa: E402
+import rules_network  # noqa: E402
 
 NAMES = "abcdef"
 TIGHTNESS = {"iff": 0, "implies": 1, "never": 1, "or": 2, "and": 3, "not": 4, "count": 5, "name": 5}
-# how large a plain form may be: as it is, small, and never plain
-SIZES = ((64, 2_000, 64), (3, 20, 2), (0, 0, 0))
+# how large a plain form may be, and a list without a network: as it is, small, never plain, and always with a network, of which
+# six or two literals may be put in order at once
+SIZES = ((64, 2_000, 64, 200, 6), (3, 20, 2, 200, 6), (0, 0, 0, 200, 6), (0, 0, 0, 1, 6), (0, 0, 0, 1, 2))
 
 
 def formula(draw, depth):
@@ -95,6 +98,24 @@ def can_hold(clauses):
     return True
 
 
+def is_settled(clauses, units):
+    """Whether propagation of units, from these on, falsifies no clause."""
+    places = {}
+    for clause in clauses:
+        for lit in clause:
+            places.setdefault(-lit, []).append(clause)
+    true, todo = set(units), list(units)
+    while todo:
+        for clause in places.get(todo.pop(), ()):
+            left = [lit for lit in clause if -lit not in true]
+            if not left:
+                return False
+            if len(left) == 1 and left[0] not in true:
+                true.add(left[0])
+                todo.append(left[0])
+    return True
+
+
 def assignments():
     for values in itertools.product((False, True), repeat=len(NAMES)):
         yield dict(zip(NAMES, values))
@@ -104,8 +125,16 @@ def clauses_of(made):
     return [list(map(int, line.split()[1:-1])) for line in made.gcnf().split("\n") if line.startswith("{")]
 
 
+@contextlib.contextmanager
 def sized(size):
-    return mock.patch.multiple(rules_clauses, PLAIN_CLAUSES=size[0], PLAIN_LITERALS=size[1], PLAIN_PAIRS=size[2])
+    few = 2 if size[3] > 1 else 0
+    for it in (rules_network.best_way, rules_network.best_merge):
+        it.cache_clear()
+    with mock.patch.multiple(rules_clauses, PLAIN_CLAUSES=size[0], PLAIN_LITERALS=size[1], PLAIN_PAIRS=size[2], LONG_LIST=size[3],
+                             FEW_COUNTED=few), mock.patch.object(rules_network, "SMALL", size[4]):
+        yield
+    for it in (rules_network.best_way, rules_network.best_merge):
+        it.cache_clear()
 
 
 class Clauses(unittest.TestCase):
@@ -138,13 +167,33 @@ class Clauses(unittest.TestCase):
         listed, all_of = ", ".join(names), " and ".join(names)
         for line, variables, clauses in (
                 (f"at most one of {listed}", 300, 3 * 300), (f"exactly one of {listed}", 300, 3 * 300 + 1),
-                (f"at least 298 of {listed}", 2 * 300, 6 * 300), (f"exactly 20 of {listed}", 2 * 20 * 300, 2 * (20 + 21) * 300),
+                (f"at least 298 of {listed}", 750, 1_400), (f"exactly 20 of {listed}", 2_500, 9_000),
+                (f"at most 20 of {listed}", 2_500, 5_000), (f"not exactly 20 of ({listed})", 5_000, 9_000),
                 (f"at most 299 of {listed}", 0, 1), (f"at least one of {listed}", 0, 1), (f"a implies {all_of}", 0, 300),
                 (f"a and b or {all_of}", 1, 300 + 2), (" or ".join(f"a{at} and b{at}" for at in range(300)), 300, 2 * 300 + 1),
                 (" iff (".join(names[:100]) + ")" * 99, 2 * 99, 8 * 99)):
             made = rules.read(f"[r]\n{line}", "r")
             self.assertLessEqual(made.defined, variables, line[:40])
             self.assertLessEqual(made.clauses, clauses, line[:40])
+
+    def test_500_of_2_000_take_at_most_five_megabytes(self):
+        listed = ", ".join(f"x{number}" for number in range(2_000))
+        for kind in ("at most 500", "exactly 1500"):
+            self.assertLess(len(rules.read(f"[r]\n{kind} of {listed}", "r").gcnf()), 5_000_000, kind)
+
+    def test_counts_of_long_lists_say_what_they_say(self):
+        """Once all names have a value, propagation of units finds whether a count by a network holds."""
+        for seed in range(4):
+            draw = random.Random(seed)
+            total, number = draw.randint(200, 260), draw.randint(3, 197)
+            names = [f"x{place}" for place in range(total)]
+            for kind, holds_for in (("at most", lambda held: held <= number), ("at least", lambda held: held >= number),
+                                    ("exactly", lambda held: held == number)):
+                clauses = clauses_of(rules.read(f"[r]\n{kind} {number} of {', '.join(names)}", "r"))
+                for held in (number - 1, number, number + 1, draw.randint(0, total)):
+                    true = set(draw.sample(range(1, total + 1), held))
+                    units = [place if place in true else -place for place in range(1, total + 1)]
+                    self.assertEqual(is_settled(clauses, units), holds_for(held), (seed, kind, number, total, held))
 
 
 @unittest.skipUnless(os.path.isdir(BENCH), "the folder bench, which tries every set, is not here")
@@ -167,7 +216,7 @@ class Answers(unittest.TestCase):
                 if group and rows[place - 1][0] != group:
                     lines.append(f"[rule {group}]")
                 lines.append(text_of(draw, tree))
-            with sized((0, 0, 0)):
+            with sized(SIZES[2 + number % 3]):
                 text = rules.read("\n".join(lines), "r").gcnf()
             variables, groups, clauses = brute_force.problem_of(text.split("\n"))
             if variables <= 14:
