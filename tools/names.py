@@ -29,7 +29,7 @@ import sys
 
 import page
 import roles_report
-from report import decoded, named, number_of
+from report import Origin, decoded, named, number_of
 from telling import DONE, Refused, WrongWords, bytes_of, run
 
 CLASH = 3
@@ -66,8 +66,8 @@ def left_line(count, first):
 
 def as_json(shown):
     """The whole report as JSON, one set a line."""
-    head = {"version": VERSION, "file": shown.file, "complete": shown.report.is_complete, "groups": shown.report.groups,
-            "names": {str(group): name for group, name in sorted(shown.names.items())}}
+    head = {"version": VERSION, "file": shown.origin.name, "complete": shown.report.is_complete, "groups": shown.report.groups,
+            "names": {str(group): name for group, name in sorted(shown.origin.names.items())}}
     counts = [{"group": group, "conflicts": conflicts, "corrections": corrections}
               for group, (conflicts, corrections) in shown.counts]
     lines = [f'"{key}": {written(value)}' for key, value in head.items()]
@@ -144,15 +144,16 @@ def main(words):
     asked = Words(words)
     file, held = asked.files[0], bytes_of(asked.files[0])
     report = decoded(bytes_of(asked.files[1] if asked.files[1:] else "-"))
+    origin = Origin(decoded(held), file)
     first = ON_A_TERMINAL if asked.first is None and sys.stdout.isatty() else asked.first
     if roles_report.is_roles(report):
         if asked.evidence is not None:
             raise Refused("--why: a report of roles has no conflicts to open")
-        shown = clashing = roles_report.Roles(decoded(held), report, file)
+        shown = clashing = roles_report.Roles(origin, report)
         text = {"json": roles_report.as_json, "html": roles_report.as_html}.get(
             asked.form, lambda roles: roles_report.as_text(roles, first))(shown)
     else:
-        shown = named(decoded(held), report, file)
+        shown = named(origin, report)
         clashing = shown.report
         if asked.form == "json":
             text = as_json(shown)

@@ -40,6 +40,29 @@ def read_problem(text):
     return {group: " ".join(texts) for group, texts in names.items()}, groups
 
 
+class Origin:
+    """What a report is of: a file, by its name, with what its comments say."""
+
+    def __init__(self, text, name):
+        self.path = name
+        self.name = plain(name.rpartition("/")[2])
+        self.names, self.groups = read_problem(text)
+
+    def name_of(self, group):
+        return self.names.get(group, f"group {group}")
+
+    def want_header(self):
+        """Refuses a file that has none."""
+        if self.groups is None:
+            raise Refused(f"{self.path}: it has no header 'p gcnf ..' or 'p cnf ..'")
+
+    def want_groups(self, groups):
+        """Refuses a report of so many groups if the file has others."""
+        if self.groups != groups:
+            raise Refused(f"the report can't be read: it is of another file: {self.path} has groups up to {self.groups}, and it "
+                          f"has them up to {groups}")
+
+
 class Report:
     """The sets of a report, as lists of group numbers."""
 
@@ -97,11 +120,10 @@ class Named:
     """A report with the names of its groups, in the order in which a person reads it: first the rules in most conflicts,
     then those in most corrections; and the sets of few rules before larger ones, since they tell most."""
 
-    def __init__(self, report, names, file):
+    def __init__(self, report, origin):
         self.report = report
-        self.names = names
-        self.file = plain(file.rpartition("/")[2])
-        self.title = f"What clashes in {self.file}"
+        self.origin = origin
+        self.title = f"What clashes in {origin.name}"
         self.counts = report.counts()
         self.conflicts = sorted(report.conflicts, key=len)
         self.corrections = sorted(report.corrections, key=len)
@@ -109,7 +131,7 @@ class Named:
         self.others = [group for group in range(1, report.groups + 1) if group not in involved]
 
     def name(self, group):
-        return self.names.get(group, f"group {group}")
+        return self.origin.name_of(group)
 
     def has_choice(self):
         """Whether there is a set with rules in it, of which some can be given up."""
@@ -142,16 +164,12 @@ class Named:
         return f"In none{so_far}: " + "; ".join(self.name(group) for group in self.others) + "."
 
 
-def named(file_text, report_text, file_name):
+def named(origin, report_text):
     """The report of a file with its names; refused if it is none, or one of another file."""
-    names, groups = read_problem(file_text)
-    if groups is None:
-        raise Refused(f"{file_name}: it has no header 'p gcnf ..' or 'p cnf ..'")
+    origin.want_header()
     try:
         report = Report(report_text)
-        if groups != report.groups:
-            raise Refused(f"it is of another file: {file_name} has groups up to {groups}, and it has them up to "
-                          f"{report.groups}")
     except Refused as why:
         raise Refused(f"the report can't be read: {why}") from None
-    return Named(report, names, file_name)
+    origin.want_groups(report.groups)
+    return Named(report, origin)

@@ -5,8 +5,8 @@ import json
 import re
 
 from page import cut, part
-from report import number_of, read_problem
-from telling import Refused, plain
+from report import number_of
+from telling import Refused
 
 HEAD = "p roles "
 LINE = re.compile(r"r ([1-9][0-9]{0,17}) (every|some|none)")
@@ -29,20 +29,16 @@ class Roles:
 
     UNCLEAR = "no rule is in a conflict, and the background may clash with itself"
 
-    def __init__(self, file_text, report_text, file_name):
-        self.names, groups = read_problem(file_text)
-        if groups is None:
-            raise Refused(f"{file_name}: it has no header 'p gcnf ..' or 'p cnf ..'")
-        self.file = plain(file_name.rpartition("/")[2])
-        self.title = f"Which rules clash in {self.file}"
+    def __init__(self, origin, report_text):
+        self.origin = origin
+        self.title = f"Which rules clash in {origin.name}"
         self.groups = {role: [] for role, _, _ in SECTIONS}
+        origin.want_header()
         lines = report_text.split("\n")
         found = re.fullmatch(r"p roles (0|[1-9][0-9]{0,17})", lines[0])
         if not found or lines[-1] or len(lines) != int(found.group(1)) + 2:
             raise Refused("the report can't be read: it is cut off, or is no report")
-        if int(found.group(1)) != groups:
-            raise Refused(f"the report can't be read: it is of another file: {file_name} has groups up to {groups}, and it has "
-                          f"them up to {found.group(1)}")
+        origin.want_groups(int(found.group(1)))
         for group, line in enumerate(lines[1:-1], 1):
             found = LINE.fullmatch(line)
             if not found or int(found.group(1)) != group:
@@ -50,7 +46,7 @@ class Roles:
             self.groups[found.group(2)].append(group)
 
     def name(self, group):
-        return self.names.get(group, f"group {group}")
+        return self.origin.name_of(group)
 
     def has_clash(self):
         """Whether something clashes, or None if the report does not tell: the background may clash with itself."""
@@ -81,8 +77,8 @@ def as_text(roles, first=None):
 
 def as_json(roles):
     """The roles as JSON, a list of groups a line."""
-    head = {"version": VERSION, "file": roles.file, "groups": sum(map(len, roles.groups.values())),
-            "names": {str(group): name for group, name in sorted(roles.names.items())}, **roles.groups}
+    head = {"version": VERSION, "file": roles.origin.name, "groups": sum(map(len, roles.groups.values())),
+            "names": {str(group): name for group, name in sorted(roles.origin.names.items())}, **roles.groups}
     return "{\n" + ",\n".join(f'"{key}": {json.dumps(value, ensure_ascii=False)}' for key, value in head.items()) + "\n}\n"
 
 

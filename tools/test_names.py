@@ -34,7 +34,7 @@ def run(*words, given=b""):
 
 
 def shown(text, problem="", file="t"):
-    return report.Named(report.Report(text), report.read_problem(problem)[0], file)
+    return report.Named(report.Report(text), report.Origin(problem, file))
 
 
 class Reading(unittest.TestCase):

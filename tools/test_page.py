@@ -32,15 +32,16 @@ def laptop():
 
 
 def shown(text, problem="", file="t"):
-    return report.Named(report.Report(text), report.read_problem(problem)[0], file)
+    return report.Named(report.Report(text), report.Origin(problem, file))
 
 
 def hostile():
     """A report whose rules have the hostile names, each in a conflict with the first."""
     many = len(HOSTILE)
     sets = "".join(f"u 1 {at} 0\n" for at in range(2, many + 1)) + "m 1 0\n" + f"m {' '.join(map(str, range(2, many + 1)))} 0\n"
-    names = dict(enumerate(HOSTILE, 1))
-    return report.Named(report.Report(f"p gmus {many}\ns COMPLETE\n{sets}e {many - 1} 2\n"), names, HOSTILE[0].replace("/", ""))
+    origin = report.Origin("", HOSTILE[0].replace("/", ""))
+    origin.names.update(enumerate(HOSTILE, 1))
+    return report.Named(report.Report(f"p gmus {many}\ns COMPLETE\n{sets}e {many - 1} 2\n"), origin)
 
 
 class Elements(html.parser.HTMLParser):

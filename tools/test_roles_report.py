@@ -5,6 +5,7 @@ import unittest
 
 from test_names import LAPTOP, run
 import roles_report
+from report import Origin
 from telling import Refused
 
 NAMES = "c group 1 a <touch> screen\nc group 3 no fan\np gcnf 2 4 4\n"
@@ -40,7 +41,7 @@ No clash needs any of these.
 
 
 def roles(report=ROLES, file=NAMES):
-    return roles_report.Roles(file, report, "in/f.gcnf")
+    return roles_report.Roles(Origin(file, "in/f.gcnf"), report)
 
 
 class Roles(unittest.TestCase):

@@ -39,7 +39,7 @@ import time
 
 import page
 import program
-from report import decoded, named, number_of
+from report import Origin, decoded, named, number_of
 from telling import Refused, bytes_of, run
 from watch_journal import JournalWatch
 from watch_words import MOST, Words
@@ -131,7 +131,7 @@ class Watch:
         self.new = f"{self.place}.{os.getpid()}.new"
         self.known = sets_in(asked.evidence)
         self.began = time.monotonic()
-        self.file_text = None
+        self.origin = None
 
     def rounds(self):
         """Lists round by round, and gives the program's last status, and its line if the last limit was reached."""
@@ -188,9 +188,9 @@ class Watch:
 
     def keep(self, limit, output):
         """Has a round's evidence take the place of the one before, and shows what it found."""
-        if self.file_text is None:
-            self.file_text = decoded(bytes_of(self.asked.file))
-        shown = named(self.file_text, output, self.asked.file)
+        if self.origin is None:
+            self.origin = Origin(decoded(bytes_of(self.asked.file)), self.asked.file)
+        shown = named(self.origin, output)
         with open(self.new, "rb") as evidence:
             os.fsync(evidence.fileno())
         os.replace(self.new, self.place)

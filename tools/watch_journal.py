@@ -7,7 +7,7 @@ import re
 import time
 
 import page
-from report import decoded, named, number_of, read_problem
+from report import Origin, decoded, named, number_of
 from telling import DONE, Refused, bytes_of
 
 OPEN = 1
@@ -70,11 +70,9 @@ class JournalWatch:
 
     def __init__(self, asked, stop, write_whole):
         self.asked, self.stop, self.write_whole = asked, stop, write_whole
-        self.file_text = decoded(bytes_of(asked.file))
-        _, groups = read_problem(self.file_text)
-        if groups is None:
-            raise Refused(f"{asked.file}: it has no header 'p gcnf ..' or 'p cnf ..'")
-        self.journal = Journal(asked.journal, groups)
+        self.origin = Origin(decoded(bytes_of(asked.file)), asked.file)
+        self.origin.want_header()
+        self.journal = Journal(asked.journal, self.origin.groups)
         self.began, self.at_first, self.known = None, None, 0
 
     def looks(self):
@@ -108,7 +106,7 @@ class JournalWatch:
         self.known = min(self.known, len(sets))
         report = "\n".join([f"p gmus {self.journal.groups}", "s PARTIAL", *sets,
                             f"e {sum(line[0] == 'u' for line in sets)} {sum(line[0] == 'm' for line in sets)}", ""])
-        shown = named(self.file_text, report, self.asked.file)
+        shown = named(self.origin, report)
         self.show(shown, sets[self.known:])
         self.known = len(sets)
         if self.at_first is None:
