@@ -25,7 +25,8 @@ is written, and the status is 1.
 
 --after OLD.gcnf: the file begins with all of OLD.gcnf, which was made from some of these rules before, and has the new ones
 behind it. RULES are all rules, in any order: those of OLD are known by their names, and keep their numbers. If one of them
-changed or is gone, or if [always] is another, its line is told and the status is 1.
+changed or is gone, or if [always] says less or something else, its line is told and the status is 1. New lines of [always] are
+taken if new names alone can make them true, for which gmus is called once.
 """
 import sys
 

@@ -47,6 +47,7 @@ def as_text(shown, first=None):
         lines += left_line(len(shown.counts), first)
     if shown.others_line():
         lines += ["", shown.others_line()]
+    lines += shown.origin.later_text()
     for heading, meaning, alone, sets in shown.sections():
         lines += ["", heading, "-" * len(heading), "", meaning]
         for at, members in enumerate(sets[:first], 1):
@@ -71,7 +72,8 @@ def as_json(shown):
     counts = [{"group": group, "conflicts": conflicts, "corrections": corrections}
               for group, (conflicts, corrections) in shown.counts]
     lines = [f'"{key}": {written(value)}' for key, value in head.items()]
-    for key, rows in (("counts", counts), ("conflicts", shown.conflicts), ("corrections", shown.corrections)):
+    later = [{"line": line, "text": text, "groups": groups} for (line, text), groups in shown.origin.later.items()]
+    for key, rows in (("later", later), ("counts", counts), ("conflicts", shown.conflicts), ("corrections", shown.corrections)):
         lines.append(f'"{key}": [' + ",".join("\n  " + written(row) for row in rows) + ("\n]" if rows else "]"))
     return "{\n" + ",\n".join(lines) + "\n}\n"
 

@@ -9,6 +9,8 @@ import json
 import os
 import re
 
+from report import LATER_LINES
+
 HERE = os.path.dirname(os.path.abspath(__file__))
 # A name that is longer is cut in the lists, since the table of rules has it whole; and shorter, if all sets together have so
 # many rules that the lists have to be brief.
@@ -40,6 +42,7 @@ def as_html(shown, reasons=None):
         '<meta name="viewport" content="width=device-width, initial-scale=1">',
         f"<title>{text(shown.title)}</title>", f"<style>\n{part('page.css')}</style>", *begin, "</head>",
         "<body>", f"<h1>{text(shown.title)}</h1>", f"<p>{text(shown.summary())}</p>",
+        *later_parts(shown.origin),
         '<div id="plain">', *plain_parts(shown, reasons), "</div>",
     ]
     if shown.has_choice():
@@ -47,6 +50,14 @@ def as_html(shown, reasons=None):
                   f'<script type="application/json" id="data">{in_script(data(shown, reasons))}</script>',
                   '<script>\n(function () {\n"use strict";', part("page_choices.js") + part("page.js") + "})();\n</script>"]
     return "".join(each + "\n" for each in parts + ["</body>", "</html>"])
+
+
+def later_parts(origin):
+    """What is said of the lines that came to [always] later, if there are any."""
+    if origin.later:
+        yield f"<p>{LATER_LINES}</p>\n<ul>"
+        yield from (f"<li>{html.escape(line)}</li>" for line in origin.later_lines())
+        yield "</ul>"
 
 
 def plain_parts(shown, reasons):

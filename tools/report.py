@@ -10,9 +10,15 @@ COMMENT = re.compile(r"[ \t]*c")
 LINE = re.compile(r"[^\n]+")
 # A number of 19 digits or more is above every group. Digits without end would be costly to read.
 NAMING = re.compile(r"^[ \t]*c[ \t]+group[ \t]+0*([0-9]{1,18})[ \t]+(\S[^\n]*)", re.MULTILINE)
+# what came to [always] later, and stands in the groups of rules (docs/FORMATS.md)
+LATER = re.compile(r"^c always ([0-9]{1,9}) (.*)|^\{([0-9]{1,9})\}", re.MULTILINE)
 HEADER = re.compile(r"p gcnf [0-9]+ [0-9]+ 0*([0-9]{1,18})|p cnf [0-9]+ 0*([0-9]{1,18})( .*)?")
 HEAD = re.compile(r"p gmus ([0-9]{1,18})")
 SET = re.compile(r"(u|m)((?: [1-9][0-9]{0,17})*) 0")
+
+
+FEW = 20        # of the rules with which a line of [always] stands, so many are named
+LATER_LINES = "What came to [always] since stands with the rules that need it:"
 
 
 def decoded(held):
@@ -40,6 +46,18 @@ def read_problem(text):
     return {group: " ".join(texts) for group, texts in names.items()}, groups
 
 
+def read_later(text):
+    """The lines of rules that came to [always] once the file was made, each with its number and the groups that have it."""
+    found, line = {}, None
+    for part in LATER.finditer(text):
+        if part.group(1):
+            line = int(part.group(1)), plain(part.group(2))
+        elif line:
+            found.setdefault(line, {})[int(part.group(3))] = None
+            line = None
+    return {line: list(groups) for line, groups in found.items()}
+
+
 class Origin:
     """What a report is of: a file, by its name, with what its comments say."""
 
@@ -47,9 +65,20 @@ class Origin:
         self.path = name
         self.name = plain(name.rpartition("/")[2])
         self.names, self.groups = read_problem(text)
+        self.later = read_later(text) if "\nc always " in text else {}
 
     def name_of(self, group):
         return self.names.get(group, f"group {group}")
+
+    def later_lines(self):
+        """Of each line that came to [always] later, with which rules it stands, and what it says."""
+        for (line, text), groups in self.later.items():
+            shown = "; ".join(map(self.name_of, groups[:FEW])) + (f" and {len(groups) - FEW} more" if len(groups) > FEW else "")
+            yield f"line {line}, with {shown}: {text}"
+
+    def later_text(self):
+        """The same as lines of a text, behind an empty one."""
+        return ["", LATER_LINES, *("  " + line for line in self.later_lines())] if self.later else []
 
     def want_header(self):
         """Refuses a file that has none."""

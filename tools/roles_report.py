@@ -4,7 +4,7 @@ import html
 import json
 import re
 
-from page import cut, part
+from page import cut, later_parts, part
 from report import number_of
 from telling import Refused
 
@@ -65,7 +65,7 @@ class Roles:
 
 def as_text(roles, first=None):
     """The roles as a text; of each list the first ones alone, if so many are asked for."""
-    lines = [roles.title, "=" * len(roles.title), "", roles.summary()]
+    lines = [roles.title, "=" * len(roles.title), "", roles.summary(), *roles.origin.later_text()]
     for heading, meaning, groups in roles.sections():
         lines += ["", heading, "-" * len(heading), "", meaning, ""]
         lines += [f"{group:5}  {roles.name(group)}" for group in groups[:first]]
@@ -88,7 +88,8 @@ def as_html(roles):
     lines = ["<!DOCTYPE html>", '<html lang="en">', "<head>", '<meta charset="utf-8">',
              '<meta name="viewport" content="width=device-width, initial-scale=1">',
              f"<title>{text(roles.title)}</title>", f"<style>\n{part('page.css')}</style>", "</head>",
-             "<body>", f"<h1>{text(roles.title)}</h1>", f"<p>{text(roles.summary())}</p>"]
+             "<body>", f"<h1>{text(roles.title)}</h1>", f"<p>{text(roles.summary())}</p>",
+             *later_parts(roles.origin)]
     for heading, meaning, groups in roles.sections():
         lines += [f"<h2>{heading}</h2>", f"<p>{text(meaning)}</p>", "<table>",
                   '<tr class="head"><th class="n">no.</th><th>rule</th></tr>']

@@ -127,7 +127,7 @@ class Texts(unittest.TestCase):
         made = names.as_json(shown("p gmus 3\ns PARTIAL\nu 1 2 0\nu 3 0\nm 1 3 0\ne 2 1\n", "c group 1 \"ä\\b\"\nc group 0 all\n", "/a/b.gcnf"))
         self.assertEqual(json.loads(made, object_pairs_hook=lambda pairs: [list(pair) for pair in pairs]), [
             ["version", 1], ["file", "b.gcnf"], ["complete", False], ["groups", 3], ["names", [["0", "all"], ["1", "\"ä\\b\""]]],
-            ["counts", [[["group", 1], ["conflicts", 1], ["corrections", 1]], [["group", 3], ["conflicts", 1], ["corrections", 1]],
+            ["later", []], ["counts", [[["group", 1], ["conflicts", 1], ["corrections", 1]], [["group", 3], ["conflicts", 1], ["corrections", 1]],
                         [["group", 2], ["conflicts", 1], ["corrections", 0]]]],
             ["conflicts", [[3], [1, 2]]], ["corrections", [[1, 3]]]])
 
@@ -136,6 +136,17 @@ class Texts(unittest.TestCase):
             wanted = file.read().partition("### The report as JSON")[2].partition("```text\n")[2].partition("```")[0]
         first = os.path.join(EXAMPLES, "first")
         self.assertEqual(run(first + ".gcnf", first + ".report", "--json"), (0, wanted, ""))
+
+    def test_what_came_to_always_is_told_with_its_rules(self):
+        problem = ("c variable 1 x\np gcnf 2 5 3\n{0} 1 0\nc group 2 a pen\n{2} 2 0\nc always 3 x implies pen\n{2} -1 2 0\n"
+                   "c always 4 never twice\n{2} 1 0\n{2} 2 0\nc group 3 ink\nc always 4 never twice\n{3} 1 0\n")
+        made = shown("p gmus 3\ns COMPLETE\nm 0\ne 0 1\n", problem)
+        self.assertTrue(names.as_text(made).endswith(
+            "all rules fit together.\n\nWhat came to [always] since stands with the rules that need it:\n"
+            "  line 3, with a pen: x implies pen\n  line 4, with a pen; ink: never twice\n"))
+        self.assertEqual(json.loads(names.as_json(made))["later"], [
+            {"line": 3, "text": "x implies pen", "groups": [2]}, {"line": 4, "text": "never twice", "groups": [2, 3]}])
+        self.assertEqual(shown("p gmus 3\ns COMPLETE\nm 0\ne 0 1\n", problem.replace("c always", "c rule")).origin.later, {})
 
     def test_json_of_special_reports(self):
         for text, complete, conflicts, corrections in (

@@ -93,6 +93,11 @@ class Text(unittest.TestCase):
         for outside in ("http", "src=", "url(", "@import", "fetch(", "import("):
             self.assertNotIn(outside, made)
 
+    def test_what_came_to_always_is_seen_with_scripts_and_without(self):
+        made = page.as_html(shown("p gmus 1\ns COMPLETE\nu 1 0\nm 1 0\ne 1 1\n", "p gcnf 1 1 1\nc always 3 a implies <b>\n{1} 1 0\n"))
+        self.assertIn("<p>What came to [always] since stands with the rules that need it:</p>\n<ul>\n"
+                      "<li>line 3, with group 1: a implies &lt;b&gt;</li>\n</ul>\n<div id=\"plain\">", made)
+
     def test_without_scripts_it_has_the_whole_report(self):
         plain = page.as_html(laptop(), {(1, 2): [(None, ["touch implies glossy"])]}).partition('<main id="decide">')[0]
         text = " ".join(html.unescape(plain).replace("</li>", ";").replace("<", " <").split())

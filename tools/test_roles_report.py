@@ -49,6 +49,12 @@ class Roles(unittest.TestCase):
         self.assertEqual(roles_report.as_text(roles()), TEXT)
         self.assertEqual(roles_report.as_text(roles(), 1), TEXT.replace("    3  no fan\n", "\n1 more is left: --first 2 has all of them.\n"))
 
+    def test_what_came_to_always_is_told(self):
+        file = NAMES + "{1} 1 0\nc always 3 a implies b\n{1} 1 0\n"
+        self.assertEqual(roles_report.as_text(roles(file=file)).split("\n")[4:7], [
+            "", "What came to [always] since stands with the rules that need it:", "  line 3, with a <touch> screen: a implies b"])
+        self.assertIn("<li>line 3, with a &lt;touch&gt; screen: a implies b</li>", roles_report.as_html(roles(file=file)))
+
     def test_a_list_that_has_none_is_left_out(self):
         self.assertEqual(roles_report.as_text(roles("p roles 2\nr 1 none\nr 2 none\n", "p cnf 1 2\n")).split("\n")[3:], [
             "No rule is in a conflict: all rules fit together, unless the background clashes with itself.", "", "In no conflict",

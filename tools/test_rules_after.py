@@ -114,16 +114,13 @@ class Longer(unittest.TestCase):
                 (ALWAYS + TOUCH + "pen\n" + MATTE, ["b.rules: line 6: the rule 'a touch screen' is not as in a.gcnf"]),
                 (ALWAYS + TOUCH + MATTE.replace("not glossy\n", ""), ["a.gcnf: line 16: of the rule 'a matte screen' this is gone from b.rules"]),
                 (TOUCH + MATTE, ["a.gcnf: line 6: of [always] this is gone from b.rules"]),
-                (ALWAYS + "pen or touch\n" + TOUCH + MATTE, ["b.rules: line 4: [always] is not as in a.gcnf"]),
+                (ALWAYS.replace("or matte", "or not matte") + "pen or touch\n" + TOUCH + MATTE, ["b.rules: line 2: [always] is not as in a.gcnf"]),
                 ("[always]\nmatte or glossy\ntouch implies glossy\n" + TOUCH.replace("touch\n", "pen\n") + MATTE,
                  ["b.rules: line 2: [always] is not as in a.gcnf", "b.rules: line 5: the rule 'a touch screen' is not as in a.gcnf"]),
         ):
             with self.assertRaises(Refused) as refused:
                 longer(old, text)
             self.assertEqual(str(refused.exception).split("\n")[:-1], told)
-        with self.assertRaises(Refused) as refused:
-            longer(TOUCH, ALWAYS + TOUCH)
-        self.assertEqual(str(refused.exception).split("\n")[0], "b.rules: line 2: [always] is not as in a.gcnf")
 
     def test_defined_variables_are_not_names(self):
         counted = "[one]\nat most 2 of " + ", ".join(f"x{i}" for i in range(9)) + "\n"

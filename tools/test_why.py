@@ -90,6 +90,13 @@ class Followed(unittest.TestCase):
         text = "p gmev 1 1 3 3\nu 1 2 0\nd 4 4 1 -2 0 1 0\nd 5 1 -2 0 4 3 0\nd 6 -2 -3 0 5 2 0\nr 0 6\nw 1 0\nw 2 1 0\ne partial\n"
         self.assertEqual(used("p gcnf 1 3 3\n{1} 1 0\n{2} -1 0\n{3} 1 0\n", text), {(1, 2): [1, 2]})
 
+    def test_what_is_of_always_is_told_so_wherever_it_stands(self):
+        file = "p gcnf 2 3 2\nc rule 2 x\n{1} 1 0\nc always 1 x implies y\n{1} -1 2 0\nc rule 3 not y\n{2} -2 0\n"
+        text = "p gmev 1 2 3 2\nu 1 2 0\nd 4 -3 -4 0 1 2 3 0\nr 0 4\nw 1 0\nw 2 1 2 0\ne partial\n"
+        found = problem(file)
+        self.assertEqual([reason.parts for reason in why.reasons(found, evidence(text, found))], [
+            [(0, [("line 1", "x implies y")]), (1, [("line 2", "x")]), (2, [("line 3", "not y")])]])
+
     def test_conflicts_come_in_the_order_of_the_report(self):
         with open(EVIDENCE) as stored:
             text = stored.read()

@@ -37,7 +37,7 @@ def reasons(problem, evidence, number=None):
         parts = {}
         for clause in evidence.clauses_of(at):
             # several clauses come of one line of rules, which is told once
-            lines = parts.setdefault(problem.group_of[clause], {})
+            lines = parts.setdefault(problem.told_with(clause), {})
             lines.setdefault(problem.written_as(clause))
         yield Reason(at + 1, evidence.conflicts[at], [Part(group, list(parts[group])) for group in sorted(parts)])
 

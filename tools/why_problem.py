@@ -15,7 +15,7 @@ from telling import Refused, plain
 
 GROUP = re.compile(r"c[ \t]+group[ \t]+([0-9]{1,18})[ \t]+(\S.*)")
 VARIABLE = re.compile(r"c[ \t]+variable[ \t]+([0-9]{1,18})[ \t]+(\S.*)")
-RULE = re.compile(r"c[ \t]+rule[ \t]+([0-9]{1,18})[ \t]+(\S.*)")
+RULE = re.compile(r"c[ \t]+(rule|always)[ \t]+([0-9]{1,18})[ \t]+(\S.*)")
 LARGEST = 2 ** 30
 
 
@@ -30,7 +30,7 @@ class Problem:
         self.rule_of = array.array("i", [0])        # of each clause, a place in `rules`
         self.starts = array.array("q", [0, 0])      # where each clause's literals begin, and where the last one's end
         self.literals = array.array("i")
-        self.rules = [None]                         # the line and text of each rule's line; the first is none
+        self.rules = [None]                         # of each rule's line its number, its text, and whether it is of [always]
         self.group_names, self.variable_names = {}, {}
         Reader(self).read(lines)
 
@@ -47,6 +47,11 @@ class Problem:
 
     def name(self, group):
         return self.group_names.get(group, f"group {group}")
+
+    def told_with(self, clause):
+        """The group with which the clause is told: its own, or the background if it is of [always] and stands elsewhere."""
+        rule = self.rules[self.rule_of[clause]]
+        return 0 if rule and rule[2] else self.group_of[clause]
 
     def written_as(self, clause):
         """Where the clause was written, and as what: its line of rules, or else its number and its literals."""
@@ -96,7 +101,7 @@ class Reader:
                 names[number] = f"{names[number]} {name}" if number in names and pattern is GROUP else name
         found = RULE.match(line)
         if found:
-            problem.rules.append((int(found.group(1)), plain(found.group(2))))
+            problem.rules.append((int(found.group(2)), plain(found.group(3)), found.group(1) == "always"))
             self.rule, self.rule_group = len(problem.rules) - 1, None
 
     def is_header_read(self):
