@@ -100,11 +100,11 @@ class Problem:
         for stanza in reached:
             lines = self.dependency_lines(stanza) + self.conflict_lines(stanza, seen)
             if lines:
-                made.always(lines, f"{stanza.name} {stanza.version}, {stanza.file}, line {stanza.line}")
+                made.always(lines, f"{stanza.name} {stanza.version}", (stanza.file, stanza.line))
         for name in dict.fromkeys(stanza.name for stanza in reached):
             made.always(self.version_lines([it for it in self.index.named[name] if it in self.dependencies]))
         for wish in self.wishes:
-            made.rule(wish.text, self.wish_lines(wish), f"{wish.file}, line {wish.line}", f"(line {wish.line})")
+            made.rule(wish.text, self.wish_lines(wish), behind=f"(line {wish.line})", origin=(wish.file, wish.line))
         return made.text()
 
     def dependency_lines(self, stanza):

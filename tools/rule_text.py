@@ -55,13 +55,14 @@ class RuleText:
         self.rules = []
         self.names = Names()
 
-    def always(self, lines, comment=""):
-        self.background += commented(lines, comment)
+    def always(self, lines, comment="", origin=None):
+        """Adds lines that hold anyway. `origin` is the file of which they were made, and its line."""
+        self.background += commented(lines, comment, origin)
 
-    def rule(self, name, lines, comment="", behind=""):
+    def rule(self, name, lines, comment="", behind="", origin=None):
         """Adds a rule. If another one has its name already, `behind` tells them apart."""
         name = self.names.new(name_of_rule(name), behind)
-        self.rules += ["", f"[{name}]"] + commented(lines, comment)
+        self.rules += ["", f"[{name}]"] + commented(lines, comment, origin)
 
     def text(self):
         background = ["[always]"] + self.background if self.background else []
@@ -87,5 +88,10 @@ def may_be_rule(name):
         return False
 
 
-def commented(lines, comment):
-    return ([f"# {printable(comment)}"] if comment else []) + list(lines)
+def commented(lines, comment, origin):
+    """The lines behind their comments."""
+    told = [f"# {printable(comment)}"] if comment else []
+    if lines:
+        file, line = origin or ("", "")
+        told.append(f"#: {printable('standard input' if file == '-' else file)}:{line}" if origin else "#:")
+    return told + list(lines)

@@ -38,8 +38,17 @@ IN_NONE = ": no clause with {} is in any conflict"
 FILES = "p gcnf ", "p cnf ", "p gmus ", "p gmev ", "c group ", "c variable "      # what files of gmus begin with
 IN_FORMATS = "docs/FORMATS.md has the limits of a file"
 
-# A line of rules: its number, its text without the comment, and the clauses that come of it.
-Line = collections.namedtuple("Line", "number text clauses")
+# A line '#: FILE:LINE' says of which line of another file the lines below it were made, up to the next '#:' or heading.
+ORIGIN = re.compile(r"#: (.*\S):([0-9]{1,9})\s*")
+# A line of rules: its number, its text without the comment, the clauses that come of it, and the file and line of which it was
+# made itself, if that is said.
+Line = collections.namedtuple("Line", "number text clauses origin")
+
+
+def comments_on(kind, line):
+    """The comments in the file before the clauses of a line, which is of a rule or of [always]."""
+    origin = [f"c from {line.origin[1]} {plain(line.origin[0])}"] if line.origin else []
+    return [*origin, f"c {kind} {line.number} {plain(line.text)}"]
 
 
 class Rules:
@@ -66,7 +75,7 @@ class Rules:
             if group:
                 parts.append(f"c group {group} {plain(name)}")
             for line in lines:
-                parts.append(f"c rule {line.number} {plain(line.text)}")
+                parts += comments_on("rule", line)
                 parts += ["{%d} %s" % (group, " ".join(map(self.numbered, [*clause, 0]))) for clause in line.clauses]
         return "\n".join(parts) + "\n"
 
@@ -210,10 +219,14 @@ class Reader:
         self.group = None         # of the rule that was begun
         self.is_in_names = False  # whether [names] was
         self.number = 0           # of the line
+        self.origin = None        # of which file's line the next ones were made
 
     def read(self, number, line):
         self.number = number
         bare = line.strip()
+        if bare.startswith("#:"):
+            found = ORIGIN.fullmatch(bare)
+            self.origin = (found.group(1), int(found.group(2))) if found else None
         if not bare or bare.startswith("#"):
             return
         name = head_of(line)
@@ -231,6 +244,7 @@ class Reader:
     def begin(self, name, line):
         rules, at = self.rules, line.index("[")
         self.end_rule()
+        self.origin = None
         self.is_in_names = name.lower() == NAMES
         if name.lower() in RESERVED:
             self.group = None if self.is_in_names else 0
@@ -288,7 +302,7 @@ class Reader:
         rules.clauses += len(clauses)
         rules.literals += sum(map(len, clauses))
         rules.refuse_too_many()
-        rules.lines[self.group].append(Line(self.number, line[:words[-1].at].strip(), clauses))
+        rules.lines[self.group].append(Line(self.number, line[:words[-1].at].strip(), clauses, self.origin))
 
     def tell(self, remarks):
         """Keeps what may be a mistake in this line."""

@@ -11,14 +11,14 @@ Refused is what changed or is gone.
 import re
 
 import limits
-from rules import DEFINED
+from rules import DEFINED, comments_on
 from rules_grown import HINT, Grown, clashing_lines, kept_lines
 from telling import Refused, plain
 
 HEADER = re.compile(r"p gcnf ([0-9]{1,9}) ([0-9]{1,9}) ([0-9]{1,9})")
 NAMING = re.compile(r"c (variable|group) ([1-9][0-9]{0,8}) (.*)")
 CLAUSE = re.compile(r"\{([0-9]{1,9})\} ((?:-?[1-9][0-9]{0,8} )*)0")
-OWN, LATER = "c rule ", "c always "
+OWN, LATER, FROM = "c rule ", "c always ", "c from "
 
 
 class Old:
@@ -61,6 +61,8 @@ class Old:
             return int(naming.group(2)) == len(self.names) - 1
         if clause:
             return self.take_clause(number, int(clause.group(1)), [int(word) for word in clause.group(2).split()])
+        if line.startswith(FROM):
+            return True
         if line.startswith(LATER):
             self.beside[-1].append([])
             return len(self.names) > 1
@@ -139,7 +141,7 @@ class Longer:
         for group, at in enumerate(self.at + self.new):
             parts += [f"c group {group} {plain(made.names[at])}"] if group else []
             for kind, line, clauses in self.old_parts(group) if group < len(self.at) else self.new_parts(at):
-                parts.append(f"{kind}{line.number} {plain(line.text)}")
+                parts += comments_on(kind, line)
                 parts += ["{%d} %s" % (group, " ".join(map(str, [*clause, 0]))) for clause in clauses]
         clauses = [part for part in parts if part.startswith("{")]
         literals = sum(part.count(" ") - 1 for part in clauses)
@@ -157,16 +159,16 @@ class Longer:
         """The lines of an old group, each with its kind and its clauses as they were."""
         kept = [literals for _, literals in self.old.clauses[group]]
         for line in self.made.lines[self.at[group]] if group else self.background:
-            yield OWN, line, kept[:len(line.clauses)]
+            yield "rule", line, kept[:len(line.clauses)]
             kept = kept[len(line.clauses):]
         for held in self.old.beside[group]:
-            yield LATER, self.grown.line_of(held), [literals for _, literals in held]
+            yield "always", self.grown.line_of(held), [literals for _, literals in held]
 
     def new_parts(self, at):
         """The lines of a new rule, and those of [always] that belong to it."""
         own = self.made.lines[at]
         beside = self.grown.lines_with([clause for line in own for clause in line.clauses])
-        for kind, lines in ((OWN, own), (LATER, beside)):
+        for kind, lines in (("rule", own), ("always", beside)):
             for line in lines:
                 yield kind, line, map(self.numbers.of_clause, line.clauses)
 

@@ -34,14 +34,14 @@ def rules_of(file, text, is_each=False):
     made = rule_text.RuleText()
     always, rules = [], []
     for at, (name, term, line) in enumerate(assertions):
-        (rules if name else always).append((name, lines_of(reader, lines, at, term), f"line {line}"))
-    for _, found, where in always:
-        made.always(found, where if found else f"{where} is true")
+        (rules if name else always).append((name, lines_of(reader, lines, at, term), line))
+    for _, found, line in always:
+        made.always(found, "" if found else f"line {line} is true", origin=(file, line))
     definitions = lines.definitions()
     if definitions:
         made.always(definitions, "names for what stands more than once, or would make a line too long")
-    for name, found, where in rules:
-        made.rule(name, found or [reader.constant_line("or")], where if found else f"{where} is true")
+    for name, found, line in rules:
+        made.rule(name, found or [reader.constant_line("or")], "" if found else f"line {line} is true", origin=(file, line))
     return made.text()
 
 

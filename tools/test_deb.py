@@ -353,7 +353,7 @@ class Refusals(unittest.TestCase):
                 self.assertEqual((ended.returncode, ended.stdout, ended.stderr), (status, b"", wanted), words)
             self.assertEqual(run("--help").returncode, 0)
             ended = run("--arch", "amd64", "-", wishes, given=stanza("a", Conflicts="b").encode())
-            self.assertEqual((ended.returncode, ended.stdout), (0, b"[a]\n# W, line 1\na\n\n[b]\n# W, line 2\nb and not b\n".replace(b"W", os.fsencode(wishes))))
+            self.assertEqual((ended.returncode, ended.stdout), (0, b"[a]\n#: W:1\na\n\n[b]\n#: W:2\nb and not b\n".replace(b"W", os.fsencode(wishes))))
             self.assertEqual(ended.stderr, b"deb.py: " + os.fsencode(wishes)
                              + b": line 2: no package is or provides 'b', so the wish clashes by itself\n")
 

@@ -219,6 +219,12 @@ c rule 10 {"x or " * 3000}y
 {{3}} {"2 " * 3000}1 0
 """)
 
+    def test_lines_that_were_made_of_others_say_so(self):
+        made = rules.read("[always]\n#: a b.smt2:6\nx\n  # why\nnot y\n#:\nz\n#: w:x\nz\n#: c:d:7 \ny\n[r]\nx\n#: e:1\n[s]\nx", "r")
+        self.assertEqual([line for line in made.gcnf().split("\n") if line.startswith(("c rule", "c from"))], [
+            "c from 6 a b.smt2", "c rule 3 x", "c from 6 a b.smt2", "c rule 5 not y", "c rule 7 z", "c rule 9 z", "c from 7 c:d",
+            "c rule 11 y", "c rule 13 x", "c rule 16 x"])
+
     def test_examples_are_what_the_tool_makes_of_their_rules(self):
         for name in sorted(os.listdir(EXAMPLES)):
             if name.endswith(".rules"):

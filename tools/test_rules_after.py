@@ -105,6 +105,13 @@ class Longer(unittest.TestCase):
         text = "# why\n[one]   # more\n" + old.split("\n")[1].replace("   ", " ") + "  # it\n" + old.split("\n")[2] + "\n[two]\na\n"
         self.assertIn("\nc rule 3 a implies b\n", longer(old, text))
 
+    def test_where_lines_come_from_is_kept(self):
+        old = "[always]\n#: p:3\na\n[one]\n#: p:4\nb\n"
+        file = longer(old, old + "[two]\n#: p:7\nc\n")
+        self.assertEqual([line for line in file.split("\n") if line.startswith(("c rule", "c from"))], [
+            "c from 3 p", "c rule 3 a", "c from 4 p", "c rule 6 b", "c from 7 p", "c rule 9 c"])
+        self.assertEqual(longer(file, old + "[two]\n#: p:7\nc\n"), file)
+
     def test_what_changed_or_is_gone_is_told_with_its_line(self):
         old = ALWAYS + TOUCH + MATTE
         for text, told in (

@@ -101,17 +101,17 @@ class Words(unittest.TestCase):
             (assert true)
             (assert (! true :named idle)) (check-sat) (get-unsat-core) (echo "x") (exit) this is not read"""
         self.assertEqual(smt2.rules_of("f", text), "\n".join((
-            "[always]", "# line 6", '"a b" or "at"', "# line 10 is true",
-            "# names for what stands more than once, or would make a line too long", 'safe iff ("a b" and "at")', "",
-            "[rule [1] \uff03 x]", "# line 7", 'safe implies not "at"', "",
-            "['always']", "# line 9", "safe", "", "[x \uff03 y]", "# line 9", "safe", "",
-            "[idle]", "# line 11 is true", '"a b" or not "a b"', "")))
+            "[always]", "#: f:6", '"a b" or "at"', "# line 10 is true",
+            "# names for what stands more than once, or would make a line too long", "#:", 'safe iff ("a b" and "at")', "",
+            "[rule [1] \uff03 x]", "#: f:7", 'safe implies not "at"', "",
+            "['always']", "#: f:9", "safe", "", "[x \uff03 y]", "#: f:9", "safe", "",
+            "[idle]", "# line 11 is true", "#: f:11", '"a b" or not "a b"', "")))
 
     def test_the_page_tells_what_comes_of_a_text(self):
         with open(os.path.join(os.path.dirname(TOOLS), "docs", "IMPORT.md"), encoding="utf-8") as page:
             blocks = page.read().partition("tools/smt2.py\n\n")[2].split("```")
         given, wanted = (block.partition("text\n")[2] for block in (blocks[1], blocks[3]))
-        self.assertEqual(smt2.rules_of("f", given), wanted)
+        self.assertEqual(smt2.rules_of("plan.smt2", given), wanted)
 
     def test_with_each_every_assertion_is_a_rule(self):
         made = smt2.rules_of("f", DECLARED + "(assert a)\n(assert (! b :named n))(assert c)", True)
@@ -229,7 +229,7 @@ class Refusals(unittest.TestCase):
             self.assertTrue(ended.stderr.startswith(wanted), ended.stderr)
         self.assertEqual(run("--help").returncode, 0)
         ended = run("-", given=b"(declare-const p Bool)(assert (! p :named n))")
-        self.assertEqual((ended.returncode, ended.stdout, ended.stderr), (0, b"[n]\n# line 1\np\n", b""))
+        self.assertEqual((ended.returncode, ended.stdout, ended.stderr), (0, b"[n]\n#: standard input:1\np\n", b""))
 
 
 def satisfiable(clauses):

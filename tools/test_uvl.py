@@ -93,7 +93,7 @@ class Rules(unittest.TestCase):
         with open(os.path.join(os.path.dirname(TOOLS), "docs", "IMPORT.md"), encoding="utf-8") as page:
             blocks = page.read().partition("tools/uvl.py\n\n")[2].split("```")
         given, wanted = (block.partition("text\n")[2] for block in (blocks[1], blocks[3]))
-        self.assertEqual(uvl.rules_of("m", given), wanted)
+        self.assertEqual(uvl.rules_of("laptop.uvl", given), wanted)
 
     def test_each_group_gives_its_lines(self):
         children = ["\ta", "\tb", "\tc"]
@@ -237,7 +237,7 @@ class Refusals(unittest.TestCase):
         self.assertEqual(run("--help").returncode, 0)
         ended = run("-", given=b"features\r\n\tr\r\nconstraints\r\n\t!r\r\n")
         self.assertEqual((ended.returncode, ended.stdout, ended.stderr),
-                         (0, b"[always]\n# line 2\nr\n\n[!r]\n# line 4\nnot r\n", b""))
+                         (0, b"[always]\n#: standard input:2\nr\n\n[!r]\n#: standard input:4\nnot r\n", b""))
 
 
 if __name__ == "__main__":

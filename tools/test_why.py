@@ -97,6 +97,13 @@ class Followed(unittest.TestCase):
         self.assertEqual([reason.parts for reason in why.reasons(found, evidence(text, found))], [
             [(0, [("line 1", "x implies y")]), (1, [("line 2", "x")]), (2, [("line 3", "not y")])]])
 
+    def test_lines_that_come_from_another_file_are_told_by_that(self):
+        file = "p gcnf 1 2 2\nc from 6 a b.smt2\nc rule 2 x\n{1} 1 0\nc rule 3 not x\n{2} -1 0\n"
+        text = "p gmev 1 1 2 2\nu 1 2 0\nd 3 -2 -3 0 1 2 0\nr 0 3\nw 1 0\nw 2 1 0\ne partial\n"
+        found = problem(file)
+        self.assertEqual([reason.parts for reason in why.reasons(found, evidence(text, found))], [
+            [(1, [("a b.smt2:6", "x")]), (2, [("line 3", "not x")])]])
+
     def test_conflicts_come_in_the_order_of_the_report(self):
         with open(EVIDENCE) as stored:
             text = stored.read()

@@ -26,11 +26,11 @@ class Writer:
 
     def text(self):
         root = self.model.features[0]
-        self.made.always([self.literals[root.name]], f"line {root.line}")
+        self.made.always([self.literals[root.name]], origin=self.origin(root.line))
         for feature in self.model.features:
             lines = [line for group in feature.groups for line in self.group_lines(feature, group)]
             if lines:
-                self.made.always(lines, f"line {feature.line}")
+                self.made.always(lines, origin=self.origin(feature.line))
         self.add_constraints(self.model.constraints, self.literals[root.name])
         return self.made.text()
 
@@ -52,7 +52,10 @@ class Writer:
         for at, it in enumerate(constraints):
             word = {formulas.TRUE: "or", formulas.FALSE: "and"}.get(it.term)
             own = [f"{root} {word} not {root}"] if word else lines.lines_of(at)
-            self.made.rule(it.text, own, f"line {it.line}", f"(line {it.line})")
+            self.made.rule(it.text, own, behind=f"(line {it.line})", origin=self.origin(it.line))
+
+    def origin(self, line):
+        return self.model.source.file, line
 
     def name_of(self, place):
         """The literal of a feature, or of what a definition stands for."""

@@ -16,6 +16,7 @@ from telling import Refused, plain
 GROUP = re.compile(r"c[ \t]+group[ \t]+([0-9]{1,18})[ \t]+(\S.*)")
 VARIABLE = re.compile(r"c[ \t]+variable[ \t]+([0-9]{1,18})[ \t]+(\S.*)")
 RULE = re.compile(r"c[ \t]+(rule|always)[ \t]+([0-9]{1,18})[ \t]+(\S.*)")
+FROM = re.compile(r"c[ \t]+from[ \t]+([0-9]{1,18})[ \t]+(\S.*)")
 LARGEST = 2 ** 30
 
 
@@ -30,7 +31,7 @@ class Problem:
         self.rule_of = array.array("i", [0])        # of each clause, a place in `rules`
         self.starts = array.array("q", [0, 0])      # where each clause's literals begin, and where the last one's end
         self.literals = array.array("i")
-        self.rules = [None]                         # of each rule's line its number, its text, and whether it is of [always]
+        self.rules = [None]                         # of each rule's line its place, its text, and whether it is of [always]
         self.group_names, self.variable_names = {}, {}
         Reader(self).read(lines)
 
@@ -54,10 +55,11 @@ class Problem:
         return 0 if rule and rule[2] else self.group_of[clause]
 
     def written_as(self, clause):
-        """Where the clause was written, and as what: its line of rules, or else its number and its literals."""
+        """Where the clause was written, and as what: its line of rules, or of the file of which that was made, or else its number
+        and its literals."""
         rule = self.rules[self.rule_of[clause]]
         if rule:
-            return f"line {rule[0]}", rule[1]
+            return rule[:2]
         words = [("not " if lit < 0 else "") + self.variable(abs(lit)) for lit in self.lits(clause)]
         return f"clause {clause}", " or ".join(words) or "(the empty clause, which never holds)"
 
@@ -76,6 +78,7 @@ class Reader:
         self.clause = None       # the literals of the clause that was begun, or None
         self.group = None        # the group that was read in braces for the next clause, or `{` or `}` behind it
         self.rule, self.rule_group = 0, None
+        self.origin = None       # where the next rule's line comes from, if it is not a line of rules
 
     def refuse(self, what):
         raise Refused(f"{self.problem.source}: line {self.number}: {what}")
@@ -99,9 +102,13 @@ class Reader:
             if found:
                 number, name = int(found.group(1)), plain(found.group(2))
                 names[number] = f"{names[number]} {name}" if number in names and pattern is GROUP else name
+        found = FROM.match(line)
+        if found:
+            self.origin = f"{plain(found.group(2))}:{int(found.group(1))}"
         found = RULE.match(line)
         if found:
-            problem.rules.append((int(found.group(2)), plain(found.group(3)), found.group(1) == "always"))
+            place, self.origin = self.origin or f"line {int(found.group(2))}", None
+            problem.rules.append((place, plain(found.group(3)), found.group(1) == "always"))
             self.rule, self.rule_group = len(problem.rules) - 1, None
 
     def is_header_read(self):
