@@ -15,6 +15,9 @@ from telling import Refused
 
 CONSTANT, VARIABLE, PARAMETER = "constant", "variable", "parameter"
 AND, OR, IMPLIES, IFF, CHOICE = "and", "or", "implies", "iff", "choice"
+# The kind of a node that says how many of its parts hold: "at least" or "exactly", and the number.
+Count = namedtuple("Count", "words number")
+LEAST, EXACT = "at least", "exactly"
 TRUE, FALSE = 1, -1
 MOST_PARTS = 1_000_000      # of nodes that come of replacing parameters, which can grow without end
 
@@ -87,8 +90,33 @@ class Terms:
             return self.all_of((-condition, other)) if one == FALSE else self.implies((condition,), one)
         return self.node(CHOICE, (condition, one, other))
 
+    def at_least(self, number, parts):
+        """That so many of the parts hold, or more. A part that stands there twice counts twice."""
+        number, parts = self.open_count(number, parts)
+        if number <= 0 or number > len(parts):
+            return TRUE if number <= 0 else FALSE
+        if number in (1, len(parts)):
+            return self.any_of(parts) if number == 1 else self.all_of(parts)
+        return self.node(Count(LEAST, number), parts)
+
+    def exactly(self, number, parts):
+        """That so many of the parts hold, and no more."""
+        number, parts = self.open_count(number, parts)
+        if not 0 <= number <= len(parts):
+            return FALSE
+        if number in (0, len(parts)):
+            return self.all_of(parts if number else [-part for part in parts])
+        return self.node(Count(EXACT, number), parts)
+
+    @staticmethod
+    def open_count(number, parts):
+        """A count without the parts that are constant."""
+        return number - sum(part == TRUE for part in parts), tuple(part for part in parts if abs(part) != TRUE)
+
     def made(self, kind, parts):
         """A node of this kind, by the call that works constants in."""
+        if isinstance(kind, Count):
+            return (self.at_least if kind.words == LEAST else self.exactly)(kind.number, parts)
         if kind == IMPLIES:
             return self.implies(parts[:-1], parts[-1])
         calls = {AND: lambda: self.all_of(parts), OR: lambda: self.any_of(parts),
@@ -195,6 +223,8 @@ class Lines:
         self.named.update(abs(part) for part in parts if self.weight(part).depth >= DEEP)
         if kind in (IFF, CHOICE):
             weight = self.weigh_iff(parts, bound) if kind == IFF else self.weigh_choice(parts)
+        elif isinstance(kind, Count):
+            weight = self.weigh_count(parts)
         else:
             weight = self.weigh_list(kind, parts, bound)
         self.weights[place] = weight
@@ -234,6 +264,11 @@ class Lines:
         one, other = self.weight(parts[1]), self.weight(parts[2])
         return Weight(2 + one.leaves + other.leaves, 2 + max(one.depth, other.depth),
                       one.holds + other.holds, one.fails + other.fails)
+
+    def weigh_count(self, parts):
+        """A count has clauses of its own, of which the language takes care: it costs about one for each part."""
+        weights = [self.weight(part) for part in parts]
+        return Weight(sum(weight.leaves for weight in weights), 1 + max(weight.depth for weight in weights), len(parts), len(parts))
 
     def is_flat(self, kind, part):
         """Whether the part stands in a node of this kind without brackets, as `a and b` does in an `and`."""
@@ -283,11 +318,25 @@ class Lines:
         sign = "" if term > 0 else "not "
         if kind == VARIABLE or (place in self.named and around is not None):
             return [sign + self.name_of(place)]
+        if isinstance(kind, Count):
+            return self.count_shown(kind, parts, term > 0)
         inner = self.inner(kind, parts)
         if term < 0:
             return ["not ("] + inner + [")"]
         plain = around is None or around == kind and kind in (AND, OR) or around == IMPLIES and kind in (AND, OR)
         return inner if plain else ["("] + inner + [")"]
+
+    def count_shown(self, kind, parts, holds):
+        """A count or its negation, with brackets around its list. A literal stands in a list once; what counts twice is no literal
+        there."""
+        words, number = (kind.words, kind.number) if holds else ("at most", kind.number - 1) if kind.words == LEAST else (
+            "not exactly", kind.number)
+        pieces, seen = [f"{words} {'one' if number == 1 else number} of ("], set()
+        for at, part in enumerate(parts):
+            twice = [" or ", (part, OR)] if part in seen else []
+            pieces += [", "] * (at > 0) + ["("] * bool(twice) + [(part, kind)] + twice + [")"] * bool(twice)
+            seen.add(part)
+        return [*pieces, ")"]
 
     @staticmethod
     def inner(kind, parts):

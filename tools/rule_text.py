@@ -62,7 +62,7 @@ class RuleText:
     def rule(self, name, lines, comment="", behind="", origin=None):
         """Adds a rule. If another one has its name already, `behind` tells them apart."""
         name = self.names.new(name_of_rule(name), behind)
-        self.rules += ["", f"[{name}]"] + commented(lines, comment, origin)
+        self.rules += ["", f"[{name}]"] + (commented(lines, comment, origin) if comment or origin else lines)
 
     def text(self):
         background = ["[always]"] + self.background if self.background else []

@@ -2,10 +2,12 @@
 """Writes rules from the Boolean part of SMT-LIB 2.
 
     tools/smt2.py FILE.smt2 > RULES
+    tools/smt2.py --tracked FILE.smt2 > RULES
     tools/smt2.py --each FILE.smt2 > RULES
 
 A named assertion, (assert (! TERM :named NAME)), is a rule under its name. One without a name always holds; with --each it
-is a rule too, under the name of its line. `tools/gcnf.py RULES > FILE.gcnf` makes the file for gmus. FILE.smt2 may be -,
+is a rule too, under the name of its line. With --tracked so is (assert (=> NAME TERM)), as assert_and_track of Z3 has it: its
+TERM is a rule under the NAME of a constant that stands nowhere else. `tools/gcnf.py RULES > FILE.gcnf` makes the file for gmus. FILE.smt2 may be -,
 for standard input. docs/IMPORT.md says what is read, and what is refused.
 """
 import sys
@@ -17,32 +19,51 @@ from smt2_text import Source
 from telling import Refused, WrongWords, run, text_of
 
 
-def rules_of(file, text, is_each=False):
+# What to do if no assertion has a name, and if each has a tracker.
+WAYS = ("write (assert (! TERM :named NAME)), or let --each make a rule of each assertion",
+        "each is (=> NAME TERM) with a NAME that stands nowhere else, so let --tracked make a rule of each")
+
+
+def rules_of(file, text, is_each=False, is_tracked=False):
     """The text of the rules."""
-    reader = Reader(Source(file, text))
+    reader = Reader(Source(file, text), is_tracked)
     reader.read()
-    assertions = reader.assertions
-    if is_each:
-        assertions = [(name or f"line {line}", term, line) for name, term, line in assertions]
+    assertions = [named(reader, at, is_each, is_tracked) for at in range(len(reader.assertions))]
     if not assertions:
         raise Refused(f"{file}: there is no assertion in it")
     if not any(name for name, _, _ in assertions):
-        raise Refused(f"{file}: no assertion has a name, so nothing can be given up: write (assert (! TERM :named NAME)), "
-                      "or let --each make a rule of each assertion")
-    terms = [term for _, term, _ in assertions]
-    lines = formulas.Lines(reader.terms, terms, reader.name_of, reader.known)
-    made = rule_text.RuleText()
-    always, rules = [], []
+        raise Refused(f"{file}: no assertion has a name, so nothing can be given up: " + WAYS[
+            all(it.tracker is not None and reader.is_tracker(it.tracker) for it in reader.assertions)])
+    lines = formulas.Lines(reader.terms, [term for _, term, _ in assertions], reader.name_of, reader.known)
+    made, rules = rule_text.RuleText(), {}
     for at, (name, term, line) in enumerate(assertions):
-        (rules if name else always).append((name, lines_of(reader, lines, at, term), line))
-    for _, found, line in always:
-        made.always(found, "" if found else f"line {line} is true", origin=(file, line))
+        found = lines_of(reader, lines, at, term)
+        if name:
+            rules.setdefault(name, []).append((found, line))
+        else:
+            made.always(found, "" if found else f"line {line} is true", origin=(file, line))
     definitions = lines.definitions()
     if definitions:
         made.always(definitions, "names for what stands more than once, or would make a line too long")
-    for name, found, line in rules:
-        made.rule(name, found or [reader.constant_line("or")], "" if found else f"line {line} is true", origin=(file, line))
+    for (name, _), parts in rules.items():
+        made.rule(name, [line for found, line in parts for line in rule_lines(reader, file, found, line)])
     return made.text()
+
+
+def named(reader, at, is_each, is_tracked):
+    """The name in the rules of the assertion at this place, or None if it holds always, with its term and its line. Behind a name
+    stands what tells the rule from another one of this name."""
+    name, term, line, tracker, tracked = reader.assertions[at]
+    if name is not None:
+        return (name, "named"), term, line
+    if tracker is not None and (term is None or is_tracked and reader.is_tracker(tracker)):
+        return (tracker, "tracked"), tracked, line
+    return (f"line {line}", at) if is_each else None, term, line
+
+
+def rule_lines(reader, file, found, line):
+    """The lines of an assertion that is a rule, or a part of one, behind the place from which they come."""
+    return rule_text.commented(found or [reader.constant_line("or")], "" if found else f"line {line} is true", (file, line))
 
 
 def lines_of(reader, lines, at, term):
@@ -53,11 +74,11 @@ def lines_of(reader, lines, at, term):
 
 
 def main(words):
-    is_each = "--each" in words
-    files = [word for word in words if word != "--each"]
+    is_each, is_tracked = "--each" in words, "--tracked" in words
+    files = [word for word in words if word not in ("--each", "--tracked")]
     if len(files) != 1 or files[0].startswith("-") and files[0] != "-":
         raise WrongWords("one file is wanted" if len(files) != 1 else f"'{files[0]}' is no option")
-    made = rules_of(files[0], text_of(files[0]), is_each)
+    made = rules_of(files[0], text_of(files[0]), is_each, is_tracked)
     sys.stdout.buffer.write(made.encode("utf-8"))
 
 

@@ -11,6 +11,9 @@ from smt2_text import LIST, SYMBOL_KIND, WORD_KIND
 from telling import Refused
 
 Macro = namedtuple("Macro", "parameters body")
+# An assertion: its name or None, its term and line. If it is (=> NAME TERM) or (assert_and_track TERM NAME), `tracker` is that
+# name and `tracked` that term.
+Assertion = namedtuple("Assertion", "name term line tracker tracked")
 MANY = None
 
 # What each operator takes at least and at most, and what it makes of its parts.
@@ -24,6 +27,17 @@ OPERATORS = {
     "distinct": (2, MANY, lambda terms, parts: terms.iff(parts[0], -parts[1]) if len(parts) == 2 else formulas.FALSE),
     "ite": (3, 3, lambda terms, parts: terms.choice(*parts)),
 }
+# Operators with indices, (_ NAME K ..): how many of their terms hold. Those of the second row have a weight for each term.
+COUNTS = {
+    "at-most": lambda terms, number, parts: -terms.at_least(number + 1, parts),
+    "at-least": lambda terms, number, parts: terms.at_least(number, parts),
+}
+WEIGHED = {
+    "pble": COUNTS["at-most"],
+    "pbge": COUNTS["at-least"],
+    "pbeq": lambda terms, number, parts: terms.exactly(number, parts),
+}
+MOST_COUNTED = 10 ** 9      # a number above it counts as this one
 CONSTANTS = {"true": formulas.TRUE, "false": formulas.FALSE}
 
 # Commands that ask or set something, and change no assertion.
@@ -44,14 +58,19 @@ def folded(call, parts):
 
 
 class Reader:
-    """The assertions of a file, and the names that it has."""
+    """The assertions of a file, and the names that it has. If it is told so, those that are tracked may be assumed."""
 
-    def __init__(self, source):
+    def __init__(self, source, is_tracked=False):
         self.source = source
+        self.is_tracked = is_tracked
         self.terms = formulas.Terms()
         self.values = dict(CONSTANTS)       # what each symbol stands for: a term or a macro
+        self.declared = {}                  # the name of each constant in the rules
+        self.trackers = []                  # where assert_and_track names one
         self.bound = {}                     # what let and the parameters of a definition bind, innermost last
-        self.assertions = []                # name or None, term, line
+        self.assertions = []
+        self.uses, self.tracks = {}, {}     # how often each symbol stands in terms, and how often of these as a tracker
+        self.assumed = []                   # what check-sat-assuming assumes
         self.names = rule_text.Names()      # of literals
         self.known = set()                  # the places of terms that define-fun names
         self.firsts = {}                    # place of a node: where it is met first, and its name there
@@ -72,10 +91,19 @@ class Reader:
                 break
             if name not in PASSED:
                 self.obey(name, command)
+        for symbol in self.trackers:
+            if not self.is_tracker(symbol.value):
+                raise self.refused(symbol, f"'{symbol.shown()}' stands in other terms too, so it is not only a tracker")
+        for symbol in self.assumed:
+            if not self.is_tracker(symbol.value):
+                raise self.refused(symbol, f"'{symbol.shown()}' is assumed here, and no assertion is tracked by it alone")
 
     def obey(self, name, command):
         calls = {"assert": self.read_assert, "declare-const": self.read_declaration, "declare-fun": self.read_declaration,
-                 "define-const": self.read_definition, "define-fun": self.read_definition}
+                 "define-const": self.read_definition, "define-fun": self.read_definition,
+                 "assert_and_track": self.read_tracked, "assert-and-track": self.read_tracked}
+        if self.is_tracked:
+            calls["check-sat-assuming"] = self.read_assumptions
         if name not in calls:
             raise self.refused(command, f"'{name}' is not read" + (f": {WHY_NOT[name]}" if name in WHY_NOT else ""))
         calls[name](name, command)
@@ -95,8 +123,8 @@ class Reader:
                 raise self.refused(parameters, "only constants are read, so '()' is due here")
         self.want_bool(sort)
         self.want_new(symbol)
-        shown = self.names.name(("symbol", symbol.value), symbol.value)
-        self.values[symbol.value] = self.terms.variable(shown)
+        self.declared[symbol.value] = self.names.name(("symbol", symbol.value), symbol.value)
+        self.values[symbol.value] = self.terms.variable(self.declared[symbol.value])
 
     def want_bool(self, sort):
         if not sort.is_word("Bool"):
@@ -156,16 +184,44 @@ class Reader:
 
     def read_assert(self, _, command):
         body, = self.parts_of(command, "TERM")
-        name = None
-        if body.is_list() and body.value and body.value[0].is_word("!"):
-            name = self.label_of(body).value
-        term = self.term(body)
-        self.assertions.append((name, term, self.source.place(command.at)[0]))
+        line, words = self.source.place(command.at)[0], body.value if body.is_list() else []
+        if len(words) == 3 and words[0].is_word("=>") and words[1].kind == SYMBOL_KIND:
+            tracker, tracked = self.term(words[1]), self.term(words[2])
+            term = self.terms.implies((tracker,), tracked)
+            self.firsts.setdefault(abs(term), (body.at, ""))
+            if self.terms.nodes[abs(tracker)][0] == formulas.VARIABLE and words[1].value in self.declared:
+                self.tracks[words[1].value] = self.tracks.get(words[1].value, 0) + 1
+                self.assertions.append(Assertion(None, term, line, words[1].value, tracked))
+            else:
+                self.assertions.append(Assertion(None, term, line, None, None))
+            return
+        name = self.label_of(body).value if words and words[0].is_word("!") else None
+        self.assertions.append(Assertion(name, self.term(body), line, None, None))
+
+    def read_tracked(self, _, command):
+        body, symbol = self.parts_of(command, "TERM NAME")
+        if symbol.kind != SYMBOL_KIND or symbol.value in self.values and symbol.value not in self.declared:
+            raise self.refused(symbol, f"'{symbol.shown()}' is no constant of the sort Bool")
+        for each in (self.uses, self.tracks):
+            each[symbol.value] = each.get(symbol.value, 0) + 1
+        self.assertions.append(Assertion(None, None, self.source.place(command.at)[0], symbol.value, self.term(body)))
+        self.trackers.append(symbol)
+
+    def read_assumptions(self, _, command):
+        words, = self.parts_of(command, "(NAMES)")
+        for symbol in self.list_of(words, "what is assumed"):
+            if symbol.kind != SYMBOL_KIND:
+                raise self.refused(symbol, "names alone can be assumed here, which track assertions")
+            self.assumed.append(symbol)
+
+    def is_tracker(self, symbol):
+        """Whether a constant stands nowhere but where it tracks assertions."""
+        return symbol in self.tracks and self.tracks[symbol] == self.uses[symbol]
 
     def constant_line(self, word):
         """A line that says nothing, with 'or', or what can't be, with 'and', over a literal of the file."""
-        declared = next((it[1][0] for it in self.terms.nodes[2:] if it[0] == formulas.VARIABLE), None)
-        name = rule_text.literal(declared or self.names.name("constant", "a constant"))
+        plain = (self.declared[it] for it in self.declared if not self.is_tracker(it))
+        name = rule_text.literal(next(plain, None) or self.names.name("constant", "a constant"))
         return f"{name} {word} not {name}"
 
     def label_of(self, expression):
@@ -189,6 +245,11 @@ class Reader:
                 parts = found[-count:]
                 del found[-count:]
                 found.append(self.applied(it, parts))
+                self.firsts.setdefault(abs(found[-1]), (it.at, ""))
+            elif step == "count":
+                count = len(it.value) - 1
+                call, number = self.count_of(it)
+                found[-count:] = [call(self.terms, number, found[-count:])]
                 self.firsts.setdefault(abs(found[-1]), (it.at, ""))
             elif step == "bind":
                 self.bind(it, todo, found)
@@ -216,16 +277,45 @@ class Reader:
         elif head.is_word("!"):
             self.label_of(it)
             todo += [("label", it), ("read", rest[0])]
+        elif head.is_indexed():
+            self.count_of(it)
+            todo.append(("count", it))
+            todo += [("read", part) for part in reversed(rest)]
         elif head.kind == WORD_KIND or head.is_list():
-            raise self.refused(it, f"'{head.shown()}' is not read")
+            raise self.refused(it, f"'{(it if head.is_word('_') else head).shown()}' is not read")
         else:
             self.want_parts(it, head, len(rest))
             todo.append(("apply", it))
             todo += [("read", part) for part in reversed(rest)]
 
+    def count_of(self, it):
+        """The call that an operator with indices stands for, and its number; refused if it is none that is read."""
+        head, *parts = it.value
+        name, *numbers = head.value[1:] or [head]
+        call = {**COUNTS, **WEIGHED}.get(name.value if name.kind == SYMBOL_KIND else None)
+        shown = f"'{head.shown()}'"
+        if call is None:
+            raise self.refused(head, f"{shown} is not read: of operators with indices {', '.join(COUNTS)}, and {', '.join(WEIGHED)} "
+                               "with weights 1, are")
+        if any(number.kind != "number" or not number.value.isdecimal() for number in numbers) or not numbers:
+            raise self.refused(head, f"whole numbers are due behind '{name.shown()}' in its brackets")
+        values = [MOST_COUNTED if len(number.value.lstrip("0")) > 9 else int(number.value) for number in numbers]
+        if not parts:
+            raise self.refused(it, f"{shown} takes 1 or more terms, and has 0")
+        weights = values[1:] if name.value in WEIGHED else []
+        if len(weights) != len(parts) * (name.value in WEIGHED) or len(values) - len(weights) != 1:
+            wanted = f"a number, and a weight for each of its {len(parts)} terms" if name.value in WEIGHED else "one number"
+            raise self.refused(head, f"{shown} has {wanted}")
+        heavy = next((number for number, value in zip(numbers[1:], weights) if value != 1), None)
+        if heavy:
+            raise self.refused(heavy, f"{shown} is read with weights 1 alone, and this one is {heavy.shown()}")
+        return call, values[0]
+
     def value_of(self, symbol):
         bound = self.bound.get(symbol.value)
         value = bound[-1] if bound else self.values.get(symbol.value)
+        if not bound:
+            self.uses[symbol.value] = self.uses.get(symbol.value, 0) + 1
         if value is None:
             what = "an operator, which takes terms" if symbol.value in OPERATORS else "declared nowhere above"
             raise self.refused(symbol, f"'{symbol.shown()}' is {what}")

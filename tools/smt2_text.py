@@ -36,11 +36,17 @@ class Expression:
         return self.kind in (SYMBOL_KIND, WORD_KIND) and self.value == text
 
     def shown(self):
-        """The expression in a message: short, and on one line."""
+        """The expression in a message: short, and on one line. An operator with indices has its name."""
         if self.is_list():
-            return "(" + (self.value[0].shown() + " .." if self.value else "") + ")" if not self.is_deep() else "((..)"
+            begin = [it for it in self.value[:1 + self.is_indexed()] if not it.is_list()]
+            inner = " ".join(it.shown() for it in begin) + " .." if begin else ".." if self.value else ""
+            return f"({inner})" if not self.is_deep() else "((..)"
         text = self.value if len(self.value) <= 40 else self.value[:40] + ".."
         return " ".join(text.split())
+
+    def is_indexed(self):
+        """Whether this is an operator with indices, (_ NAME ..)."""
+        return self.is_list() and bool(self.value) and self.value[0].is_word("_")
 
     def is_deep(self):
         return bool(self.value) and self.value[0].is_list()
@@ -80,7 +86,7 @@ class Source:
         if char in open_at:
             backslash = char == "|" and "|" in self.text[at + 1:]
             return "a symbol in | | may have no backslash" if backslash else open_at[char]
-        if char.isdigit():
+        if char in "0123456789":
             return f"'{re.compile(f'[{SYMBOL}]+').match(self.text, at, at + 40).group()}' is neither a number nor a symbol"
         return f"{char!r} may not stand here; a name with such a character stands in | |"
 

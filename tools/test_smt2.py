@@ -24,14 +24,14 @@ def run(*words, given=b""):
                           stderr=subprocess.PIPE)
 
 
-def lines_of(text):
+def lines_of(text, **how):
     """The rules that come of a text, without comments and empty lines."""
-    return [line for line in smt2.rules_of("f", text).split("\n") if line and not line.startswith("#")]
+    return [line for line in smt2.rules_of("f", text, **how).split("\n") if line and not line.startswith("#")]
 
 
-def refusal(text, is_each=False):
+def refusal(text, is_each=False, is_tracked=False):
     try:
-        smt2.rules_of("f", text, is_each)
+        smt2.rules_of("f", text, is_each, is_tracked)
     except telling.Refused as why:
         return str(why)
     return None
@@ -84,6 +84,22 @@ class Words(unittest.TestCase):
                 ("(! (or a b) :named inner)", ["a or b"]),
                 ("(f (not a) b)", ["not a or b"]),
                 ("(or ; a comment )\n a\tb)", ["a or b"]),
+                ("((_ at-most 1) a b c)", ["at most one of (a, b, c)"]),
+                ("((_ at-least 2) a b (not c))", ["at least 2 of (a, b, not c)"]),
+                ("(not ((_ at-least 2) a b c))", ["at most one of (a, b, c)"]),
+                ("(not ((_ at-most 1) a b c))", ["at least 2 of (a, b, c)"]),
+                ("((_ pble 1 1 1 1) a b c)", ["at most one of (a, b, c)"]),
+                ("((_ pbge 2 1 1 1) a b c)", ["at least 2 of (a, b, c)"]),
+                ("((_ pbeq 2 1 1 1) a b c)", ["exactly 2 of (a, b, c)"]),
+                ("(not ((_ pbeq 1 1 1) a b))", ["not exactly one of (a, b)"]),
+                ("(=> a ((_ at-most 1) a (and b c) c))", ["a implies at most one of (a, (b and c), c)"]),
+                ("(or ((_ pbeq 1 1 1) b c) a)", ["exactly one of (b, c) or a"]),
+                ("((_ at-most 2) a a b c)", ["at most 2 of (a, (a or a), b, c)"]),
+                ("((_ at-most 2) a true b c)", ["at most one of (a, b, c)"]),
+                ("((_ at-least 1) a b)", ["a or b"]),
+                ("((_ at-most 0) a b)", ["not a", "not b"]),
+                ("((_ at-most 2) a b)", ["a or not a"]),
+                ("((_ pbge 99999999999999999999 1) a)", ["a and not a"]),
         ):
             text = DECLARED + "(define-fun f ((x Bool) (y Bool)) Bool (or x (and y y)))" + f"(assert (! {term} :named r))"
             self.assertEqual(lines_of(text), ["[r]", *wanted], term)
@@ -117,6 +133,42 @@ class Words(unittest.TestCase):
         made = smt2.rules_of("f", DECLARED + "(assert a)\n(assert (! b :named n))(assert c)", True)
         self.assertEqual([line for line in made.split("\n") if line.startswith("[")], ["[line 2]", "[n]", "[line 3]"])
 
+    def test_tracked_assertions_are_rules(self):
+        declared = DECLARED + "(declare-const t Bool) (declare-const u Bool)\n"
+        text = declared + "(assert (=> t (and a b)))\n(assert (=> u (not a)))(assert (=> u c))\n(assert (=> a b))\n(assert (=> t true))"
+        self.assertEqual(smt2.rules_of("f", text + "(check-sat-assuming (t u))", is_tracked=True), "\n".join((
+            "[always]", "#: f:5", "a implies b", "", "[t]", "#: f:3", "a", "b", "# line 6 is true", "#: f:6", "a or not a", "",
+            "[u]", "#: f:4", "not a", "#: f:4", "c", "")))
+        self.assertEqual(lines_of(text + "(assert (! c :named n))"), [
+            "[always]", "t implies a", "t implies b", "u implies not a", "u implies c", "a implies b", "[n]", "c"])
+        # A constant that stands elsewhere tracks nothing, and neither does a term, or one that let binds.
+        for more in ("(assert (! t :named n))", "(assert (! (let ((x t)) x) :named n))", "(define-fun g () Bool (not t)) (assert (! c :named n))"):
+            self.assertIn("t implies a", lines_of(text + more, is_tracked=True), more)
+        self.assertEqual(lines_of(declared + "(assert (! (let ((t a)) t) :named n)) (assert (=> t b)) (assert (=> (not u) b))", is_tracked=True),
+                         ["[always]", "not u implies b", "[n]", "a", "[t]", "b"])
+        self.assertEqual(lines_of(declared + "(assert_and_track a t) (assert-and-track (not a) new) (assert b)"),
+                         ["[always]", "b", "[t]", "a", "[new]", "not a"])
+
+    def test_what_is_no_tracker_is_told(self):
+        start = "(declare-const p Bool) (declare-const t Bool)\n(assert (=> t p))\n"
+        for more, wanted in (
+                ("", "f: no assertion has a name, so nothing can be given up: each is (=> NAME TERM) with a NAME that stands nowhere else, "
+                     "so let --tracked make a rule of each"),
+                ("(assert p)", "f: no assertion has a name, so nothing can be given up: write (assert (! TERM :named NAME)), or let --each "
+                               "make a rule of each assertion"),
+                ("(assert_and_track p t) (assert t)", "f: line 3, column 21: 't' stands in other terms too, so it is not only a tracker"),
+                ("(assert_and_track p and)", None), ("(assert_and_track p (p))", "f: line 3, column 21: '(p ..)' is no constant of the sort Bool"),
+                ("(define-fun g () Bool p) (assert_and_track p g)", "f: line 3, column 46: 'g' is no constant of the sort Bool"),
+                ("(check-sat-assuming (t))", "f: line 3, column 1: 'check-sat-assuming' is not read: assert what is assumed, under a name each"),
+        ):
+            self.assertEqual(refusal(start + more), wanted, more)
+        for more, wanted in (
+                ("(check-sat-assuming (t p))", "f: line 3, column 24: 'p' is assumed here, and no assertion is tracked by it alone"),
+                ("(check-sat-assuming ((not t)))", "f: line 3, column 22: names alone can be assumed here, which track assertions"),
+                ("(check-sat-assuming t)", "f: line 3, column 21: a list of what is assumed is due here, in brackets"),
+        ):
+            self.assertEqual(refusal(start + more, is_tracked=True), wanted, more)
+
     def test_each_name_is_told_as_rules_can_have_it(self):
         for name, literal, rule in (
                 ("x", "x", "[x]"),
@@ -149,6 +201,7 @@ class Words(unittest.TestCase):
         self.assertEqual(lines_of(text), ["[n]", "a or b", "[m]", "a or b implies c"])
 
 
+INDEXED = "at-most, at-least, and pble, pbge, pbeq with weights 1, are"
 REFUSED = (
     ("(assert a)", "line 2, column 9: 'a' is declared nowhere above"),
     ("(assert (or q (not r)))", "line 2, column 13: 'q' is declared nowhere above"),
@@ -184,7 +237,18 @@ REFUSED = (
     ("(assert (= p #b1))", "line 2, column 14: '#b1' is not Boolean"),
     ('(assert "p")', "line 2, column 9: '\"p\"' is not Boolean"),
     ("(assert (forall ((x Bool)) x))", "line 2, column 9: 'forall' is not read"),
-    ("(assert ((_ is p) p))", "line 2, column 9: '(_ ..)' is not read"),
+    ("(assert ((_ is p) p))", "line 2, column 10: '(_ is ..)' is not read: of operators with indices " + INDEXED),
+    ("(assert ((_ +) p))", "line 2, column 10: '(_ + ..)' is not read: of operators with indices " + INDEXED),
+    ("(assert (= p (_ bv1 32)))", "line 2, column 14: '(_ bv1 ..)' is not read"),
+    ("(assert ((as p Bool) p))", "line 2, column 9: '(as ..)' is not read"),
+    ("(assert ((_ at-most) p))", "line 2, column 10: whole numbers are due behind 'at-most' in its brackets"),
+    ("(assert ((_ at-most 1.5) p))", "line 2, column 10: whole numbers are due behind 'at-most' in its brackets"),
+    ("(assert ((_ at-most 1 2) p p))", "line 2, column 10: '(_ at-most ..)' has one number"),
+    ("(assert ((_ at-least 1)))", "line 2, column 9: '(_ at-least ..)' takes 1 or more terms, and has 0"),
+    ("(assert ((_ pble 2 1) p p))", "line 2, column 10: '(_ pble ..)' has a number, and a weight for each of its 2 terms"),
+    ("(assert ((_ pbeq 2 1 3) p p))", "line 2, column 22: '(_ pbeq ..)' is read with weights 1 alone, and this one is 3"),
+    ("(assert \u00b2)", "line 2, column 9: '\u00b2' may not stand here; a name with such a character stands in | |"),
+    ("(assert \u0663x)", "line 2, column 9: '\u0663' may not stand here; a name with such a character stands in | |"),
     ("(assert (let () p))", "line 2, column 9: a let is (let ((NAME TERM) ..) TERM)"),
     ("(assert (let ((x p) (x p)) x))", "line 2, column 22: 'x' stands twice in this let"),
     ("(assert (let ((x p)) x) x)", "line 2, column 1: this command is (assert TERM)"),
@@ -271,11 +335,16 @@ class Random:
             names = list(self.VARIABLES) + list(bound)
             name = dice.choice(names + ["true", "false"][:dice.random() < 0.1])
             return name, lambda values: name == "true" or name != "false" and values[name]
-        kind = dice.choice(("not", "and", "or", "xor", "=>", "=", "distinct", "ite", "let", "f"))
+        kind = dice.choice(("not", "and", "or", "xor", "=>", "=", "distinct", "ite", "let", "f", *COUNTS))
         if kind == "let":
             return self.let(depth, bound)
         count = {"not": 1, "ite": 3, "f": 2}.get(kind) or dice.choice((2, 2, 3))
         parts = [self.term(depth - 1, bound) for _ in range(count)]
+        if kind in COUNTS:
+            number = dice.randint(0, count + 1)
+            shown = f"(_ {kind} {number}{' 1' * count if kind.startswith('pb') else ''})"
+            return (f"({shown} {' '.join(text for text, _ in parts)})",
+                    lambda values: COUNTS[kind](sum(it(values) for _, it in parts), number))
         return f"({kind} {' '.join(text for text, _ in parts)})", lambda values: MEANING[kind]([it(values) for _, it in parts])
 
     def let(self, depth, bound):
@@ -300,13 +369,22 @@ MEANING = {
 }
 
 
+COUNTS = {
+    "at-most": lambda held, number: held <= number,
+    "at-least": lambda held, number: held >= number,
+    "pble": lambda held, number: held <= number,
+    "pbge": lambda held, number: held >= number,
+    "pbeq": lambda held, number: held == number,
+}
+
+
 class Meaning(unittest.TestCase):
     def test_rules_fit_together_where_the_terms_do(self):
         head = "".join(f"(declare-const {name} Bool)" for name in Random.VARIABLES)
         head += "(define-fun f ((x Bool) (y Bool)) Bool (and x (not y)))"
         usual = formulas.FEW_CLAUSES, formulas.FEW_LEAVES, formulas.DEEP
         try:
-            for seed in range(60):
+            for seed in range(int(os.environ.get("GMUS_TRIALS", 60))):
                 # Small limits, so that there are definitions in small terms.
                 formulas.FEW_CLAUSES, formulas.FEW_LEAVES, formulas.DEEP = (usual, (4, 2, 3), (2, 1, 1))[seed % 3]
                 made = Random(seed)
