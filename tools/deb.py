@@ -19,7 +19,12 @@ import sys
 
 import deb_index
 import rule_text
+from rules_near import near_names
 from telling import Refused, WrongWords, run, text_of
+from unpacked import text_of as index_of
+
+
+FEW = 3     # of the versions that a package has, so many are told
 
 
 class Wish:
@@ -52,7 +57,7 @@ class Problem:
     def __init__(self, index, wishes):
         self.index = index
         self.wishes = wishes
-        self.told = []              # what a person should know of the wishes
+        self.unmet = []             # wishes that no package meets, and what they ask for
         self.literals = {}
         self.names = rule_text.Names()
         self.dependencies = {}      # of each package that is reached: clauses with what meets them
@@ -149,12 +154,24 @@ class Problem:
             return [f"not {self.literal(it)}" for it in met] if wish.is_not else [self.one_of(met)]
         asked = wish.text[len("not "):] if wish.is_not else wish.text
         name = rule_text.literal(self.names.new(asked))
-        follows = "the wish holds anyway" if wish.is_not else "the wish clashes by itself"
-        self.told.append(f"line {wish.line}: no package is or provides '{asked}', so {follows}")
+        self.unmet.append((wish, asked))
         return [f"{name} or not {name}" if wish.is_not else f"{name} and not {name}"]
 
     def one_of(self, stanzas):
         return " or ".join(map(self.literal, stanzas))
+
+
+    def told(self):
+        """What a person should know of the wishes: which of them no package meets, and what may be meant."""
+        index = self.index
+        names = {relation.name for wish, _ in self.unmet for relation in wish.relations if relation.name not in index.named}
+        near = near_names(sorted(names), [*index.named, *index.providers]) if names else {}
+        for wish, asked in self.unmet:
+            follows = "the wish holds anyway" if wish.is_not else "the wish clashes by itself"
+            others = [f"{it.name} (= {it.version})" for relation in wish.relations for it in index.named.get(relation.name, ())]
+            meant = [near[relation.name] for relation in wish.relations if relation.name in near]
+            hint = f"; there is {', '.join(others[:FEW])}" if others else f". Is '{meant[0]}' meant?" if meant else ""
+            yield f"line {wish.line}: no package is or provides '{asked}', so {follows}{hint}"
 
 
 def rules_of(indices, wishes, native=None):
@@ -164,7 +181,7 @@ def rules_of(indices, wishes, native=None):
     if not index.stanzas:
         raise Refused(f"{indices[0][0]}: there is no package in it")
     problem = Problem(index, wishes_of(*wishes))
-    return problem.text(), [f"{wishes[0]}: {line}" for line in problem.told]
+    return problem.text(), [f"{wishes[0]}: {line}" for line in problem.told()]
 
 
 def words_of(words):
@@ -186,7 +203,7 @@ def words_of(words):
 
 def main(words):
     files, native = words_of(words)
-    *indices, wishes = [(file, text_of(file)) for file in files]
+    indices, wishes = [(file, index_of(file)) for file in files[:-1]], (files[-1], text_of(files[-1]))
     made, told = rules_of(indices, wishes, native)
     for line in told:
         print(f"deb.py: {line}", file=sys.stderr)

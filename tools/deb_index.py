@@ -15,6 +15,9 @@ WANTED = {"package", "version", "architecture", "multi-arch", "status", "provide
 RELATION = re.compile(r"([A-Za-z0-9][A-Za-z0-9+.-]*)(?::([a-z0-9-]+))?(?: ?\( ?(<<|<=|=|>=|>>) ?([^ ()]+) ?\))?")
 NO_VALUE = "", 0
 OBSOLETE = re.compile(r"\( ?[<>] ?[^ <>=]")
+# what apt takes, and what leaves the brackets away
+ASKED = re.compile(r"([A-Za-z0-9][A-Za-z0-9+.-]*(?::[a-z0-9-]+)?) ?(<<|<=|==?|>=|>>) ?([^ ()/]+)")
+SUITE = re.compile(r"([A-Za-z0-9][A-Za-z0-9+.-]*(?::[a-z0-9-]+)?)/[^ ()]+")
 FORM = "a relation is NAME, or NAME (>= VERSION) with one of << <= = >= >>"
 
 # A relation to a package, which may say an architecture, and an operator with a version.
@@ -78,6 +81,13 @@ def relation_of(text):
         raise Refused(f"'{shown}' is obsolete: '<<' and '<=' differ, as '>>' and '>=' do")
     if "[" in shown or "<" in shown.partition("(")[0] + shown.partition(")")[2]:
         raise Refused(f"'{shown}' has a restriction that stands in source packages alone")
+    found = ASKED.fullmatch(shown)
+    if found:
+        name, operator, version = found.groups()
+        raise Refused(f"'{shown}' is no relation. Is '{name} ({operator.replace('==', '=')} {version})' meant?")
+    found = SUITE.fullmatch(shown)
+    if found:
+        raise Refused(f"'{shown}' is no relation. Is '{found.group(1)}' meant? Which suites there are is said by the indices")
     raise Refused(f"'{shown}' is no relation: {FORM}")
 
 

@@ -1,5 +1,6 @@
 #!/usr/bin/env python3
 """Tests of deb.py: python3 -m unittest discover -s tools (nothing but Python 3.9 is needed)."""
+import gzip
 import itertools
 import os
 import random
@@ -8,6 +9,7 @@ import subprocess
 import sys
 import tempfile
 import unittest
+from unittest import mock
 
 TOOLS = os.path.dirname(os.path.abspath(__file__))
 sys.path.insert(0, TOOLS)
@@ -16,6 +18,7 @@ import deb          # noqa: E402
 import deb_version  # noqa: E402
 import rules        # noqa: E402
 import telling      # noqa: E402
+import unpacked     # noqa: E402
 from test_smt2 import kept_together  # noqa: E402
 
 INDEX = """\
@@ -173,8 +176,47 @@ class Rules(unittest.TestCase):
         found, told = rules_of(INDEX, "old (>> 1)", "not nosuch", "old")
         self.assertEqual(found, ["[old (>> 1)]", '"old (>> 1)" and not "old (>> 1)"', "[not nosuch]", "nosuch or not nosuch",
                                  "[old]", "old"])
-        self.assertEqual(told, ["w: line 1: no package is or provides 'old (>> 1)', so the wish clashes by itself",
+        self.assertEqual(told, ["w: line 1: no package is or provides 'old (>> 1)', so the wish clashes by itself; there is old (= 1)",
                                 "w: line 2: no package is or provides 'nosuch', so the wish holds anyway"])
+
+    def test_what_may_be_meant_by_a_wish_that_nothing_meets_is_told(self):
+        index = stanza("nginx-light") + stanza("postgresql-15") + stanza("libstdc++6") + stanza("mta", Provides="mail-transport-agent")
+        for wish, wanted in (("nginx-lihgt", "nginx-light"), ("NGINX_light".replace("_", "-"), "nginx-light"), ("postgres-15", None),
+                             ("postgresq-15", "postgresql-15"), ("mail-transport-agents | x", "mail-transport-agent"),
+                             ("postgresql-16", None), ("libstdc6", "libstdc++6"), ("quite-other", None)):
+            _, (told,) = rules_of(index, wish)
+            self.assertEqual(told, f"w: line 1: no package is or provides '{wish}', so the wish clashes by itself"
+                             + (f". Is '{wanted}' meant?" if wanted else ""), wish)
+        many = "".join(stanza("a", str(version)) for version in range(1, 6))
+        self.assertTrue(rules_of(many, "a (>> 9)")[1][0].endswith("; there is a (= 1), a (= 2), a (= 3)"))
+
+    def test_packed_indices_are_read_by_the_systems_tools(self):
+        index = stanza("a").encode()
+        with tempfile.TemporaryDirectory() as folder:
+            for tool, options in (("gzip", []), ("xz", []), ("bzip2", []), ("lz4", []), ("zstd", [])):
+                if not shutil.which(tool):
+                    continue
+                packed = subprocess.run([tool, "-c", *options], input=index, stdout=subprocess.PIPE, check=True).stdout
+                name = os.path.join(folder, "Packages")
+                for held, wanted in ((packed, index.decode()), (packed[:-9], f"{name}: '{tool}' can't unpack it"),
+                                     (packed[:6] + b"\xff\xff" * 9, f"{name}: '{tool}' can't unpack it")):
+                    with open(name, "wb") as file:
+                        file.write(held)
+                    try:
+                        found = unpacked.text_of(name)
+                    except telling.Refused as why:
+                        found = str(why)
+                    self.assertEqual(found, wanted, tool)
+            with mock.patch.object(shutil, "which", lambda _: None), mock.patch.object(unpacked, "APT", folder + "/none"):
+                with self.assertRaises(telling.Refused) as refused:
+                    unpacked.text_of(name)
+            self.assertRegex(str(refused.exception), r"Packages: this is packed, and '\w+', which unpacks it, is not there$")
+            with mock.patch.object(unpacked, "MOST", 9):
+                with open(name, "wb") as file:
+                    file.write(gzip.compress(index))
+                with self.assertRaises(telling.Refused) as refused:
+                    unpacked.text_of(name)
+            self.assertTrue(str(refused.exception).endswith(": more than 9 bytes come of it, once it is unpacked"))
 
     def test_each_relation_is_met_by_what_policy_says(self):
         for fields, wanted in (
@@ -324,6 +366,12 @@ class Refusals(unittest.TestCase):
                                 "<< <= = >= >>"),
                 (good, "not\ta (1)\n",
                  "w: line 1: 'a (1)' is no relation: a relation is NAME, or NAME (>= VERSION) with one of << <= = >= >>"),
+                (good, "a=1.2\n", "w: line 1: 'a=1.2' is no relation. Is 'a (= 1.2)' meant?"),
+                (good, "a:i386=1.2-3~x\n", "w: line 1: 'a:i386=1.2-3~x' is no relation. Is 'a:i386 (= 1.2-3~x)' meant?"),
+                (good, "not a >= 1.2\n", "w: line 1: 'a >= 1.2' is no relation. Is 'a (>= 1.2)' meant?"),
+                (good, "a == 1\n", "w: line 1: 'a == 1' is no relation. Is 'a (= 1)' meant?"),
+                (good, "a/bookworm-backports\n", "w: line 1: 'a/bookworm-backports' is no relation. Is 'a' meant? Which suites there are "
+                                                 "is said by the indices"),
                 (good, "a |\n",
                  "w: line 1: '' is no relation: a relation is NAME, or NAME (>= VERSION) with one of << <= = >= >>"),
         ):
