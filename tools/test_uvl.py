@@ -52,14 +52,15 @@ constraints
 
 def lines_of(text):
     """The lines of the rules, without comments and empty lines."""
-    made = uvl.rules_of("m", text)
+    made, told = uvl.rules_of("m", text)
+    assert not told, told
     rules.read(made, "made")
     return [line for line in made.split("\n") if line and not line.startswith("#")]
 
 
-def refusal(text):
+def refusal(text, *more):
     try:
-        uvl.rules_of("m", text)
+        uvl.rules_of("m", text, *more)
     except telling.Refused as why:
         return str(why)
     return None
@@ -93,7 +94,7 @@ class Rules(unittest.TestCase):
         with open(os.path.join(os.path.dirname(TOOLS), "docs", "IMPORT.md"), encoding="utf-8") as page:
             blocks = page.read().partition("tools/uvl.py\n\n")[2].split("```")
         given, wanted = (block.partition("text\n")[2] for block in (blocks[1], blocks[3]))
-        self.assertEqual(uvl.rules_of("laptop.uvl", given), wanted)
+        self.assertEqual(uvl.rules_of("laptop.uvl", given), (wanted, []))
 
     def test_each_group_gives_its_lines(self):
         children = ["\ta", "\tb", "\tc"]
@@ -111,9 +112,61 @@ class Rules(unittest.TestCase):
                 ("[0..1]", implied + ["r implies at most one of (a, b, c)"]),
                 ("[2..*]", implied + ["r implies at least 2 of (a, b, c)"]),
                 ("[1..2]", implied + ["r implies at least one of (a, b, c)", "r implies at most 2 of (a, b, c)"]),
-                ("[4..9]", implied + ["not r"]),
         ):
             self.assertEqual(lines_of(below(group, *children))[2:-2], wanted, group)
+
+    def test_a_group_that_can_never_be_filled_is_told(self):
+        made, told = uvl.rules_of("m", below("[4..9]", "\ta", "\tb", "\tc"))
+        self.assertIn("c implies r\nnot r\n", made)
+        self.assertEqual(told, ["m: line 3, column 3: this group wants 4 of 3 features, so 'r' can't be there"])
+
+    def test_wishes_are_rules_and_the_model_holds(self):
+        model = below("optional", "\ta", "\tb {constraint !r | a}") + "\ta => b\n"
+        wishes = "# why\n  a\n!b // no\n\n(a\n & r) => b /* ! */\n\t a\n"
+        made, told = uvl.rules_of("m", model, ("w", wishes))
+        self.assertEqual((made.split("\n")[2:], told), ([
+            "r", "#: m:2", "a implies r", "b implies r", "#: m:5", "not r or a", "#: m:7", "r", "#: m:8", "a implies b", "",
+            "[a]", "#: w:2", "a", "", "[!b]", "#: w:3", "not b", "", "[(a & r) => b]", "#: w:5", "a and r implies b", "",
+            "[a (line 7)]", "#: w:7", "a", ""], []))
+        rules.read(made, "made")
+        self.assertEqual(uvl.rules_of("m", "features\n\tr\n", ("w", "r"))[0], "[always]\n#: m:2\nr\n\n[r]\n#: w:1\nr\n")
+        for wrong, wanted in (
+                ("", "w: there is no wish in it: a wish is a line such as 'Touch', '!Touch' or 'Touch => Matte'"),
+                ("a\nc", "w: line 2, column 1: 'c' is no feature of this model"), ("a, b", "w: line 1, column 2: the line's end is due here, and not ','"),
+                ("a > 3", "w: line 1, column 3: '>' is not read: arithmetic is not Boolean"),
+                ("a)", "w: line 1, column 2: no bracket is open that ')' closes")):
+            self.assertEqual(refusal(model, ("w", wrong)), wanted, wrong)
+        self.assertEqual(refusal(below("optional", "\tGlossy"), ("w", "glosy")), "w: line 1, column 1: 'glosy' is no feature of this model. "
+                                                                               "Is 'Glossy' meant?")
+
+    def test_what_rules_cannot_say_is_left_out_and_told(self):
+        model = """features
+\tr {constraint r.x > 3, constraints [a, 'x' == b, b], price 4}
+\t\toptional
+\t\t\tInteger a {min 1}
+\t\t\tb
+constraints
+\tsum(price, a) < 9 | b
+\ta => b
+\t(b + 1 > 2) => c.d
+\tzzz == 3
+"""
+        made, told = uvl.rules_of("m", model, None, True)
+        self.assertEqual([line for line in made.split("\n") if line.startswith("[")], ["[always]", "[a]", "[b]", "[a => b]"])
+        left = ", so this constraint is left out"
+        self.assertEqual(told, [
+            "m: line 2, column 16: 'r.x' is no feature of this model: attributes and other models are not read" + left,
+            "m: line 2, column 41: numbers and texts in constraints are not read; features are" + left,
+            "m: line 4, column 4: features of the type Integer are not read; only Boolean ones are, so the value of this one is left out",
+            "m: line 7, column 2: 'sum(..)' is not read; features are" + left,
+            "m: line 9, column 5: '+' is not read: arithmetic is not Boolean" + left,
+            "m: line 10, column 6: '==' is not read: arithmetic is not Boolean" + left])
+        for text, wanted in (
+                (OPENING + "a > 3", "m: there is no constraint in it that rules can say, so nothing can be given up; a list of wishes may be named "
+                                    "behind it"),
+                (OPENING + "a > 3\n\ta b", "m: line 8, column 4: '&', '|', '=>', '<=>' or the end of the constraint is due here, and not 'b'"),
+                (OPENING + "c", "m: line 7, column 2: 'c' is no feature of this model")):
+            self.assertEqual(refusal(text, None, True), wanted, text)
 
     def test_each_constraint_gives_its_line(self):
         for constraint, wanted in (
@@ -148,7 +201,7 @@ class Rules(unittest.TestCase):
                 e
 constraints
   r"""
-        variables, _, clauses = brute_force.problem_of(rules.read(uvl.rules_of("m", text), "m").gcnf().split("\n"))
+        variables, _, clauses = brute_force.problem_of(rules.read(uvl.rules_of("m", text)[0], "m").gcnf().split("\n"))
         count = sum(all(any(values[abs(lit) - 1] == (lit > 0) for lit in clause) for _, clause in clauses)
                     for values in itertools.product((False, True), repeat=variables))
         self.assertEqual(count, 3 * 3 * 6)
@@ -193,7 +246,7 @@ REFUSED = (
     ("features\n\tr $\n", "line 2, column 4: '$' may not stand here; a name with such a character stands in quotes"),
     ("features\n\t\"r\n", "line 2, column 2: a text in \" \" begins here and doesn't end on its line"),
     ("features\n\tr /* x\n", "line 2, column 4: a comment begins here and doesn't end"),
-    ("features\n\tr\n", "there is no constraint in it, so nothing can be given up"),
+    ("features\n\tr\n", "there is no constraint in it, so nothing can be given up; a list of wishes may be named behind it"),
     (OPENING + "c", "line 7, column 2: 'c' is no feature of this model"),
     (OPENING + "a &", "line 7, column 5: a feature, '!' or '(' is due here, and not the line's end"),
     (OPENING + "a b", "line 7, column 4: '&', '|', '=>', '<=>' or the end of the constraint is due here, and not 'b'"),
@@ -221,10 +274,11 @@ class Refusals(unittest.TestCase):
             return subprocess.run([sys.executable, os.path.join(TOOLS, "uvl.py"), *words], input=given, stdout=subprocess.PIPE,
                                   stderr=subprocess.PIPE)
 
-        usage = b"\n    tools/uvl.py MODEL.uvl > RULES\n"
+        usage = b"\n    tools/uvl.py [--skip] MODEL.uvl [WISHES] > RULES\n"
         missing = os.path.join(TOOLS, "no such file")
         for words, given, status, wanted in (
-                ([], b"", 2, b"uvl.py: one file is wanted" + usage),
+                ([], b"", 2, b"uvl.py: one model is wanted, and a list of wishes may be named" + usage),
+                (["--skip", "-", "-"], b"", 2, b"uvl.py: MODEL and WISHES can't both come from standard input" + usage),
                 (["--x"], b"", 2, b"uvl.py: '--x' is no option" + usage),
                 ([missing], b"", 1, b"uvl.py: " + os.fsencode(missing) + b": No such file or directory\n"),
                 (["-"], b"\xff", 1, b"uvl.py: -: line 1: the bytes are no UTF-8. "

@@ -1,20 +1,17 @@
-"""A feature model in UVL: its features as a tree, and its constraints as terms of formulas.py.
+"""A feature model in UVL: its features as a tree, and its constraints, which uvl_constraint.py reads.
 
 What a model may look like is told by the public grammar of UVL 2. Only its Boolean levels are read, those with numbers of
 features in a group among them.
 """
 import re
-from collections import namedtuple
 
 import formulas
+from uvl_constraint import Reader
 
-Constraint = namedtuple("Constraint", "term text line")
 SECTIONS = ("namespace", "include", "imports", "features", "constraints")
 GROUPS = ("mandatory", "optional", "or", "alternative")
 TYPES = ("Boolean", "Integer", "Real", "String")
-BINDING = {"!": 5, "&": 4, "|": 3, "=>": 2, "<=>": 1, "(": 0}
 LEVEL = re.compile(r"[A-Za-z]+(-[A-Za-z]+)*(\.([A-Za-z]+(-[A-Za-z]+)*|\*))?")
-OPERAND = "a feature, '!' or '(' is due here"
 
 
 class Feature:
@@ -35,37 +32,13 @@ class Group:
         self.features = []
 
 
-class Model:
-    """Reads the words of a model from left to right."""
+class Model(Reader):
+    """A model. `skipped` is None, or a list that gets what is left out."""
 
-    def __init__(self, source):
-        self.source = source
-        self.words = source.words()
-        self.at = 0
+    def __init__(self, source, skipped=None):
+        super().__init__(source, source.words(), formulas.Terms(), {}, skipped)
         self.features = []          # the root first
         self.lines = {}             # of each feature
-        self.constraints = []
-        self.references = []        # each name in a constraint, with its place
-        self.terms = formulas.Terms()
-        self.firsts = {}            # where the node at a place is met first
-
-    @property
-    def word(self):
-        return self.words[self.at]
-
-    def take(self, *kinds):
-        word = self.word
-        if kinds and word.kind not in kinds:
-            raise self.unexpected(f"{' or '.join(map(shown_kind, kinds))} is due here")
-        self.at += 1
-        return word
-
-    def unexpected(self, wanted):
-        shown = self.word.text if self.word.kind in ("line", "in", "out", "end") else f"'{self.word.text}'"
-        return self.refused(self.word, f"{wanted}, and not {shown}")
-
-    def refused(self, word, why):
-        return self.source.refused(word.at, why)
 
     def read(self):
         """Reads the sections, which stand in their order."""
@@ -80,9 +53,7 @@ class Model:
             getattr(self, "read_" + word.text)(word)
         if not self.features:
             raise self.refused(self.word, "there is no feature: a section 'features' has them")
-        for word in self.references:
-            if word.text not in self.lines:
-                raise self.refused(word, f"'{word.text}' is no feature of this model")
+        self.want_features(self.lines)
 
     def read_namespace(self, _):
         self.reference()
@@ -166,7 +137,7 @@ class Model:
         word = self.take("name")
         if word.text in TYPES and self.word.kind == "name" and self.word.text != "cardinality":
             if word.text != "Boolean":
-                raise self.refused(word, f"features of the type {word.text} are not read; only Boolean ones are")
+                self.refuse_type(word)
             word = self.take("name")
         line = self.source.place(word.at)[0]
         if word.text in self.lines:
@@ -184,6 +155,13 @@ class Model:
             self.attributes()
         self.take("line")
         return feature
+
+    def refuse_type(self, word):
+        """Refuses a feature with a value, or takes it as one that is there or not."""
+        refused = self.refused(word, f"features of the type {word.text} are not read; only Boolean ones are")
+        if self.skipped is None:
+            raise refused
+        self.skipped.append(f"{refused}, so the value of this one is left out")
 
     def attributes(self):
         """Reads past attributes and their values, which no constraint can mention. Constraints among them count."""
@@ -221,17 +199,6 @@ class Model:
             if self.word.kind in ("number", "string", "name"):
                 self.take()
 
-    def reference(self):
-        """A name, or names with dots between."""
-        word = self.take("name")
-        if self.word.kind != ".":
-            return word
-        text = word.text
-        while self.word.kind == ".":
-            self.take()
-            text += "." + self.take("name").text
-        return word._replace(text=text, kind="path")
-
     def read_constraints(self, _):
         self.take("line")
         if self.word.kind != "in":
@@ -241,69 +208,3 @@ class Model:
             self.read_constraint()
             self.take("line")
         self.take("out")
-
-    def read_constraint(self):
-        first = self.at
-        term = self.constraint()
-        words = self.words[first:self.at]
-        text = "".join(" " * (after.at > word.end) + self.source.text[after.at:after.end]
-                       for word, after in zip([words[0], *words], words))
-        self.constraints.append(Constraint(term, text, self.source.place(words[0].at)[0]))
-
-    def constraint(self):
-        """The term of a constraint, by the precedence of its operators: '!' binds most, then '&', '|', '=>', '<=>'."""
-        operators, found = [], []
-        while True:
-            while self.word.kind in ("!", "("):
-                operators.append(self.take())
-            found.append(self.operand())
-            while self.word.kind == ")":
-                self.apply_down_to("(", operators, found)
-                operators.pop()
-                self.take()
-            if self.word.kind not in ("&", "|", "=>", "<=>"):
-                break
-            self.apply_down_to(self.word.kind, operators, found)
-            operators.append(self.take())
-        if self.word.kind not in ("line", ",", "]", "}"):
-            raise self.refuse_behind()
-        self.apply_down_to("", operators, found)
-        return found[0]
-
-    def operand(self):
-        if self.word.kind in ("number", "string", "-"):
-            raise self.refused(self.word, "numbers and texts in constraints are not read; features are")
-        if self.word.kind != "name":
-            raise self.unexpected(OPERAND)
-        word = self.reference()
-        if self.word.kind == "(":
-            raise self.refused(word, f"'{word.text}(..)' is not read; features are")
-        if word.kind == "path":
-            raise self.refused(word, f"'{word.text}' is no feature of this model: attributes and other models are not read")
-        self.references.append(word)
-        return self.terms.variable(word.text)
-
-    def refuse_behind(self):
-        if self.word.kind in ("==", "!=", "<", ">", "<=", ">=", "+", "-", "*", "/"):
-            return self.refused(self.word, f"'{self.word.text}' is not read: arithmetic is not Boolean")
-        return self.unexpected("'&', '|', '=>', '<=>' or the end of the constraint is due here")
-
-    def apply_down_to(self, kind, operators, found):
-        """Applies the operators that bind at least as much as this one, up to an open bracket."""
-        while operators and operators[-1].kind != "(" and BINDING[operators[-1].kind] >= BINDING.get(kind, 0):
-            operator = operators.pop()
-            if operator.kind == kind == "=>":
-                raise self.refused(self.word, "'=>' stands twice: brackets say which comes first")
-            if operator.kind == "!":
-                found.append(-found.pop())
-                continue
-            right, left = found.pop(), found.pop()
-            calls = {"&": self.terms.all_of, "|": self.terms.any_of, "<=>": lambda pair: self.terms.iff(*pair),
-                     "=>": lambda pair: self.terms.implies(pair[:1], pair[1])}
-            found.append(calls[operator.kind]((left, right)))
-            self.firsts.setdefault(abs(found[-1]), operator.at)
-
-
-def shown_kind(kind):
-    return {"line": "the line's end", "in": "a block", "out": "the end of a block", "name": "a name", "number": "a number",
-            "string": "a text"}.get(kind, f"'{kind}'")

@@ -45,15 +45,15 @@ class Source:
         line, column = self.place(at)
         return Refused(f"{self.file}: line {line}, column {column}: {why}")
 
-    def words(self):
-        """All words of the text, with the ends of its lines and blocks."""
+    def words(self, is_flat=False):
+        """All words of the text, with the ends of its lines and blocks; or lines that may be set in as they like."""
         found, blocks, open_at = [], [""], []
         for word in self.plain_words():
             if word.kind == "break":
                 if not open_at and found and found[-1].kind not in ("line", "in", "out"):
                     found.append(mark("line", "the line's end", word.at))
                 continue
-            if not open_at and (not found or found[-1].kind == "line"):
+            if not is_flat and not open_at and (not found or found[-1].kind == "line"):
                 self.set_in(word.at, blocks, found)
             if word.kind in PAIRS:
                 open_at.append(word)
