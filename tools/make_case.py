@@ -49,7 +49,7 @@ def text_of(seed, size):
 def main(words):
     if len(words) != 2 or not all(word.isascii() and word.isdigit() and len(word.lstrip("0")) <= 20 for word in words):
         raise WrongWords("two numbers are wanted, a seed and a size")
-    seed, size = map(int, words)
+    seed, size = (int(word.lstrip("0") or "0") for word in words)
     if seed >= 2 ** 64 or not 1 <= size <= 1000:
         raise WrongWords("a seed is below 2^64, and a size 1 to 1000")
     sys.stdout.write(text_of(seed, size))

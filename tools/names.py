@@ -33,7 +33,7 @@ from report import Origin, decoded, named, number_of
 from telling import DONE, Refused, WrongWords, bytes_of, run
 
 CLASH = 3
-ON_A_TERMINAL = 20
+ON_A_TERMINAL, MOST = 20, 10 ** 18
 VERSION = 1
 
 
@@ -129,8 +129,10 @@ class Words:
             value = value if has_value else behind.pop(0)
             if option == "--why":
                 self.evidence = value
-            elif value.isascii() and value.isdecimal() and len(value) <= 18:
-                self.first = int(value)
+            elif value.isascii() and value.isdecimal():
+                # No list has as many as a number of 19 digits says, and digits without end would be costly to read.
+                digits = value.lstrip("0") or "0"
+                self.first = int(digits) if len(digits) <= 18 else MOST
             else:
                 raise WrongWords(f"--first {value}: a number has to stand here")
         elif word == "--":

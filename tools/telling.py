@@ -27,7 +27,12 @@ def run(tool, main, doc):
 
     `doc` is what the tool does: its usage is the first lines in it that are set in, up to an empty one.
     """
+    if sys.stderr is None:
+        # What is told has no place to go, and would stand in the output otherwise.
+        sys.stderr = open(os.devnull, "w", encoding="utf-8")
     try:
+        if sys.stdout is None:
+            raise Refused("standard output is closed")
         words = sys.argv[1:]
         if words in (["--help"], ["-h"]):
             print(doc.strip())
@@ -73,9 +78,16 @@ def usage_of(doc):
 def bytes_of(name):
     """What a file holds, or standard input where the name is `-`."""
     if name == "-":
-        return sys.stdin.buffer.read()
+        return standard_input().read()
     with open(name, "rb") as source:
         return source.read()
+
+
+def standard_input():
+    """Standard input, as bytes; refused if it is closed."""
+    if sys.stdin is None:
+        raise Refused("standard input is closed")
+    return sys.stdin.buffer
 
 
 def text_of(name):

@@ -123,6 +123,12 @@ class Texts(unittest.TestCase):
             self.assertEqual([line for line in wanted if line not in made], [], (first, made))
             self.assertEqual([line for line in unwanted if line in made], [], (first, made))
 
+    def test_a_huge_number_has_all(self):
+        report = os.path.join(EXAMPLES, "laptop.report")
+        whole = run(LAPTOP, report)
+        for number in ("7", "9" * 18, "1" + "0" * 18, "9" * 30, "9" * 5000, "0" * 5000 + "7"):
+            self.assertEqual(run(LAPTOP, report, "--first", number), whole, number[:40])
+
     def test_json_has_these_keys_in_this_order(self):
         made = names.as_json(shown("p gmus 3\ns PARTIAL\nu 1 2 0\nu 3 0\nm 1 3 0\ne 2 1\n", "c group 1 \"ä\\b\"\nc group 0 all\n", "/a/b.gcnf"))
         self.assertEqual(json.loads(made, object_pairs_hook=lambda pairs: [list(pair) for pair in pairs]), [

@@ -71,5 +71,28 @@ class Texts(unittest.TestCase):
                         self.assertEqual(telling.text_in(file.read(), "f"), RULES, words)
 
 
+EXAMPLES = os.path.join(os.path.dirname(TOOLS), "examples")
+FIRST, EVIDENCE = (os.path.join(EXAMPLES, name) for name in ("first.gcnf", "first.evidence"))
+
+
+class Closed(unittest.TestCase):
+    """Standard streams that are closed, as by `<&-` in a shell."""
+
+    def test_a_closed_input_is_told(self):
+        for words in (["gcnf.py", "-"], ["gcnf.py", "--after", "-", os.path.join(EXAMPLES, "laptop.rules")], ["names.py", FIRST],
+                      ["names.py", "-", os.path.join(EXAMPLES, "first.report")], ["why.py", FIRST, "-"], ["why.py", "-", EVIDENCE],
+                      ["smt2.py", "-"], ["deb.py", "-", FIRST], ["deb.py", FIRST, "-"], ["uvl.py", "-"], ["check_lrat.py", "-", FIRST]):
+            ended = subprocess.run(["sh", "-c", 'exec "$@" <&-', "sh", sys.executable, os.path.join(TOOLS, words[0]), *words[1:]],
+                                   stdout=subprocess.PIPE, stderr=subprocess.PIPE, universal_newlines=True, check=False)
+            self.assertEqual((ended.returncode, ended.stdout, ended.stderr), (1, "", f"{words[0]}: standard input is closed\n"), words)
+
+    def test_a_closed_output_is_told_and_what_cannot_be_told_goes_nowhere(self):
+        for how, words, status, wanted in ((">&-", [FIRST, os.path.join(EXAMPLES, "first.report")], 1, "names.py: standard output is closed\n"),
+                                           ("2>&-", [FIRST, FIRST], 1, ""), (">&- 2>&-", [FIRST, FIRST], 1, ""), ("2>&-", [], 2, "")):
+            ended = subprocess.run(["sh", "-c", f'exec "$@" {how}', "sh", sys.executable, os.path.join(TOOLS, "names.py"), *words],
+                                   stdin=subprocess.DEVNULL, stdout=subprocess.PIPE, stderr=subprocess.PIPE, universal_newlines=True, check=False)
+            self.assertEqual((ended.returncode, ended.stdout, ended.stderr), (status, "", wanted), how)
+
+
 if __name__ == "__main__":
     unittest.main()

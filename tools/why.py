@@ -110,7 +110,7 @@ def as_html(page):
 def opened(name):
     """The file, in which any place can be read again."""
     if name == "-":
-        return io.BytesIO(sys.stdin.buffer.read())
+        return io.BytesIO(telling.bytes_of(name))
     file = open(name, "rb")
     return file if file.seekable() else io.BytesIO(file.read())
 
@@ -119,7 +119,7 @@ def number_in(words):
     """The number of a conflict, if there is one among the words."""
     if not words:
         return None
-    if len(words) > 1 or not words[0].isdecimal() or len(words[0]) > 18 or int(words[0]) == 0:
+    if len(words) > 1 or not (words[0].isascii() and words[0].isdecimal()) or len(words[0]) > 18 or int(words[0]) == 0:
         raise WrongWords(f"the number of a conflict is wanted, from 1 on, in place of {' '.join(words)}")
     return int(words[0])
 
