@@ -6,8 +6,8 @@ use Rattle.gcnf_text.specs.Grammar.{Reads}
 use Rattle.gcnf_text.specs.Read.{IsRefused}
 use Rattle.gcnf_text.specs.declared.offence.Offence.{Offence}
 use Rattle.gm_audit.specs.Refusals.{first_refusal}
-use Rattle.gm_tool.specs.Input.{OfFile, ReadsIn}
-use Rattle.gm_tool.specs.Judging.{AreAccepted, IsEvidenceRefusal, IsToldFile}
+use Rattle.gm_io.specs.Input.{OfFile, ReadsIn}
+use Rattle.gm_io.specs.Judging.{AreAccepted, IsEvidenceRefusal, IsToldFile}
 use Rattle.std.specs.Prelude.{IfSome}
 
 -- what is told of a file, and what is said of it

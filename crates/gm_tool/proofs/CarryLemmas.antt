@@ -22,38 +22,40 @@ use Rattle.gm_audit.proofs.YesLemmas.{shortened-is_yes}
 use Rattle.map_core.specs.declared.closing.Closing.{Closing}
 use Rattle.map_core.specs.declared.closing.Verdict.{Verdict}
 use Rattle.map_core.specs.declared.closing.Verdict.TheVariants as verdict
+use Rattle.gm_io.specs.declared.bounds.Bounds.{Bounds}
+use Rattle.gm_io.specs.declared.ending.Enumerated.{Enumerated}
+use Rattle.gm_io.specs.declared.ending.Ending.{Ending}
+use Rattle.gm_io.specs.declared.ending.Ending.TheVariants.{Memory}
+use Rattle.gm_io.specs.declared.ending.Finish.{Finish}
+use Rattle.gm_io.specs.declared.longer.Longer.{Longer}
+use Rattle.gm_io.specs.declared.writing.Stop.{Stop}
+use Rattle.gm_io.specs.declared.writing.Stop.TheVariants as stop
+use Rattle.gm_io.specs.Beginnings.{IsBegunLonger, StopsLonger}
+use Rattle.gm_io.specs.Endings.{bare, finish_of, line_of, status_by}
+use Rattle.gm_io.specs.Evidence.{HasSmallIds}
+use Rattle.gm_io.specs.Outside.{Outside, outside}
+use Rattle.gm_io.specs.Resuming.{AreGoodFirst}
+use Rattle.gm_io.specs.Written.{Writes}
+use Rattle.gm_io.proofs.OrderLemmas.{held_report-from}
 use Rattle.gm_tool.specs.declared.carry.Over.{Over}
 use Rattle.gm_tool.specs.declared.carry.Over.TheVariants as over
-use Rattle.gm_tool.specs.declared.enumeration.Bounds.{Bounds}
-use Rattle.gm_tool.specs.declared.enumeration.Enumerated.{Enumerated}
-use Rattle.gm_tool.specs.declared.ending.Ending.{Ending}
-use Rattle.gm_tool.specs.declared.ending.Ending.TheVariants.{Memory}
-use Rattle.gm_tool.specs.declared.ending.Finish.{Finish}
 use Rattle.gm_tool.specs.declared.list.Course.{Course}
-use Rattle.gm_tool.specs.declared.longer.Longer.{Longer}
 use Rattle.gm_tool.specs.declared.prepared.Prepared.{Prepared}
-use Rattle.gm_tool.specs.declared.writing.Stop.{Stop}
-use Rattle.gm_tool.specs.declared.writing.Stop.TheVariants as stop
 use Rattle.gm_tool.specs.Carrying.{HasFewRecords, IsCarried, IsCarriedOn, IsCarryLog, IsCarrying, IsDried, carry_bounds, empty_closing}
-use Rattle.gm_tool.specs.CarrySteps.{Carries, Dries, GoesOn, IsBegunLonger, IsDryReady, StopsLonger, TellsOver, course_from, dried_by}
-use Rattle.map_core.specs.declared.entry.Entry.{Entry}
-use Rattle.report_text.specs.Reports.{IsReportOf}
-use Rattle.gm_tool.specs.Closed.{conflicts_in, corrections_in, held_report, learned_in}
-use Rattle.gm_tool.specs.Endings.{bare, finish_of, line_of, status_by}
-use Rattle.gm_tool.specs.Evidence.{HasSmallIds, IsValid}
+use Rattle.gm_tool.specs.CarrySteps.{Carries, Dries, GoesOn, IsDryReady, TellsOver, course_from, dried_by}
+use Rattle.gm_tool.specs.Closed.{conflicts_in, corrections_in, held_report, learned_in, IsValid}
 use Rattle.gm_tool.specs.Listing.{IsListed}
 use Rattle.gm_tool.specs.Outputs.{evidence_output}
-use Rattle.gm_tool.specs.Outside.{Outside, outside}
-use Rattle.gm_tool.specs.Resuming.{AreGoodFirst}
 use Rattle.gm_tool.specs.Run.{IsRun}
 use Rattle.gm_tool.specs.Statuses.{IsAmong, IsAfterwards, IsReported, IsSilent}
-use Rattle.gm_tool.specs.Steps.{Lists, Writes}
+use Rattle.gm_tool.specs.Steps.{Lists}
 use Rattle.gm_tool.specs.Words.{EndsAs, IsObeyed}
 use Rattle.gm_tool.proofs.LongerLemmas.{left-where_extended, left-where_not, stopped-longer, unjudged-longer}
-use Rattle.gm_tool.proofs.OrderLemmas.{held_report-from}
 use Rattle.gm_tool.proofs.RunLemmas.{carrying-memory, run-bare}
 use Rattle.gm_tool.proofs.StatusLemmas.{among-by}
 use Rattle.gm_tool.proofs.WrittenLemmas.{Fits, ListedLine, among-fits, is-listed, listed-fits, listed-logs, listed-run, listed_finish, put-out, report-out, run-written}
+use Rattle.map_core.specs.declared.entry.Entry.{Entry}
+use Rattle.report_text.specs.Reports.{IsReportOf}
 
 -- the bounds that a carrying is asked for
 abbrev pub asked_bounds : Carrying → Bounds

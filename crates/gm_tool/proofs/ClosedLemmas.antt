@@ -15,9 +15,9 @@ use Rattle.map_core.specs.Closings.{HoldsAll, verdict_by, is_cut_off}
 use Rattle.map_core.specs.Core.{State, is_told}
 use Rattle.map_core.specs.Sound.{IsSound}
 use Rattle.evidence_rec.proofs.HeldLemmas.{accepted-minimal}
-use Rattle.gm_tool.specs.declared.enumeration.Bounds.{Bounds}
+use Rattle.gm_io.specs.declared.bounds.Bounds.{Bounds}
+use Rattle.gm_io.specs.Endings.{status_by}
 use Rattle.gm_tool.specs.Closed.{IsClosedFor, IsBudgetSpent, IsEnumerated, HasLimit, AreDistinctMinimal, full_report, held_report, report_for, is_complete}
-use Rattle.gm_tool.specs.Endings.{status_by}
 use Rattle.gm_tool.specs.Statuses.{IsReported, IsPartial}
 use Rattle.gm_tool.proofs.ReportLemmas.{of-problem}
 

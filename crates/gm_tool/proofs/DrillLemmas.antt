@@ -8,9 +8,10 @@ use Rattle.evidence_rec.specs.declared.record.Record.{Record}
 use Rattle.evidence_rec.proofs.HeldLemmas.{held-exactly_all}
 use Rattle.map_core.specs.declared.closing.Verdict.TheVariants as verdict
 use Rattle.map_core.specs.declared.closing.Closing.{Closing}
-use Rattle.gm_tool.specs.declared.enumeration.Bounds.{Bounds}
+use Rattle.gm_io.specs.declared.bounds.Bounds.{Bounds}
+use Rattle.gm_io.specs.Counts.{drill_line}
 use Rattle.gm_tool.specs.Closed.{IsClosedFor, conflicts_in, corrections_in}
-use Rattle.gm_tool.specs.Drilling.{drill_line, full_counts, held_counts}
+use Rattle.gm_tool.specs.Drilling.{full_counts, held_counts}
 use Rattle.gm_tool.proofs.ReportLemmas.{of-problem, accepted-in, distinct-in}
 use Rattle.gm_tool.proofs.ClosedLemmas.{holds-all}
 

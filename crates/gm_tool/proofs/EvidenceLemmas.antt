@@ -13,9 +13,9 @@ use Rattle.gm_audit.proofs.YesLemmas.{shortened-is_yes}
 use Rattle.map_core.specs.declared.closing.Verdict.{Verdict}
 use Rattle.map_core.specs.declared.closing.Verdict.TheVariants as verdict
 use Rattle.map_core.specs.declared.closing.Closing.{Closing}
-use Rattle.gm_tool.specs.declared.enumeration.Bounds.{Bounds}
-use Rattle.gm_tool.specs.Closed.{IsClosedFor, is_complete}
-use Rattle.gm_tool.specs.Evidence.{evidence_of, IsValid, HasSmallIds}
+use Rattle.gm_io.specs.declared.bounds.Bounds.{Bounds}
+use Rattle.gm_io.specs.Evidence.{evidence_of, HasSmallIds}
+use Rattle.gm_tool.specs.Closed.{IsClosedFor, is_complete, IsValid}
 use Rattle.gm_tool.proofs.ReportLemmas.{of-problem, accepted-in, distinct-in}
 
 -- ---- what is left is valid

@@ -7,19 +7,22 @@ use Rattle.gm_ports.specs.Faults.{Rose}
 use Rattle.gm_ports.specs.FilesState.{FilesState, ReadingLeaves, WritingLeaves, StaysAsTold}
 use Rattle.gm_words.specs.Reading.{Exporting, exporting}
 use Rattle.evidence_rec.specs.declared.record.Record.{Record}
-use Rattle.gm_tool.specs.declared.beginning.Beginning.{Beginning}
-use Rattle.gm_tool.specs.declared.ending.Ending.{Ending}
-use Rattle.gm_tool.specs.declared.ending.Ending.TheVariants.{Memory, Exported, ExportCutOff, NoConflict}
-use Rattle.gm_tool.specs.Endings.{bare, error_line, export_cut_line, finish_of, line_of}
-use Rattle.gm_tool.specs.Exporting.{IsNumberedRecord, IsRefuted, clauses_text, refutation_text, shown_conflicts}
+use Rattle.gm_io.specs.declared.beginning.Beginning.{Beginning}
+use Rattle.gm_io.specs.declared.ending.Ending.{Ending}
+use Rattle.gm_io.specs.declared.ending.Ending.TheVariants.{Memory, Exported, ExportCutOff, NoConflict}
+use Rattle.gm_io.specs.Endings.{bare, error_line, export_cut_line, finish_of, line_of}
+use Rattle.gm_io.specs.Numbered.{IsNumberedRecord, shown_conflicts}
+use Rattle.gm_io.specs.Outside.{outside}
+use Rattle.gm_io.specs.Beginnings.{IsBegun, Stops}
+use Rattle.gm_io.specs.Writing.{AreWritten, AreCutOff}
+use Rattle.gm_io.proofs.ReadingLemmas.{read-alone}
+use Rattle.gm_tool.specs.Exporting.{IsRefuted, clauses_text, refutation_text}
 use Rattle.gm_tool.specs.Outputs.{export_outputs}
-use Rattle.gm_tool.specs.Outside.{outside}
 use Rattle.gm_tool.specs.Run.{IsOutputFault}
 use Rattle.gm_tool.specs.Statuses.{IsAmong, IsReported, IsToldByStatus}
-use Rattle.gm_tool.specs.Steps.{IsBegun, Stops, Exports, Misses}
+use Rattle.gm_tool.specs.Steps.{Exports, Misses}
 use Rattle.gm_tool.specs.Words.{EndsAs, IsObeyed, no_bounds}
-use Rattle.gm_tool.specs.Writing.{AreWritten, AreCutOff}
-use Rattle.gm_tool.proofs.ReadingLemmas.{stopped, unjudged, read-alone}
+use Rattle.gm_tool.proofs.StoppedLemmas.{stopped, unjudged}
 use Rattle.gm_tool.proofs.RunLemmas.{run-bare, run-stopped, left-of, exporting-memory}
 use Rattle.gm_tool.proofs.WrittenLemmas.{run-after}
 use Rattle.gm_tool.proofs.StatusLemmas.{among-by}

@@ -6,18 +6,18 @@ use Rattle.evidence_rec.specs.declared.record.Record.{Record}
 use Rattle.gm_base.specs.Problem.{Problem}
 use Rattle.gm_ports.specs.FilesState.{FilesState}
 use Rattle.gm_words.specs.Reading.{Asked, Listing, Carrying, listing, checking, drilling, exporting, asking, carrying}
-use Rattle.gm_tool.specs.declared.enumeration.Bounds.{Bounds}
-use Rattle.gm_tool.specs.declared.ending.Ending.{Ending}
-use Rattle.gm_tool.specs.declared.ending.Finish.{Finish}
+use Rattle.gm_io.specs.declared.bounds.Bounds.{Bounds}
+use Rattle.gm_io.specs.declared.ending.Ending.{Ending}
+use Rattle.gm_io.specs.declared.ending.Finish.{Finish}
+use Rattle.gm_io.specs.Endings.{finish_of, line_of, error_line, input_fault_line, evidence_fault_line, report_cut_line}
+use Rattle.gm_io.specs.Judging.{IsJudged, IsRefusal}
+use Rattle.gm_io.specs.Lines.{no_conflict_line, no_extension_line}
+use Rattle.gm_io.specs.Longer.{AreJudged}
+use Rattle.gm_io.specs.Outside.{Outside}
+use Rattle.gm_io.specs.Refusals.{refusal_line, evidence_line}
 use Rattle.gm_tool.specs.Carrying.{IsCarried, IsCarriedOn, IsDried, carry_bounds, empty_closing}
-use Rattle.gm_tool.specs.Endings.{finish_of, line_of, error_line, input_fault_line, evidence_fault_line, report_cut_line}
-use Rattle.gm_tool.specs.Judging.{IsJudged, IsRefusal}
 use Rattle.gm_tool.specs.Listing.{IsListed, IsListedFrom, IsPutOut, bounds_for}
-use Rattle.gm_tool.specs.Lines.{no_conflict_line, no_extension_line}
-use Rattle.gm_tool.specs.Longer.{AreJudged}
 use Rattle.gm_tool.specs.Outputs.{Outputs, evidence_output, export_outputs}
-use Rattle.gm_tool.specs.Outside.{Outside}
-use Rattle.gm_tool.specs.Refusals.{refusal_line, evidence_line}
 use Rattle.gm_tool.specs.Run.{IsRun, IsReportFault, IsOutputFault}
 use Rattle.gm_tool.specs.Words.{EndsAs, IsDone, IsObeyed, bounds_of, outputs_of}
 

@@ -15,36 +15,37 @@ use Rattle.map_core.specs.declared.closing.Closing.{Closing}
 use Rattle.gm_journal.specs.declared.salvaging.Salvaged.{Salvaged}
 use Rattle.gm_journal.specs.Following.{AreJournalled}
 use Rattle.gm_journal.specs.Salvage.{HoldsRecords, HoldsNoRecord}
-use Rattle.gm_tool.specs.declared.enumeration.Bounds.{Bounds}
-use Rattle.gm_tool.specs.declared.enumeration.Enumerated.{Enumerated}
-use Rattle.gm_tool.specs.declared.ending.Ending.{Ending}
-use Rattle.gm_tool.specs.declared.ending.Ending.TheVariants.{Refused, ReadFault, Memory, JournalUnread, JournalRefused, JournalUnbegun, JournalCutOff}
-use Rattle.gm_tool.specs.declared.ending.Finish.{Finish}
+use Rattle.gm_io.specs.declared.bounds.Bounds.{Bounds}
+use Rattle.gm_io.specs.declared.ending.Enumerated.{Enumerated}
+use Rattle.gm_io.specs.declared.ending.Ending.{Ending}
+use Rattle.gm_io.specs.declared.ending.Ending.TheVariants.{Refused, ReadFault, Memory, JournalUnread, JournalRefused, JournalUnbegun, JournalCutOff}
+use Rattle.gm_io.specs.declared.ending.Finish.{Finish}
+use Rattle.gm_io.specs.Endings.{bare, after, error_line, finish_of, line_of, input_fault_line, journal_cut_line, journal_fault_line, report_cut_line}
+use Rattle.gm_io.specs.Input.{OfFile, ReadsIn, IsReadAs, IsReadFor}
+use Rattle.gm_io.specs.Judging.{IsRefusal}
+use Rattle.gm_io.specs.Outside.{Outside, outside}
+use Rattle.gm_io.specs.Refusals.{refusal_line}
+use Rattle.gm_io.specs.Resuming.{AreGoodFirst}
+use Rattle.gm_io.specs.Beginnings.{StopsReading}
+use Rattle.gm_io.specs.Taking.{stays-same}
+use Rattle.gm_io.proofs.ReadingLemmas.{file-by, read-for}
 use Rattle.gm_tool.specs.Closed.{opening_for}
-use Rattle.gm_tool.specs.Endings.{bare, after, error_line, finish_of, line_of, input_fault_line, journal_cut_line, journal_fault_line, report_cut_line}
-use Rattle.gm_tool.specs.Input.{OfFile, ReadsIn, IsReadAs, IsReadFor}
 use Rattle.gm_tool.specs.Journaled.{HoldsNew, IsJournaled, IsSalvagedFrom, IsForeignTo, IsListedOn, IsStopped, IsJournalFault, IsJournalUnread, IsInputFault, IsJournalRefusal, NoneRetired, EndsJournaled}
 use Rattle.gm_tool.specs.declared.kept.Kept.{Kept}
 use Rattle.gm_tool.specs.JournalSteps.{IsClosed, IsKept, IsOpened, EndsKept, Keeps, KeepsFrom, RefusesJournal, StopsOpening, closing_in, course_for}
-use Rattle.gm_tool.specs.Judging.{IsRefusal}
 use Rattle.gm_tool.specs.Listing.{IsListed, bounds_for}
 use Rattle.gm_tool.specs.Outputs.{evidence_output}
-use Rattle.gm_tool.specs.Outside.{Outside, outside}
-use Rattle.gm_tool.specs.Refusals.{refusal_line}
-use Rattle.gm_tool.specs.Resuming.{AreGoodFirst}
 use Rattle.gm_tool.specs.Run.{IsOutputFault, IsReportFault, IsRun}
 use Rattle.gm_tool.specs.Statuses.{IsAmong, IsFaultless, IsPartial, IsSilent, IsReported, IsToldByStatus}
-use Rattle.gm_tool.specs.Steps.{Lists, StopsReading}
-use Rattle.gm_tool.specs.Taking.{stays-same}
+use Rattle.gm_tool.specs.Steps.{Lists}
 use Rattle.gm_tool.specs.Words.{EndsAs, EndsWith, ListsBy, journal_in}
 use Rattle.gm_tool.proofs.AcceptedLemmas.{not_refused}
 use Rattle.gm_tool.proofs.GetsLemmas.{listed-gets, refusal}
-use Rattle.gm_ports.proofs.ToldLemmas.{ReadingLeaves-nothing}
-use Rattle.gm_tool.proofs.ReadingLemmas.{file-by, read-for}
 use Rattle.gm_tool.proofs.RunLemmas.{memory-at_once}
 use Rattle.gm_tool.proofs.SalvageLemmas.{none-retired}
 use Rattle.gm_tool.proofs.StatusLemmas.{among-by}
 use Rattle.gm_tool.proofs.WrittenLemmas.{ListedLine, listed_finish, listed-fits, listed-logs, listed-run, is-listed, among-fits, same-unasked}
+use Rattle.gm_ports.proofs.ToldLemmas.{ReadingLeaves-nothing}
 
 -- ---- a listing is one with a journal, or it is not
 

@@ -22,8 +22,8 @@ use Rattle.worker_pool.specs.Pens.{JournalView, PenView, failure_among}
 use Rattle.worker_pool.specs.Outcomes as pool
 use Rattle.worker_pool.proofs.CutOff.{not_journal}
 use Rattle.worker_pool.proofs.Unbroken.{none_failed, not_cut_off}
-use Rattle.gm_tool.specs.declared.enumeration.Bounds.{Bounds}
-use Rattle.gm_tool.specs.declared.enumeration.Enumerated.{Enumerated}
+use Rattle.gm_io.specs.declared.bounds.Bounds.{Bounds}
+use Rattle.gm_io.specs.declared.ending.Enumerated.{Enumerated}
 use Rattle.gm_tool.specs.declared.kept.Kept.{Kept}
 use Rattle.gm_tool.specs.declared.kept.Pages.{Pages}
 use Rattle.gm_tool.specs.Closed.{IsLeft, learned_in, opening_for}

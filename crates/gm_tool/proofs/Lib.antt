@@ -1,15 +1,12 @@
-pub mod OrderLemmas
 pub mod ReportLemmas
 pub mod ClosedLemmas
 pub mod ReadyLemmas
 pub mod DrillLemmas
 pub mod CheckLemmas
-pub mod NumberedLemmas
-pub mod WritingLemmas
 pub mod EvidenceLemmas
 pub mod MadeLemmas
 pub mod StatusLemmas
-pub mod ReadingLemmas
+pub mod StoppedLemmas
 pub mod AcceptedLemmas
 pub mod WrittenLemmas
 pub mod RunLemmas
@@ -18,7 +15,6 @@ pub mod CarryLemmas
 pub mod ExportLemmas
 pub mod RolesLemmas
 pub mod GetsLemmas
-pub mod JudgedLemmas
 pub mod HistoryLemmas
 pub mod AmongLemmas
 pub mod AppendedLemmas

@@ -9,14 +9,14 @@ use Rattle.map_core.specs.declared.closing.Verdict.TheVariants as verdict
 use Rattle.map_core.specs.declared.closing.Closing.{Closing}
 use Rattle.map_core.specs.declared.entry.Goal.TheVariants.{All}
 use Rattle.map_core.specs.declared.entry.Opening.{Opening}
-use Rattle.gm_tool.specs.declared.enumeration.Bounds.{Bounds}
-use Rattle.gm_tool.specs.declared.enumeration.Enumerated.{Enumerated}
+use Rattle.gm_io.specs.declared.bounds.Bounds.{Bounds}
+use Rattle.gm_io.specs.declared.ending.Enumerated.{Enumerated}
+use Rattle.gm_io.specs.declared.writing.Stop.{Stop}
+use Rattle.gm_io.specs.declared.writing.Stop.TheVariants.{ReportFault, EvidenceFault, EvidenceMemory}
+use Rattle.gm_io.specs.Endings.{error_line, finish_of, status_by}
 use Rattle.gm_tool.specs.declared.list.Course.{Course}
 use Rattle.gm_tool.specs.declared.prepared.Prepared.{Prepared}
-use Rattle.gm_tool.specs.declared.writing.Stop.{Stop}
-use Rattle.gm_tool.specs.declared.writing.Stop.TheVariants.{ReportFault, EvidenceFault, EvidenceMemory}
 use Rattle.gm_tool.specs.Closed.{IsClosedFor, IsLeft, learned_in, report_for}
-use Rattle.gm_tool.specs.Endings.{error_line, finish_of, status_by}
 use Rattle.gm_tool.specs.Prepared.{IsReady, all_logs, logs_before}
 use Rattle.gm_tool.specs.Steps.{listed_by}
 

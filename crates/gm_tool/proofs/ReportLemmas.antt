@@ -1,20 +1,27 @@
 -- What a closing says of its records, and of their report.
-use Rattle.std.proofs.Common.{◌≡◌, ℕ, List, [], refl, sym, ◌∙◌, ap, subst}
+use Rattle.std.proofs.Common.{◌≡◌, ℕ, true, List, [], refl, sym, ◌∙◌, ap, ap₂, subst}
 use Rattle.std.specs.Prelude.{if◌then◌else◌}
 use Rattle.gm_base.specs.Problem.{Problem, IsProblem}
 use Rattle.lrat_steps.specs.Log.{LogStep}
+use Rattle.report_text.specs.Report.{report_text}
 use Rattle.report_text.specs.Reports.{IsReportOf}
 use Rattle.evidence_rec.specs.declared.record.Record.{Record}
 use Rattle.evidence_rec.specs.Records.{AllAccepted}
+use Rattle.evidence_rec.proofs.HeldLemmas.{all_conflicts, all_corrections}
 use Rattle.map_core.specs.declared.entry.Opening.{Opening}
 use Rattle.map_core.specs.declared.closing.Verdict.{Verdict}
 use Rattle.map_core.specs.declared.closing.Verdict.TheVariants as verdict
 use Rattle.map_core.specs.declared.closing.Closing.{Closing}
 use Rattle.map_core.specs.Sound.{AreNew}
 use Rattle.map_core.specs.Closings.{HoldsAll}
-use Rattle.gm_tool.specs.declared.enumeration.Bounds.{Bounds}
+use Rattle.gm_io.specs.declared.bounds.Bounds.{Bounds}
+use Rattle.gm_io.proofs.OrderLemmas.{records_report, held_report-from}
 use Rattle.gm_tool.specs.Closed.{IsClosedFor, conflicts_in, corrections_in, is_complete, full_report, held_report, report_for}
-use Rattle.gm_tool.proofs.OrderLemmas.{records_report, held_report-from, full_report-from}
+
+-- where all minimal sets are held, it is the whole report
+pub full_report-from : (p : Problem) (records : List Record) → HoldsAll p records
+    → records_report p true records ≡ full_report p
+full_report-from p records all = ap₂ (report_text p.groups true) (all_conflicts p records all) (all_corrections p records all)
 
 -- the problem is the one that the enumeration was opened with
 pub of-problem : {p : Problem} {first : List Record} {b : Bounds} {logs : List (List LogStep)} {closing : Closing} (h : IsClosedFor p first b logs closing)

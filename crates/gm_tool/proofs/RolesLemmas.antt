@@ -22,21 +22,23 @@ use Rattle.map_core.specs.declared.closing.Verdict.TheVariants as verdict
 use Rattle.map_core.specs.Core.{is_told}
 use Rattle.map_core.specs.Opens.{IsWithin}
 use Rattle.focus_roles.specs.Told.{TellRoles}
-use Rattle.gm_tool.specs.declared.beginning.Beginning.{Beginning}
-use Rattle.gm_tool.specs.declared.enumeration.Bounds.{Bounds}
-use Rattle.gm_tool.specs.declared.ending.Ending.{Ending}
-use Rattle.gm_tool.specs.declared.ending.Ending.TheVariants.{Memory, Listed, CutOff}
-use Rattle.gm_tool.specs.declared.ending.Finish.{Finish}
+use Rattle.gm_io.specs.declared.beginning.Beginning.{Beginning}
+use Rattle.gm_io.specs.declared.bounds.Bounds.{Bounds}
+use Rattle.gm_io.specs.declared.ending.Ending.{Ending}
+use Rattle.gm_io.specs.declared.ending.Ending.TheVariants.{Memory, Listed, CutOff}
+use Rattle.gm_io.specs.declared.ending.Finish.{Finish}
+use Rattle.gm_io.specs.Endings.{bare, after, error_line, finish_of, line_of, status_by}
+use Rattle.gm_io.specs.Outside.{Outside, outside, NoneRose}
+use Rattle.gm_io.specs.Beginnings.{IsBegun, Stops}
+use Rattle.gm_io.proofs.ReadingLemmas.{read-for}
 use Rattle.gm_tool.specs.Closed.{IsClosedFor, learned_in}
-use Rattle.gm_tool.specs.Endings.{bare, after, error_line, finish_of, line_of, status_by}
 use Rattle.gm_tool.specs.Outputs.{no_outputs}
-use Rattle.gm_tool.specs.Outside.{Outside, outside, NoneRose}
 use Rattle.gm_tool.specs.Roles.{AreTold, TellsRoles, are_told, roles_bounds, roles_report}
 use Rattle.gm_tool.specs.Statuses.{IsAmong, IsReported, IsPartial, IsAfterwards, IsToldByStatus}
-use Rattle.gm_tool.specs.Steps.{IsBegun, Stops, Asks}
+use Rattle.gm_tool.specs.Steps.{Asks}
 use Rattle.gm_tool.specs.Words.{EndsAs, IsObeyed}
 use Rattle.gm_tool.proofs.ClosedLemmas.{enumerated, is_reported, holds-all, settled-told}
-use Rattle.gm_tool.proofs.ReadingLemmas.{stopped, unjudged, read-for}
+use Rattle.gm_tool.proofs.StoppedLemmas.{stopped, unjudged}
 use Rattle.gm_tool.proofs.ReportLemmas.{of-problem, accepted-in}
 use Rattle.gm_tool.proofs.RunLemmas.{run-bare, run-stopped, left-of, asking-memory}
 use Rattle.gm_tool.proofs.StatusLemmas.{among-by}

@@ -10,35 +10,36 @@ use Rattle.gm_ports.specs.Told.{ToldAppends, ToldGrowsWithin}
 use Rattle.gm_ports.proofs.ToldLemmas.{ReadingLeaves-nothing}
 use Rattle.gcnf_text.specs.Chain.{made_case}
 use Rattle.gm_words.specs.Reading.{Asked, greatest_conflicts, Listing, Checking, Drilling, Exporting, Asking, Carrying, listing, checking, drilling, exporting, asking, carrying}
-use Rattle.gm_tool.specs.declared.beginning.Beginning.{Beginning}
-use Rattle.gm_tool.specs.declared.enumeration.Bounds.{Bounds}
-use Rattle.gm_tool.specs.declared.ending.Ending.{Ending}
-use Rattle.gm_tool.specs.declared.ending.Ending.TheVariants.{BadWords, Checked, CheckCutOff, Memory, Listed, CutOff, EvidenceCutOff, EvidenceMemory}
-use Rattle.gm_tool.specs.declared.ending.Finish.{Finish}
+use Rattle.gm_io.specs.declared.beginning.Beginning.{Beginning}
+use Rattle.gm_io.specs.declared.bounds.Bounds.{Bounds}
+use Rattle.gm_io.specs.declared.ending.Ending.{Ending}
+use Rattle.gm_io.specs.declared.ending.Ending.TheVariants.{BadWords, Checked, CheckCutOff, Memory, Listed, CutOff, EvidenceCutOff, EvidenceMemory}
+use Rattle.gm_io.specs.declared.ending.Finish.{Finish}
+use Rattle.gm_io.specs.Endings.{bare, after, error_line, finish_of, line_of, status_by, evidence_cut_line}
+use Rattle.gm_io.specs.Judging.{IsJudged, AreAccepted}
+use Rattle.gm_io.specs.Outside.{Outside, outside, NoneRose}
+use Rattle.gm_io.specs.Beginnings.{IsBegun, Stops}
+use Rattle.gm_io.specs.Taking.{stays-same}
+use Rattle.gm_io.proofs.ReadingLemmas.{read-for, read-alone}
 use Rattle.gm_tool.specs.declared.list.Course.{Course}
 use Rattle.gm_tool.specs.Carrying.{IsCarrying, carry_bounds}
 use Rattle.gm_tool.specs.Checking.{IsChecking, shown_report}
-use Rattle.gm_tool.specs.Closed.{learned_in}
+use Rattle.gm_tool.specs.Closed.{learned_in, IsValid}
 use Rattle.gm_tool.specs.Drilling.{IsDrilling, IsDrilled, drill_bounds}
-use Rattle.gm_tool.specs.Endings.{bare, after, error_line, finish_of, line_of, status_by, evidence_cut_line}
-use Rattle.gm_tool.specs.Evidence.{IsValid}
 use Rattle.gm_tool.specs.Exporting.{IsExporting}
-use Rattle.gm_tool.specs.Judging.{IsJudged, AreAccepted}
 use Rattle.gm_tool.specs.Listing.{IsListing, IsListed, IsListedFrom, bounds_for}
 use Rattle.gm_tool.specs.Outputs.{Outputs, evidence_output, export_outputs, no_outputs}
-use Rattle.gm_tool.specs.Outside.{Outside, outside, NoneRose}
 use Rattle.gm_tool.specs.Roles.{IsAsking, roles_bounds}
 use Rattle.gm_tool.specs.Run.{IsRun, IsReportFault, IsOutputFault}
 use Rattle.gm_tool.specs.Statuses.{IsAmong, IsStatus, IsSilent, IsBefore, IsFaultless, IsReported, IsAfterwards, IsToldByStatus}
-use Rattle.gm_tool.specs.Steps.{IsBegun, Stops, Lists, Drills, Reports}
-use Rattle.gm_tool.specs.Taking.{stays-same}
+use Rattle.gm_tool.specs.Steps.{Lists, Drills, Reports}
 use Rattle.gm_tool.specs.Words.{EndsAs, IsObeyed, no_bounds}
 use Rattle.gm_tool.proofs.AcceptedLemmas.{not_refused, not_refused-evidence}
 use Rattle.gm_tool.proofs.ClosedLemmas.{complete_by, enumerated, is_reported, whole-text, partial-text}
 use Rattle.gm_tool.proofs.DrillLemmas.{full_counts-from}
 use Rattle.gm_tool.proofs.EvidenceLemmas.{valid-from}
 use Rattle.gm_tool.proofs.LongerLemmas.{unjudged-longer}
-use Rattle.gm_tool.proofs.ReadingLemmas.{IsStopped, stopped, unjudged, read-for, read-alone}
+use Rattle.gm_tool.proofs.StoppedLemmas.{IsStopped, stopped, unjudged}
 use Rattle.gm_tool.proofs.WrittenLemmas.{run-after, writes-nothing, ListedLine, listed_finish, listed-fits, listed-logs, listed-run, is-listed, among-fits, same-unasked}
 use Rattle.gm_tool.proofs.StatusLemmas.{among-by}
 

@@ -32,9 +32,9 @@ use Rattle.gm_journal.proofs.FollowingLemmas.{next-journalled}
 use Rattle.worker_pool.specs.Outcomes.{AreWritten}
 use Rattle.worker_pool.specs.Outcomes as pool
 use Rattle.worker_pool.specs.Pens.{JournalView, PenView, set_in}
-use Rattle.gm_tool.specs.declared.enumeration.Bounds.{Bounds}
+use Rattle.gm_io.specs.declared.bounds.Bounds.{Bounds}
+use Rattle.gm_io.specs.Endings.{status_by}
 use Rattle.gm_tool.specs.Closed.{opening_for}
-use Rattle.gm_tool.specs.Endings.{status_by}
 use Rattle.gm_tool.specs.Journaled.{HoldsJournal, HoldsNew, IsJournalOf, NoneRetired}
 use Rattle.gm_tool.specs.Statuses.{IsPartial}
 use Rattle.gm_tool.proofs.AmongLemmas.{among-append, among-apart}

@@ -9,23 +9,24 @@ use Rattle.gm_ports.specs.FilesState.{FilesState, ReadingLeaves, WritingLeaves, 
 use Rattle.gm_ports.specs.Told.{ToldAppends}
 use Rattle.lrat_steps.specs.Log.{LogStep}
 use Rattle.map_core.specs.declared.closing.Closing.{Closing}
-use Rattle.gm_tool.specs.declared.enumeration.Bounds.{Bounds}
-use Rattle.gm_tool.specs.declared.ending.Finish.{Finish}
+use Rattle.gm_io.specs.declared.bounds.Bounds.{Bounds}
+use Rattle.gm_io.specs.declared.ending.Finish.{Finish}
+use Rattle.gm_io.specs.declared.writing.Stop.{Stop}
+use Rattle.gm_io.specs.declared.writing.Stop.TheVariants as stop
+use Rattle.gm_io.specs.Endings.{error_line, finish_of, line_of, status_by, evidence_cut_line, report_cut_line}
+use Rattle.gm_io.specs.Evidence.{HasSmallIds}
+use Rattle.gm_io.specs.Outside.{Outside, outside}
+use Rattle.gm_io.specs.Written.{Writes}
+use Rattle.gm_io.specs.Taking.{stays-same}
 use Rattle.gm_tool.specs.declared.list.Course.{Course}
 use Rattle.gm_tool.specs.declared.prepared.Prepared.{Prepared}
-use Rattle.gm_tool.specs.declared.writing.Stop.{Stop}
-use Rattle.gm_tool.specs.declared.writing.Stop.TheVariants as stop
-use Rattle.gm_tool.specs.Closed.{learned_in, report_for}
-use Rattle.gm_tool.specs.Endings.{error_line, finish_of, line_of, status_by, evidence_cut_line, report_cut_line}
-use Rattle.gm_tool.specs.Evidence.{HasSmallIds, IsValid}
+use Rattle.gm_tool.specs.Closed.{learned_in, report_for, IsValid}
 use Rattle.gm_tool.specs.Listing.{IsListed, IsPutOut}
 use Rattle.gm_tool.specs.Outputs.{Outputs, evidence_output}
-use Rattle.gm_tool.specs.Outside.{Outside, outside}
 use Rattle.gm_tool.specs.Prepared.{IsReady, logs_before}
 use Rattle.gm_tool.specs.Run.{IsRun, IsReportFault, IsOutputFault}
 use Rattle.gm_tool.specs.Statuses.{IsAmong, IsStatus, IsSilent, IsBefore, IsFaultless, IsReported, IsToldByStatus}
-use Rattle.gm_tool.specs.Steps.{Writes, listed_by}
-use Rattle.gm_tool.specs.Taking.{stays-same}
+use Rattle.gm_tool.specs.Steps.{listed_by}
 use Rattle.gm_tool.proofs.ClosedLemmas.{complete_by, enumerated, is_reported, whole-text, partial-text}
 use Rattle.gm_tool.proofs.EvidenceLemmas.{valid-from}
 use Rattle.gm_tool.proofs.StatusLemmas.{among-by}

@@ -1,62 +1,27 @@
 -- What each step of a carrying promises, and what it hands to the next.
-use Rattle.std.specs.Prelude.{◌≡◌, ◌⊎◌, ℕ, Bool, List, [], ◌∷◌, Result, Ok, Err, Option, Some}
+use Rattle.std.specs.Prelude.{◌≡◌, ◌⊎◌, ℕ, List, [], ◌∷◌, Result, Ok, Err, Option, Some}
 use Rattle.gm_base.specs.Sets.{IsGroupSet, IsSubset, all_groups}
 use Rattle.gm_base.specs.Problem.{Problem}
-use Rattle.gm_ports.specs.Faults.{Rose}
-use Rattle.gm_ports.specs.FilesState.{FilesState}
 use Rattle.gm_words.specs.Reading.{greatest_conflicts}
 use Rattle.lrat_steps.specs.Log.{LogStep, db_of, learned_count}
 use Rattle.lrat_steps.specs.Undecided.{Undecided}
 use Rattle.evidence_rec.specs.Asking.{selectors}
 use Rattle.evidence_rec.specs.declared.record.Record.{Record}
-use Rattle.edit_session.specs.Extends.{Extends}
 use Rattle.edit_session.specs.Opening.{IsOpening}
+use Rattle.gm_io.specs.declared.ending.Ending.{Ending}
+use Rattle.gm_io.specs.declared.ending.Ending.TheVariants.{Memory, Dried, DriedCutOff}
+use Rattle.gm_io.specs.declared.longer.Longer.{Longer}
+use Rattle.gm_io.specs.declared.writing.Stop.{Stop}
+use Rattle.gm_io.specs.Lines.{budget_line}
+use Rattle.gm_io.specs.Outside.{Outside}
+use Rattle.gm_io.specs.Written.{Writes}
 use Rattle.gm_tool.specs.declared.carry.Over.{Over}
 use Rattle.gm_tool.specs.declared.carry.Over.TheVariants as over
-use Rattle.gm_tool.specs.declared.ending.Ending.{Ending}
-use Rattle.gm_tool.specs.declared.ending.Ending.TheVariants.{Refused, ReadFault, EvidenceFault, EvidenceRefused, Memory, NoExtension, Dried, DriedCutOff}
 use Rattle.gm_tool.specs.declared.list.Course.{Course}
-use Rattle.gm_tool.specs.declared.longer.Longer.{Longer}
 use Rattle.gm_tool.specs.declared.prepared.Prepared.{Prepared}
-use Rattle.gm_tool.specs.declared.writing.Stop.{Stop}
 use Rattle.gm_tool.specs.Carrying.{IsCarryLog, carry_bounds, empty_closing}
 use Rattle.gm_tool.specs.Closed.{held_report}
-use Rattle.gm_tool.specs.Endings.{evidence_fault_line}
-use Rattle.gm_tool.specs.Lines.{budget_line, no_extension_line}
-use Rattle.gm_tool.specs.Longer.{AreRead, IsInputRefusal, IsNoExtension, IsKnownRefusal, IsKnownUnread}
-use Rattle.gm_tool.specs.Outside.{Outside}
-use Rattle.gm_tool.specs.Resuming.{AreShown}
-use Rattle.gm_tool.specs.Steps.{Lists, Writes}
-
--- ---- what is read
-
--- the ending tells this place, or memory was wanting for its line
-abbrev pub Breaks : ℕ → Ending → Type 0
-Breaks place (NoExtension line) = line.items ≡ no_extension_line place
-Breaks place Memory = Unit {0}
-Breaks place _ = ⊥
-
--- a carrying begins with the problems of both files, of which the second extends the first, and with what the evidence shows
-pub record IsBegunLonger (file known longer : List ℕ) (old new : FilesState) (begun : Longer) : Type 0 where
-  pub read : AreRead old.held file longer begun.old begun.new
-  pub extends : Extends begun.old begun.new
-  pub complete : Bool
-  pub shown : AreShown begun.old (old.held known) complete begun.records
-  pub quiet : new.read_faults ≡ old.read_faults
-
--- or it ends there
-abbrev pub StopsLonger : List ℕ → List ℕ → List ℕ → FilesState → FilesState → Ending → Type 0
-StopsLonger file known longer old new (Refused line) =
-    (new.read_faults ≡ old.read_faults) × IsInputRefusal old.held file longer (λ told. line.items ≡ told)
-StopsLonger file known longer old new ReadFault = Rose old.read_faults new.read_faults
-StopsLonger file known longer old new (NoExtension line) =
-    (new.read_faults ≡ old.read_faults) × IsNoExtension old.held file longer (λ told. line.items ≡ told)
-StopsLonger file known longer old new EvidenceFault =
-    Rose old.read_faults new.read_faults × IsKnownUnread old.held file longer (λ told. evidence_fault_line ≡ told)
-StopsLonger file known longer old new (EvidenceRefused line) =
-    (new.read_faults ≡ old.read_faults) × IsKnownRefusal old.held file known longer (λ told. line.items ≡ told)
-StopsLonger file known longer old new Memory = new.read_faults ≡ old.read_faults
-StopsLonger file known longer old new _ = ⊥
+use Rattle.gm_tool.specs.Steps.{Lists}
 
 -- ---- what is carried over
 

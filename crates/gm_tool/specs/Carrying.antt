@@ -14,14 +14,14 @@ use Rattle.edit_session.specs.Opening.{IsOpening}
 use Rattle.map_core.specs.declared.closing.Closing.{Closing}
 use Rattle.map_core.specs.declared.entry.Goal.TheVariants.{All}
 use Rattle.map_core.specs.declared.closing.Verdict.TheVariants as verdict
-use Rattle.gm_tool.specs.declared.enumeration.Bounds.{Bounds}
-use Rattle.gm_tool.specs.declared.ending.Finish.{Finish}
+use Rattle.gm_io.specs.declared.bounds.Bounds.{Bounds}
+use Rattle.gm_io.specs.declared.ending.Finish.{Finish}
+use Rattle.gm_io.specs.Endings.{bare}
+use Rattle.gm_io.specs.Longer.{AreRead, AreJudged, AreBothAccepted, DoesExtend, DoesNotExtend, IsKnownAccepted}
+use Rattle.gm_io.specs.Outside.{Outside, NoneRose}
+use Rattle.gm_io.specs.Resuming.{AreShown}
 use Rattle.gm_tool.specs.Closed.{held_report}
-use Rattle.gm_tool.specs.Endings.{bare}
 use Rattle.gm_tool.specs.Listing.{IsListed, IsPutOut}
-use Rattle.gm_tool.specs.Longer.{AreRead, AreJudged, AreBothAccepted, DoesExtend, DoesNotExtend, IsKnownAccepted}
-use Rattle.gm_tool.specs.Outside.{Outside, NoneRose}
-use Rattle.gm_tool.specs.Resuming.{AreShown}
 use Rattle.gm_tool.specs.Statuses.{IsAmong, IsAfterwards}
 
 -- the greatest limit, for so many workers and so many clauses that may be learnt

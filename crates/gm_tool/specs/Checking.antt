@@ -4,13 +4,13 @@ use Rattle.gm_base.specs.Problem.{Problem}
 use Rattle.gm_ports.specs.Told.{ToldAppends, ToldGrowsWithin}
 use Rattle.gm_words.specs.Reading.{Checking}
 use Rattle.evidence_rec.specs.declared.record.Record.{Record}
-use Rattle.gm_tool.specs.declared.ending.Finish.{Finish}
+use Rattle.gm_io.specs.declared.ending.Finish.{Finish}
+use Rattle.gm_io.specs.Endings.{bare}
+use Rattle.gm_io.specs.Input.{OfFile, ReadsIn}
+use Rattle.gm_io.specs.Judging.{IsJudged, AreAccepted}
+use Rattle.gm_io.specs.Outside.{Outside, NoneRose}
+use Rattle.gm_io.specs.Resuming.{AreShown}
 use Rattle.gm_tool.specs.Closed.{full_report, held_report}
-use Rattle.gm_tool.specs.Endings.{bare}
-use Rattle.gm_tool.specs.Input.{OfFile, ReadsIn}
-use Rattle.gm_tool.specs.Judging.{IsJudged, AreAccepted}
-use Rattle.gm_tool.specs.Outside.{Outside, NoneRose}
-use Rattle.gm_tool.specs.Resuming.{AreShown}
 use Rattle.gm_tool.specs.Run.{IsReportFault}
 use Rattle.gm_tool.specs.Statuses.{IsAmong}
 

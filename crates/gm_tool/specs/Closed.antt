@@ -10,6 +10,7 @@ use Rattle.lrat_steps.specs.Log.{LogStep, db_of}
 use Rattle.lrat_steps.specs.Undecided.{Undecided}
 use Rattle.evidence_rec.specs.declared.record.Record.{Record}
 use Rattle.evidence_rec.specs.Records.{IsMinimal, founds}
+use Rattle.evidence_rec.specs.Shorten.{shorten}
 pub use Rattle.evidence_rec.specs.Held.{conflicts_in, corrections_in}
 use Rattle.map_core.specs.declared.entry.Call.TheVariants.{Take}
 use Rattle.map_core.specs.declared.entry.Reply.TheVariants.{Dry}
@@ -23,11 +24,13 @@ use Rattle.map_core.specs.Closings.{HoldsAll}
 use Rattle.map_core.specs.Core.{is_held, is_told}
 use Rattle.map_core.specs.Own.{calls_of}
 use Rattle.map_core.specs.Sound.{AreNew}
-use Rattle.gm_tool.specs.declared.enumeration.Bounds.{Bounds}
-use Rattle.gm_tool.specs.declared.enumeration.Enumerated.{Enumerated}
+use Rattle.gm_audit.specs.Audits.{AuditYes}
 use Rattle.worker_pool.specs.Course.{EndsUndecided}
 pub use Rattle.worker_pool.specs.Outcomes.{learned_in}
 use Rattle.worker_pool.specs.Outcomes as pool
+use Rattle.gm_io.specs.declared.bounds.Bounds.{Bounds}
+use Rattle.gm_io.specs.declared.ending.Enumerated.{Enumerated}
+use Rattle.gm_io.specs.Evidence.{evidence_of}
 
 -- the greatest bounds, where this is wanted of so many workers
 abbrev pub greatest_bounds : Goal → ℕ → Bounds
@@ -109,3 +112,7 @@ pub record IsEnumerated (p : Problem) (first : List Record) (b : Bounds) (logs :
 -- the report of an enumeration that is over: of all, where nothing is missing, else of what the records hold
 abbrev pub report_for : Problem → Closing → List ℕ
 report_for p closing = if is_complete closing.verdict then full_report p else held_report p closing.records
+
+-- as evidence it shows what each record says, and that none is missing where the enumeration is complete
+abbrev pub IsValid : Problem → Closing → Type 0
+IsValid p closing = AuditYes p (evidence_of p closing) (shorten closing.records) (is_complete closing.verdict)

@@ -1,5 +1,5 @@
 -- What a drilling tells: what each status says, its cause, and what has to come.
-use Rattle.std.specs.Prelude.{◌≡◌, ℕ, List, [], ◌∷◌, length, ◌++◌, codes, decimal, Some}
+use Rattle.std.specs.Prelude.{◌≡◌, ℕ, List, [], ◌∷◌, length, Some}
 use Rattle.gm_base.specs.Problem.{Problem}
 use Rattle.gm_base.specs.Minimal.{conflicts, corrections}
 use Rattle.gm_ports.specs.Faults.{Rose}
@@ -8,22 +8,19 @@ use Rattle.gcnf_text.specs.Chain.{made_case}
 use Rattle.gm_words.specs.Reading.{Drilling}
 use Rattle.evidence_rec.specs.declared.record.Record.{Record}
 use Rattle.map_core.specs.declared.closing.Closing.{Closing}
-use Rattle.gm_tool.specs.declared.enumeration.Bounds.{Bounds}
-use Rattle.gm_tool.specs.declared.ending.Finish.{Finish}
 use Rattle.map_core.specs.declared.entry.Goal.TheVariants.{All}
+use Rattle.gm_io.specs.declared.bounds.Bounds.{Bounds}
+use Rattle.gm_io.specs.declared.ending.Finish.{Finish}
+use Rattle.gm_io.specs.Counts.{drill_line}
+use Rattle.gm_io.specs.Endings.{bare, status_by}
+use Rattle.gm_io.specs.Outside.{Outside}
 use Rattle.gm_tool.specs.Closed.{IsEnumerated, conflicts_in, corrections_in, greatest_bounds}
-use Rattle.gm_tool.specs.Endings.{bare, status_by}
-use Rattle.gm_tool.specs.Outside.{Outside}
 use Rattle.gm_tool.specs.Run.{IsReportFault}
 use Rattle.gm_tool.specs.Statuses.{IsAmong, IsAfterwards, IsReported, IsPartial}
 
 -- the greatest bounds, for so many workers
 abbrev pub drill_bounds : ℕ → Bounds
 drill_bounds jobs = greatest_bounds All jobs
-
--- the line of a drilling: how many groups there are, how many conflicts and how many corrections
-unfoldable pub drill_line : ℕ → ℕ → ℕ → List ℕ
-drill_line groups us ms = codes "drill " ++ decimal groups ++ codes " " ++ decimal us ++ codes " " ++ decimal ms ++ codes "\n"
 
 -- of all minimal ones
 abbrev pub full_counts : Problem → List ℕ

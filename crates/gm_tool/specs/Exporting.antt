@@ -1,48 +1,27 @@
 -- What an export tells: what each status says, its cause, and what has to come.
-use Rattle.std.specs.Prelude.{◌≡◌, ◌<◌, ◌≤◌, ◌+◌, ℕ, Bool, List, [], ◌∷◌, ◌++◌, length, Some, None}
-use Rattle.std.specs.List.{filter}
-use Rattle.sat_base.specs.Members.{In}
+use Rattle.std.specs.Prelude.{◌≡◌, ◌<◌, ◌≤◌, ℕ, Bool, List, [], ◌∷◌, length, Some, None}
 use Rattle.gm_base.specs.Problem.{Problem}
-use Rattle.gm_base.specs.declared.kind.Kind.TheVariants.{Conflict}
-use Rattle.gm_base.specs.Minimal.{conflicts}
 use Rattle.gm_ports.specs.FilesState.{ReadingLeaves}
 use Rattle.gcnf_text.specs.Grammar.{Reads}
 use Rattle.gm_words.specs.Reading.{Exporting}
 use Rattle.evidence_rec.specs.declared.record.Record.{Record}
-use Rattle.evidence_rec.specs.Held.{is_held}
-use Rattle.evidence_rec.specs.Records.{kind_of, set_of}
+use Rattle.evidence_rec.specs.Records.{set_of}
 use Rattle.lrat_export.specs.Cnf.{clauses_of, cnf_text}
 use Rattle.lrat_export.specs.Conflict.{proof_of}
 use Rattle.lrat_export.specs.Export.{exported as exported_steps, lrat_text}
 use Rattle.lrat_export.specs.Laws.{IsRefutation}
-use Rattle.gm_tool.specs.declared.ending.Finish.{Finish}
-use Rattle.gm_tool.specs.Endings.{bare}
-use Rattle.gm_tool.specs.Input.{OfFile}
-use Rattle.gm_tool.specs.Judging.{IsJudged, AreAccepted}
-use Rattle.gm_tool.specs.Lines.{no_conflict_line}
+use Rattle.gm_io.specs.declared.ending.Finish.{Finish}
+use Rattle.gm_io.specs.Endings.{bare}
+use Rattle.gm_io.specs.Input.{OfFile}
+use Rattle.gm_io.specs.Judging.{IsJudged, AreAccepted}
+use Rattle.gm_io.specs.Lines.{no_conflict_line}
+use Rattle.gm_io.specs.Numbered.{shown_conflicts, IsNumberedRecord}
+use Rattle.gm_io.specs.Outside.{Outside, NoneRose}
+use Rattle.gm_io.specs.Resuming.{AreShown}
+use Rattle.gm_io.specs.Writing.{AreWritten, AreCutOff}
 use Rattle.gm_tool.specs.Outputs.{export_outputs}
-use Rattle.gm_tool.specs.Outside.{Outside, NoneRose}
-use Rattle.gm_tool.specs.Resuming.{AreShown}
 use Rattle.gm_tool.specs.Run.{IsOutputFault}
 use Rattle.gm_tool.specs.Statuses.{IsAmong}
-use Rattle.gm_tool.specs.Writing.{AreWritten, AreCutOff}
-
--- the minimal conflicts that records hold, in the report's order
-abbrev pub shown_conflicts : Problem → List Record → List (List ℕ)
-shown_conflicts p records = filter (is_held records Conflict) (conflicts p)
-
--- the set that has this number in a list, from 1
-pub record IsNumbered (sets : List (List ℕ)) (number : ℕ) (set : List ℕ) : Type 0 where
-  pub before : List (List ℕ)
-  pub behind : List (List ℕ)
-  pub parts : sets ≡ before ++ set ∷ behind
-  pub place : number ≡ length before + 1
-
--- one of the records, whose set is the conflict that has this number in the report's order
-pub record IsNumberedRecord (p : Problem) (records : List Record) (number : ℕ) (found : Record) : Type 0 where
-  pub held : In found records
-  pub kind : kind_of found ≡ Conflict
-  pub numbered : IsNumbered (shown_conflicts p records) number (set_of found)
 
 -- the text of the conflict's clauses, and that of their refutation
 abbrev pub clauses_text : Problem → Record → List ℕ

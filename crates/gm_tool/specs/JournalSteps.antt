@@ -18,19 +18,19 @@ use Rattle.worker_pool.specs.Outcomes as pool
 use Rattle.gm_words.specs.Reading.{Listing}
 use Rattle.gm_words.specs.Requests.{text_of}
 use Rattle.gm_words.specs.declared.request.Listing as code
-use Rattle.gm_tool.specs.declared.enumeration.Bounds.{Bounds}
-use Rattle.gm_tool.specs.declared.enumeration.Enumerated.{Enumerated}
-use Rattle.gm_tool.specs.declared.ending.Ending.{Ending}
-use Rattle.gm_tool.specs.declared.ending.Ending.TheVariants.{Memory, JournalUnread, JournalRefused, JournalUnbegun, JournalCutOff}
+use Rattle.gm_io.specs.declared.bounds.Bounds.{Bounds}
+use Rattle.gm_io.specs.declared.ending.Enumerated.{Enumerated}
+use Rattle.gm_io.specs.declared.ending.Ending.{Ending}
+use Rattle.gm_io.specs.declared.ending.Ending.TheVariants.{Memory, JournalUnread, JournalRefused, JournalUnbegun, JournalCutOff}
+use Rattle.gm_io.specs.Endings.{finish_of}
+use Rattle.gm_io.specs.Lines.{foreign_line}
+use Rattle.gm_io.specs.Outside.{Outside}
 use Rattle.gm_tool.specs.declared.kept.Crew.{Crew}
 use Rattle.gm_tool.specs.declared.kept.Pages.{Pages}
 use Rattle.gm_tool.specs.declared.kept.Kept.{Kept}
 use Rattle.gm_tool.specs.declared.list.Course.{Course}
 use Rattle.gm_tool.specs.Closed.{IsLeft, learned_in, opening_for}
-use Rattle.gm_tool.specs.Endings.{finish_of}
 use Rattle.gm_tool.specs.Journaled.{HoldsNew, IsSalvagedFrom, IsForeignTo}
-use Rattle.gm_tool.specs.Lines.{foreign_line}
-use Rattle.gm_tool.specs.Outside.{Outside}
 use Rattle.gm_tool.specs.Steps.{Lists}
 
 -- what is asked for, with a journal of this name

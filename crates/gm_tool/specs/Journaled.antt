@@ -17,17 +17,17 @@ use Rattle.gm_journal.specs.Following.{AreJournalled}
 use Rattle.gm_journal.specs.Histories.{is_among}
 use Rattle.gm_journal.specs.Salvage.{HoldsRecords, HoldsNoRecord}
 use Rattle.worker_pool.specs.Outcomes as pool
-use Rattle.gm_tool.specs.declared.enumeration.Bounds.{Bounds}
-use Rattle.gm_tool.specs.declared.ending.Ending.{Ending}
-use Rattle.gm_tool.specs.declared.ending.Finish.{Finish}
+use Rattle.gm_io.specs.declared.bounds.Bounds.{Bounds}
+use Rattle.gm_io.specs.declared.ending.Ending.{Ending}
+use Rattle.gm_io.specs.declared.ending.Finish.{Finish}
+use Rattle.gm_io.specs.Endings.{bare, error_line, finish_of, input_fault_line, journal_cut_line, journal_fault_line, line_of}
+use Rattle.gm_io.specs.Input.{OfFile, ReadsIn, IsReadFor}
+use Rattle.gm_io.specs.Judging.{AreAccepted, IsRefusal}
+use Rattle.gm_io.specs.Lines.{foreign_line}
+use Rattle.gm_io.specs.Outside.{NoneRose, Outside}
 use Rattle.gm_tool.specs.Closed.{learned_in, opening_for}
-use Rattle.gm_tool.specs.Endings.{bare, error_line, finish_of, input_fault_line, journal_cut_line, journal_fault_line, line_of}
-use Rattle.gm_tool.specs.Input.{OfFile, ReadsIn, IsReadFor}
-use Rattle.gm_tool.specs.Judging.{AreAccepted, IsRefusal}
-use Rattle.gm_tool.specs.Lines.{foreign_line}
 use Rattle.gm_tool.specs.Listing.{IsListed, bounds_for}
 use Rattle.gm_tool.specs.Outputs.{evidence_output}
-use Rattle.gm_tool.specs.Outside.{NoneRose, Outside}
 use Rattle.gm_tool.specs.Run.{IsFaultFree, IsOutputFault, IsReportFault}
 use Rattle.gm_tool.specs.Statuses.{IsAmong, IsPartial, IsReported, IsToldByStatus}
 

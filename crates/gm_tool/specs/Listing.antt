@@ -8,19 +8,19 @@ use Rattle.lrat_steps.specs.Log.{LogStep}
 use Rattle.evidence_rec.specs.declared.record.Record.{Record}
 use Rattle.map_core.specs.declared.closing.Closing.{Closing}
 use Rattle.map_core.specs.declared.entry.Goal.TheVariants.{All}
-use Rattle.gm_tool.specs.declared.enumeration.Bounds.{Bounds}
-use Rattle.gm_tool.specs.declared.ending.Finish.{Finish}
-use Rattle.gm_tool.specs.Closed.{IsEnumerated, full_report, held_report, report_for}
-use Rattle.gm_tool.specs.Endings.{bare, status_by}
-use Rattle.gm_tool.specs.Evidence.{evidence_of, IsValid}
-use Rattle.gm_tool.specs.Input.{OfFile, IsReadFor}
-use Rattle.gm_tool.specs.Judging.{IsJudged, AreAccepted}
-use Rattle.gm_tool.specs.Outside.{Outside, NoneRose}
-use Rattle.gm_tool.specs.Resuming.{GoesOnFrom}
+use Rattle.gm_io.specs.declared.bounds.Bounds.{Bounds}
+use Rattle.gm_io.specs.declared.ending.Finish.{Finish}
+use Rattle.gm_io.specs.Endings.{bare, status_by}
+use Rattle.gm_io.specs.Evidence.{evidence_of}
+use Rattle.gm_io.specs.Input.{OfFile, IsReadFor}
+use Rattle.gm_io.specs.Judging.{IsJudged, AreAccepted}
+use Rattle.gm_io.specs.Outside.{Outside, NoneRose}
+use Rattle.gm_io.specs.Resuming.{GoesOnFrom}
+use Rattle.gm_io.specs.Writing.{IsWritten, IsFront}
+use Rattle.gm_tool.specs.Closed.{IsEnumerated, full_report, held_report, report_for, IsValid}
 use Rattle.gm_tool.specs.Outputs.{evidence_output}
 use Rattle.gm_tool.specs.Run.{IsReportFault, IsOutputFault}
 use Rattle.gm_tool.specs.Statuses.{IsAmong, IsAfterwards, IsReported, IsPartial}
-use Rattle.gm_tool.specs.Writing.{IsWritten, IsFront}
 
 -- the bounds that a listing is asked for
 abbrev pub bounds_for : Listing → Bounds

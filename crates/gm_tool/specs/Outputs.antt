@@ -1,6 +1,6 @@
 -- The files that a run is asked to write beside its report.
 use Rattle.std.specs.Prelude.{ℕ, List, [], ◌∷◌, Option, Some, None}
-use Rattle.gm_tool.specs.Endings.{evidence_cut_line, export_cut_line}
+use Rattle.gm_io.specs.Endings.{evidence_cut_line, export_cut_line}
 
 -- their names, and the line that tells of a fault on one of them
 pub record Outputs : Type 0 where

@@ -6,12 +6,12 @@ use Rattle.evidence_rec.specs.declared.record.Record.{Record}
 use Rattle.map_core.specs.declared.closing.Verdict.TheVariants as verdict
 use Rattle.map_core.specs.declared.closing.Closing.{Closing}
 use Rattle.map_core.specs.declared.entry.Goal.TheVariants.{All}
-use Rattle.gm_tool.specs.declared.enumeration.Bounds.{Bounds}
-use Rattle.gm_tool.specs.declared.enumeration.Enumerated.{Enumerated}
+use Rattle.gm_io.specs.declared.bounds.Bounds.{Bounds}
+use Rattle.gm_io.specs.declared.ending.Enumerated.{Enumerated}
+use Rattle.gm_io.specs.Endings.{error_line, status_by}
 use Rattle.gm_tool.specs.declared.list.Course.{Course}
 use Rattle.gm_tool.specs.declared.prepared.Prepared.{Prepared}
 use Rattle.gm_tool.specs.Closed.{IsClosedFor, IsLeft, learned_in, report_for}
-use Rattle.gm_tool.specs.Endings.{error_line, status_by}
 
 -- the log of what was asked before, if anything was
 abbrev pub logs_before : Option (List LogStep) → List (List LogStep)

@@ -10,13 +10,13 @@ use Rattle.map_core.specs.declared.closing.Closing.{Closing}
 use Rattle.map_core.specs.declared.closing.Verdict.{Verdict}
 use Rattle.map_core.specs.declared.closing.Verdict.TheVariants as verdict
 use Rattle.focus_roles.specs.Told.{roles}
-use Rattle.gm_tool.specs.declared.enumeration.Bounds.{Bounds}
-use Rattle.gm_tool.specs.declared.ending.Finish.{Finish}
+use Rattle.gm_io.specs.declared.bounds.Bounds.{Bounds}
+use Rattle.gm_io.specs.declared.ending.Finish.{Finish}
+use Rattle.gm_io.specs.Endings.{bare, status_by}
+use Rattle.gm_io.specs.Input.{OfFile, IsReadFor}
+use Rattle.gm_io.specs.Judging.{IsJudged, AreAccepted}
+use Rattle.gm_io.specs.Outside.{Outside, NoneRose}
 use Rattle.gm_tool.specs.Closed.{IsEnumerated, greatest_bounds}
-use Rattle.gm_tool.specs.Endings.{bare, status_by}
-use Rattle.gm_tool.specs.Input.{OfFile, IsReadFor}
-use Rattle.gm_tool.specs.Judging.{IsJudged, AreAccepted}
-use Rattle.gm_tool.specs.Outside.{Outside, NoneRose}
 use Rattle.gm_tool.specs.Run.{IsReportFault}
 use Rattle.gm_tool.specs.Statuses.{IsAmong, IsAfterwards, IsReported, IsPartial}
 

@@ -3,11 +3,11 @@ use Rattle.std.specs.Prelude.{◌≡◌, ◌≢◌, ◌⊎◌, ℕ, List, []}
 use Rattle.sat_base.specs.Members.{In}
 use Rattle.gm_ports.specs.Faults.{Rose}
 use Rattle.gm_ports.specs.FilesState.{ReadingLeaves, StaysAsTold}
-use Rattle.gm_tool.specs.declared.enumeration.Bounds.{Bounds}
-use Rattle.gm_tool.specs.declared.ending.Finish.{Finish}
+use Rattle.gm_io.specs.declared.bounds.Bounds.{Bounds}
+use Rattle.gm_io.specs.declared.ending.Finish.{Finish}
+use Rattle.gm_io.specs.Endings.{bare, error_line, report_cut_line}
+use Rattle.gm_io.specs.Outside.{Outside}
 use Rattle.gm_tool.specs.Closed.{learned_in}
-use Rattle.gm_tool.specs.Endings.{bare, error_line, report_cut_line}
-use Rattle.gm_tool.specs.Outside.{Outside}
 use Rattle.gm_tool.specs.Outputs.{Outputs}
 use Rattle.gm_tool.specs.Statuses.{IsStatus, IsSilent, IsFaultless, IsBefore, IsToldByStatus}
 

@@ -1,21 +1,25 @@
 -- What the words of a run ask for, and what is then true.
+--
+-- Another command is a file beside `Listing`, with its record; a line in `IsDone`, and one in `run`. Its new endings, if any, are
+-- in gm_io, with a line of `finish_of` for each, and its text in `plain_line`. If it enumerates, its endings hold an `Enumerated`,
+-- and its record says `IsEnumerated` of its problem, as `IsDrilled` does.
 use Rattle.std.specs.Prelude.{◌≡◌, ℕ, false, List, [], ◌∷◌, map, Option, Some, None, String}
 use Rattle.std.specs.String.{string_bytes}
 use Rattle.gm_ports.specs.DiskState.{DiskState}
 use Rattle.gm_words.specs.Reading.{Asked, Listing, greatest_conflicts, words_read, listing, checking, drilling, exporting, asking, carrying}
 use Rattle.map_core.specs.declared.entry.Goal.TheVariants.{All}
-use Rattle.gm_tool.specs.declared.enumeration.Bounds.{Bounds}
-use Rattle.gm_tool.specs.declared.ending.Ending.{Ending}
-use Rattle.gm_tool.specs.declared.ending.Finish.{Finish}
+use Rattle.gm_io.specs.declared.bounds.Bounds.{Bounds}
+use Rattle.gm_io.specs.declared.ending.Ending.{Ending}
+use Rattle.gm_io.specs.declared.ending.Finish.{Finish}
+use Rattle.gm_io.specs.Endings.{bare, finish_of, line_of}
+use Rattle.gm_io.specs.Outside.{Outside}
 use Rattle.gm_tool.specs.Carrying.{IsCarrying, carry_bounds}
 use Rattle.gm_tool.specs.Checking.{IsChecking}
 use Rattle.gm_tool.specs.Drilling.{IsDrilling, drill_bounds}
-use Rattle.gm_tool.specs.Endings.{bare, finish_of, line_of}
 use Rattle.gm_tool.specs.Exporting.{IsExporting}
 use Rattle.gm_tool.specs.Journaled.{EndsJournaled}
 use Rattle.gm_tool.specs.Listing.{IsListing, bounds_for}
 use Rattle.gm_tool.specs.Outputs.{Outputs, evidence_output, export_outputs, no_outputs}
-use Rattle.gm_tool.specs.Outside.{Outside}
 use Rattle.gm_tool.specs.Roles.{IsAsking, roles_bounds}
 use Rattle.gm_tool.specs.Run.{IsRun}
 use Rattle.gm_tool.specs.Statuses.{IsAmong}

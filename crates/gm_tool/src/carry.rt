@@ -5,22 +5,21 @@ ghost use Rattle.edit_session.specs.Extends.{Extends};
 ghost use Rattle.evidence_rec.specs.Records.{AllAccepted};
 ghost use Rattle.gm_words.specs.Requests.{AreGoodJobs, asked_by, text_of};
 ghost use Rattle.worker_pool.specs.Workers.{IsFresh};
+ghost use Rattle.gm_io.specs.Outside.{outside};
+ghost use Rattle.gm_io.specs.Resuming.{AreGoodFirst};
 ghost use Rattle.gm_tool.specs.CarrySteps.{Carries, Dries, IsDryReady, TellsOver, dried_by};
-ghost use Rattle.gm_tool.specs.Outside.{outside};
-ghost use Rattle.gm_tool.specs.Resuming.{AreGoodFirst};
 ghost use Rattle.gm_tool.specs.Words.{EndsAs};
 
-use crate::bounds_line::line_of_budget;
-use crate::ending::{Ending, Spent};
-use crate::enumeration::{Bounds, Enumerated, fresh_oracle};
+use crate::enumeration::fresh_oracle;
 use crate::list::{Course, list_problem};
-use crate::longer::{Longer, begin_longer};
 use crate::prepared::Prepared;
-use crate::records_report::report_of;
-use crate::writing::{Stop, write_outputs};
 use edit_session::{Carried, keep_conflicts, regrow_corrections, start_at};
 use evidence_rec::{Oracle, Record, Records};
 use gm_base::{Problem, Purse};
+use gm_io::{
+    Bounds, Ending, Enumerated, Longer, Spent, Stop, begin_longer, line_of_budget, report_of,
+    write_outputs,
+};
 use gm_ports::{Files, Gate, Sink};
 use gm_words::{Carrying, Request};
 use group_oracle::GroupOracle;

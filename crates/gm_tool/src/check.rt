@@ -3,16 +3,14 @@ ghost use Rattle.std.specs.Prelude.{Some, List, ℕ};
 ghost use Rattle.gm_ports.specs.FilesState.{FilesState};
 ghost use Rattle.gm_audit.specs.Audits.{AuditYes};
 ghost use Rattle.gm_words.specs.Requests.{asked_by};
+ghost use Rattle.gm_io.specs.Outside.{outside};
 ghost use Rattle.gm_tool.specs.Checking.{shown_report};
-ghost use Rattle.gm_tool.specs.Outside.{outside};
 ghost use Rattle.gm_tool.specs.Steps.{Reports};
 ghost use Rattle.gm_tool.specs.Words.{EndsAs};
 
-use crate::beginning::{Beginning, begin};
-use crate::ending::Ending;
-use crate::records_report::report_of;
 use evidence_rec::Records;
 use gm_base::Problem;
+use gm_io::{Beginning, Ending, begin, report_of};
 use gm_ports::{Failed, Files, Sink, write_all};
 use gm_words::{Checking, Request};
 use std::alloc::Global;

@@ -3,19 +3,18 @@ ghost use Rattle.std.specs.Prelude.{◌≡◌, false, ◌<◌, ◌≤◌, [], So
 ghost use Rattle.gm_ports.specs.FilesState.{FilesState};
 ghost use Rattle.gm_words.specs.Requests.{AreGoodJobs, asked_by};
 ghost use Rattle.gm_words.specs.Reading.{greatest_size};
+ghost use Rattle.gm_io.specs.Outside.{outside};
 ghost use Rattle.gm_tool.specs.Drilling.{held_counts};
-ghost use Rattle.gm_tool.specs.Outside.{outside};
 ghost use Rattle.gm_tool.specs.Prepared.{IsPrepared};
 ghost use Rattle.gm_tool.specs.Steps.{Drills};
 ghost use Rattle.gm_tool.specs.Words.{EndsAs};
 
-use crate::ending::Ending;
-use crate::enumeration::{Bounds, greatest_bounds, list_sets};
-use crate::prepared::{Prepared, line_by};
-use crate::records_report::counts_of;
+use crate::enumeration::{greatest_bounds, list_sets};
+use crate::prepared::Prepared;
 use evidence_rec::Records;
 use gcnf_text::make_case;
 use gm_base::Problem;
+use gm_io::{Bounds, Ending, counts_of, line_by};
 use gm_ports::{Failed, Gate, Sink, write_all};
 use gm_words::{Drilling, Request};
 use map_core::Goal;

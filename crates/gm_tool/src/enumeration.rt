@@ -5,33 +5,22 @@ ghost use Rattle.evidence_rec.specs.Seeding.{new_engine};
 ghost use Rattle.gm_words.specs.Requests.{AreGoodJobs};
 ghost use Rattle.group_oracle.specs.Fresh.{IsFresh as IsUnasked};
 ghost use Rattle.worker_pool.specs.Workers.{IsFresh};
+ghost use Rattle.gm_io.specs.Resuming.{AreGoodFirst};
 ghost use Rattle.gm_tool.specs.Closed.{IsLeft, greatest_bounds};
-ghost use Rattle.gm_tool.specs.Resuming.{AreGoodFirst};
 
 use evidence_rec::{Record, Records};
 use gm_base::Problem;
+use gm_io::{Bounds, Enumerated};
 use gm_journal::Journal;
 use gm_ports::{Gate, NoDisk};
 use group_oracle::GroupOracle;
 use known_sets::KnownSets;
-use lrat_steps::Logs;
-use map_core::{Closing, Goal};
+use map_core::Goal;
 use power_map::PowerMap;
 use std::alloc::{AllocError, Global};
 use std::sync::Wait;
 use std::thread::{self, Threads};
 use worker_pool::{Outcome, enumerate};
-
-/// How many workers there are, how many clauses may be learnt, how many sets recorded, what is wanted, and whether a journal is
-/// kept.
-#[derive(Clone, Copy)]
-pub struct Bounds {
-    pub jobs: u32,
-    pub conflicts: u64,
-    pub limit: u64,
-    pub goal: Goal,
-    pub journal: bool,
-}
 
 /// The greatest bounds, where this is wanted of so many workers.
 pub fn greatest_bounds(goal: Goal, jobs: u32) -> Bounds
@@ -44,16 +33,6 @@ pub fn greatest_bounds(goal: Goal, jobs: u32) -> Bounds
         goal,
         journal: false,
     }
-}
-
-/// What is left of an enumeration.
-#[derive(Drop)]
-pub struct Enumerated {
-    /// How many clauses were learnt in all logs.
-    pub spent: u64,
-    /// The oracles' logs, in the order of the workers, and last the map's.
-    pub logs: Logs,
-    pub closing: Closing,
 }
 
 /// Enumerates the minimal conflicts and minimal corrections of a problem, of which these are known at first, by as many

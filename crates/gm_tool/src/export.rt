@@ -4,19 +4,15 @@ ghost use Rattle.std.specs.Prelude.{◌≡◌, ◌≢◌, ◌<◌, [], Some, IfO
 ghost use Rattle.evidence_rec.specs.Records.{kind_of, Accepts};
 ghost use Rattle.gm_base.specs.declared.kind.Kind.TheVariants.{Conflict};
 ghost use Rattle.gm_words.specs.Requests.{asked_by};
+ghost use Rattle.gm_io.specs.Outside.{outside};
+ghost use Rattle.gm_io.specs.Resuming.{AreGoodFirst};
 ghost use Rattle.gm_tool.specs.Exporting.{IsRefuted, clauses_text, refutation_text};
-ghost use Rattle.gm_tool.specs.Outside.{outside};
-ghost use Rattle.gm_tool.specs.Resuming.{AreGoodFirst};
 ghost use Rattle.gm_tool.specs.Steps.{AreTextsOf, Exports, Misses};
 ghost use Rattle.gm_tool.specs.Words.{EndsAs};
 
-use crate::beginning::{Beginning, begin};
-use crate::bounds_line::line_of_no_conflict;
-use crate::ending::Ending;
-use crate::export_files::write_both;
-use crate::records_report::conflict_numbered;
 use evidence_rec::{Record, Records};
 use gm_base::Problem;
+use gm_io::{Beginning, Ending, begin, conflict_numbered, line_of_no_conflict, write_both};
 use gm_ports::{Failed, Files};
 use gm_words::{Exporting, Request};
 use lrat_export::{cnf_of, lrat_of};

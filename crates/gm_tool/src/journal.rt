@@ -5,19 +5,16 @@
 ghost use Rattle.std.specs.Prelude.{◌≡◌, ℕ, ◌+◌, ◌^◌, ◌<◌, true, List, Option, IfOk, IfErr, IfSome};
 ghost use Rattle.gm_journal.specs.Salvage.{HoldsRecords};
 ghost use Rattle.gm_words.specs.Requests.{AreGoodJobs, text_of};
-ghost use Rattle.gm_tool.specs.Endings.{finish_of};
+ghost use Rattle.gm_io.specs.Endings.{finish_of};
+ghost use Rattle.gm_io.specs.Outside.{outside};
+ghost use Rattle.gm_io.specs.Resuming.{AreGoodFirst};
 ghost use Rattle.gm_tool.specs.Journaled.{EndsJournaled};
 ghost use Rattle.gm_tool.specs.JournalSteps.{EndsKept, HasEnded, IsOpened, Keeps, KeepsFrom, RefusesJournal, StopsOpening, closing_in, with_journal};
-ghost use Rattle.gm_tool.specs.Outside.{outside};
-ghost use Rattle.gm_tool.specs.Resuming.{AreGoodFirst};
 
-use crate::beginning::read_named;
-use crate::bounds_line::line_of_foreign;
-use crate::ending::Ending;
-use crate::enumeration::{Bounds, Enumerated};
 use crate::kept::{Pages, enumerate_into, fresh_crew};
 use crate::list::put_out;
 use gm_base::Problem;
+use gm_io::{Bounds, Ending, Enumerated, line_of_foreign, read_named};
 use gm_journal::{Journal, JournalRead, Salvaged, Started, salvage};
 use gm_ports::{Disk, Failed, Files, Gate, Sink};
 use gm_words::Listing;

@@ -6,12 +6,13 @@ ghost use Rattle.evidence_rec.specs.Seeding.{new_engine};
 ghost use Rattle.worker_pool.specs.Workers.{IsFresh};
 ghost use Rattle.gm_journal.specs.Journals.{opening_of};
 ghost use Rattle.gm_words.specs.Requests.{AreGoodJobs};
+ghost use Rattle.gm_io.specs.Resuming.{AreGoodFirst};
 ghost use Rattle.gm_tool.specs.JournalSteps.{IsCrew, IsKept, IsReady, left_of};
-ghost use Rattle.gm_tool.specs.Resuming.{AreGoodFirst};
 
-use crate::enumeration::{Bounds, Enumerated, fresh_map, fresh_oracles};
+use crate::enumeration::{fresh_map, fresh_oracles};
 use evidence_rec::{Record, Records};
 use gm_base::Problem;
+use gm_io::{Bounds, Enumerated};
 use gm_journal::laws::kept_is_salvaged;
 use gm_journal::{Journal, JournalClosing, Seat};
 use gm_ports::{Disk, Gate};

@@ -12,40 +12,26 @@
 //! keep a journal on a disk, which comes back.
 //!
 //! Start reading at `run` in `program`, at `specs/Run.antt`, which says what holds of every run, and at `specs/Listing.antt`,
-//! which says what each status of `list` tells of the file, the problem, the evidence and the report; `specs/Endings.antt`
+//! which says what each status of `list` tells of the file, the problem, the evidence and the report; `specs/Words.antt`
 //! says how another command joins. Then `list`, `check`, `drill`, `export`, `roles` and `carry`, a file a command, and
 //! `enumeration`: an oracle over the learning solver for each worker, a map, and what the workers of `worker_pool` leave of
-//! them, when no set of groups is left, the budget is spent or as many sets are recorded as were wanted.
+//! them, when no set of groups is left, the budget is spent or as many sets are recorded as were wanted. What commands read and
+//! write, and how they end, is in `gm_io`.
 //!
 //! Nothing is promised of time, and want of memory may end any run.
 #![tactic(auto)]
 
-mod beginning;
-mod bounds_line;
 mod carry;
 mod check;
 mod drill;
-mod drill_line;
-mod ending;
 mod enumeration;
-mod error_line;
-mod evidence_file;
 mod export;
-mod export_files;
-mod input;
 mod journal;
-mod judging;
 mod kept;
-mod line_parts;
 mod list;
-mod longer;
 mod prepared;
 mod program;
-mod record_ids;
-mod records_report;
-mod refusal;
 mod roles;
-mod writing;
 
-pub use ending::Finish;
+pub use gm_io::Finish;
 pub use program::run;

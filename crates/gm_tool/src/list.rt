@@ -2,23 +2,22 @@
 //! command that lists a problem: it finds all minimal sets, and writes the evidence, where it is asked for, and then the report.
 ghost use Rattle.std.specs.Prelude.{◌≡◌, ◌≢◌, ◌<◌, ◌+◌, ◌^◌, false, List, Some, None, IfOk, IfSome};
 ghost use Rattle.gm_words.specs.Requests.{AreGoodJobs, asked_by, text_of};
+ghost use Rattle.gm_io.specs.Endings.{finish_of};
+ghost use Rattle.gm_io.specs.Outside.{outside};
+ghost use Rattle.gm_io.specs.Resuming.{AreGoodFirst};
 ghost use Rattle.gm_tool.specs.Closed.{IsLeft, is_complete, learned_in};
-ghost use Rattle.gm_tool.specs.Endings.{finish_of};
-ghost use Rattle.gm_tool.specs.Outside.{outside};
 ghost use Rattle.gm_tool.specs.Prepared.{IsReady, all_logs, logs_before};
-ghost use Rattle.gm_tool.specs.Resuming.{AreGoodFirst};
 ghost use Rattle.gm_tool.specs.Steps.{Lists, listed_by};
 ghost use Rattle.gm_tool.specs.Words.{EndsAs, EndsWith};
 
-use crate::beginning::{Beginning, begin};
-use crate::ending::Ending;
-use crate::enumeration::{Bounds, Enumerated, list_sets};
+use crate::enumeration::list_sets;
 use crate::journal::list_journaled;
-use crate::prepared::{Prepared, line_by};
-use crate::records_report::report_of;
-use crate::writing::{Stop, write_outputs};
+use crate::prepared::Prepared;
 use evidence_rec::Records;
 use gm_base::Problem;
+use gm_io::{
+    Beginning, Bounds, Ending, Enumerated, Stop, begin, line_by, report_of, write_outputs,
+};
 use gm_ports::{Disk, Files, Gate, Sink};
 use gm_words::{Listing, Request};
 use lrat_steps::{Log, Logs};

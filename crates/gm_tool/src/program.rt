@@ -1,14 +1,14 @@
 //! The whole program, as one call.
 ghost use Rattle.std.specs.Prelude.{◌≡◌, ℕ, List, Some, None, IfSome, IsSome};
 ghost use Rattle.gm_words.specs.Reading.{Listing as Listed, Checking as Checked, Drilling as Drilled, Exporting as Exported, Asking as Asked, Carrying as Carried, listing, checking, drilling, exporting, asking, carrying};
+ghost use Rattle.gm_io.specs.Endings.{finish_of};
+ghost use Rattle.gm_io.specs.Outside.{GetsLine, outside};
 ghost use Rattle.gm_tool.specs.Carrying.{IsCarrying};
 ghost use Rattle.gm_tool.specs.Checking.{IsChecking};
 ghost use Rattle.gm_tool.specs.Drilling.{IsDrilling};
-ghost use Rattle.gm_tool.specs.Endings.{finish_of};
 ghost use Rattle.gm_tool.specs.Exporting.{IsExporting};
 ghost use Rattle.gm_tool.specs.Journaled.{IsJournaled};
 ghost use Rattle.gm_tool.specs.Listing.{IsListing};
-ghost use Rattle.gm_tool.specs.Outside.{GetsLine, outside};
 ghost use Rattle.gm_tool.specs.Roles.{IsAsking};
 ghost use Rattle.gm_tool.specs.Run.{IsRun};
 ghost use Rattle.gm_tool.specs.Words.{EndsWith, IsUnread, asked_in, bounds_of, journal_in, outputs_of};
@@ -16,11 +16,10 @@ ghost use Rattle.gm_tool.specs.Words.{EndsWith, IsUnread, asked_in, bounds_of, j
 use crate::carry::carry_file;
 use crate::check::check_file;
 use crate::drill::drill_case;
-use crate::ending::{Ending, Finish, finish_of};
-use crate::error_line::write_error_line;
 use crate::export::export_conflict;
 use crate::list::list_by;
 use crate::roles::ask_file;
+use gm_io::{Ending, Finish, finish_of, write_error_line};
 use gm_ports::{Disk, Files, Gate, Sink};
 use gm_words::{Request, read_words};
 use std::alloc::{AllocError, Global};

@@ -12,13 +12,13 @@
 //! and what is left of its enumeration. That a focus narrows the problem says nothing here.
 ghost use Rattle.std.specs.Prelude.{◌≡◌, ℕ, List, Some, None, IfSome, IsSome, ⊤};
 ghost use Rattle.gm_words.specs.Reading.{Listing as Listed, Checking as Checked, Drilling as Drilled, Exporting as Exported, Asking as Asked, Carrying as Carried, listing, checking, drilling, exporting, asking, carrying};
+ghost use Rattle.gm_io.specs.Outside.{untold};
 ghost use Rattle.gm_tool.specs.Carrying.{IsCarrying};
 ghost use Rattle.gm_tool.specs.Checking.{IsChecking};
 ghost use Rattle.gm_tool.specs.Drilling.{IsDrilling};
 ghost use Rattle.gm_tool.specs.Exporting.{IsExporting};
 ghost use Rattle.gm_tool.specs.Journaled.{IsJournaled};
 ghost use Rattle.gm_tool.specs.Listing.{IsListing};
-ghost use Rattle.gm_tool.specs.Outside.{untold};
 ghost use Rattle.gm_tool.specs.Roles.{IsAsking};
 ghost use Rattle.gm_tool.specs.Run.{IsRun};
 ghost use Rattle.gm_tool.specs.Words.{IsUnread, asked_in, bounds_of, journal_in, outputs_of};

@@ -1,6 +1,6 @@
 use Rattle.gm_words.specs.Reading.{Carrying}
 use Rattle.gm_words.specs.Requests.{text_of}
-use Rattle.gm_tool.specs.Outside.{outside}
+use Rattle.gm_io.specs.Outside.{outside}
 use Rattle.gm_tool.proofs.CarryLemmas.{carrying-carries, carrying-stopped}
 use Rattle.gm_tool.proofs.carry.carry_file.Goals as goal
 

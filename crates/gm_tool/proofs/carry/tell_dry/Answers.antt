@@ -3,11 +3,11 @@ use Rattle.gm_base.specs.Problem.{Problem}
 use Rattle.map_core.specs.declared.closing.Closing.{Closing}
 use Rattle.gm_words.specs.Requests.{text_of}
 use Rattle.evidence_rec.specs.Records.{AllAccepted}
-use Rattle.gm_tool.specs.declared.enumeration.Enumerated.{Enumerated}
+use Rattle.gm_io.specs.declared.ending.Enumerated.{Enumerated}
+use Rattle.gm_io.specs.Outside.{outside}
+use Rattle.gm_io.specs.Written.{Writes}
 use Rattle.gm_tool.specs.Carrying.{empty_closing}
 use Rattle.gm_tool.specs.Closed.{held_report}
-use Rattle.gm_tool.specs.Outside.{outside}
-use Rattle.gm_tool.specs.Steps.{Writes}
 use Rattle.gm_tool.proofs.carry.tell_dry.Goals as goal
 
 -- nothing was opened where memory was wanting

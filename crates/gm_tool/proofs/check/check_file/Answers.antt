@@ -1,6 +1,6 @@
 use Rattle.std.proofs.Common.{refl}
 use Rattle.gm_words.specs.Reading.{Checking}
-use Rattle.gm_tool.specs.Outside.{outside}
+use Rattle.gm_io.specs.Outside.{outside}
 use Rattle.gm_tool.proofs.RunLemmas.{checking-stopped, checking-reports}
 use Rattle.gm_tool.proofs.check.check_file.Goals as goal
 

@@ -1,6 +1,6 @@
 use Rattle.std.proofs.Common.{Some, refl}
 use Rattle.gm_words.specs.Reading.{Drilling, drilling}
-use Rattle.gm_tool.specs.Outside.{outside}
+use Rattle.gm_io.specs.Outside.{outside}
 use Rattle.gm_tool.proofs.RunLemmas.{drilling-case, memory-at_once}
 use Rattle.gm_tool.proofs.drill.drill_case.Goals as goal
 

@@ -1,7 +1,7 @@
 use Rattle.std.proofs.Common.{[], sym, subst}
-use Rattle.gm_tool.specs.Resuming.{AreGoodFirst}
-use Rattle.gm_tool.specs.Steps.{IsNumberedIn}
-use Rattle.gm_tool.proofs.NumberedLemmas.{accepted-alone}
+use Rattle.gm_io.specs.Resuming.{AreGoodFirst}
+use Rattle.gm_io.specs.Numbered.{IsNumberedIn}
+use Rattle.gm_io.proofs.NumberedLemmas.{accepted-alone}
 use Rattle.gm_tool.proofs.export.texts_of.Goals as goal
 
 -- a conflict that is accepted among the records is accepted alone

@@ -1,6 +1,6 @@
 use Rattle.std.proofs.Common.{Some, inl, inr, refl, subst, sym, ap, ◌∙◌}
 use Rattle.std.proofs.lemmas.Option.{IfSome_then}
-use Rattle.gm_tool.specs.Endings.{finish_of}
+use Rattle.gm_io.specs.Endings.{finish_of}
 use Rattle.gm_tool.specs.JournalSteps.{HasEnded, closing_in, course_for}
 use Rattle.gm_tool.proofs.journal.end_listing.Goals as goal
 

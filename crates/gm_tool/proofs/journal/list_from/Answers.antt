@@ -1,8 +1,8 @@
 use Rattle.std.proofs.Common.{ap, inl, inr, refl, subst, sym}
 use Rattle.gm_journal.specs.Entries.{OpeningView}
 use Rattle.gm_words.specs.Requests.{text_of}
-use Rattle.gm_tool.specs.Outside.{outside}
-use Rattle.gm_tool.specs.Resuming.{AreGoodFirst}
+use Rattle.gm_io.specs.Outside.{outside}
+use Rattle.gm_io.specs.Resuming.{AreGoodFirst}
 use Rattle.gm_tool.proofs.JournalLemmas.{keeps-ended}
 use Rattle.gm_tool.proofs.KeptLemmas.{is-ready}
 use Rattle.gm_tool.proofs.journal.list_from.Goals as goal

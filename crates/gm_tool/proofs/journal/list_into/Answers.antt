@@ -1,6 +1,6 @@
 use Rattle.std.proofs.Common.{inl, inr, refl}
 use Rattle.gm_words.specs.Requests.{text_of}
-use Rattle.gm_tool.specs.Outside.{outside}
+use Rattle.gm_io.specs.Outside.{outside}
 use Rattle.gm_tool.proofs.JournalLemmas.{good-opened, keeps-behind}
 use Rattle.gm_tool.proofs.journal.list_into.Goals as goal
 

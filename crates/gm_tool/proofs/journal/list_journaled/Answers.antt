@@ -1,6 +1,6 @@
 use Rattle.std.proofs.Common.{refl}
+use Rattle.gm_io.specs.Outside.{outside}
 use Rattle.gm_tool.specs.JournalSteps.{with_journal}
-use Rattle.gm_tool.specs.Outside.{outside}
 use Rattle.gm_tool.proofs.JournalLemmas.{journaled-keeps, journaled-stopped}
 use Rattle.gm_tool.proofs.journal.list_journaled.Goals as goal
 

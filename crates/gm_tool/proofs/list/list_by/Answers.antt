@@ -1,8 +1,8 @@
 use Rattle.std.proofs.Common.{ap, refl, subst, sym, Some}
 use Rattle.gm_words.specs.Reading.{Listing}
 use Rattle.gm_words.specs.Requests.{text_of}
+use Rattle.gm_io.specs.Outside.{outside}
 use Rattle.gm_tool.specs.Journaled.{EndsJournaled}
-use Rattle.gm_tool.specs.Outside.{outside}
 use Rattle.gm_tool.proofs.JournalLemmas.{lists-plain, lists-journaled}
 use Rattle.gm_tool.proofs.list.list_by.Goals as goal
 

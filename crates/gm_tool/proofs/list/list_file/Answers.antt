@@ -1,9 +1,9 @@
 use Rattle.std.proofs.Common.{Some, None, ap, subst, sym}
 use Rattle.gm_words.specs.Reading.{Listing, listing}
 use Rattle.gm_words.specs.Requests.{text_of}
-use Rattle.gm_tool.specs.Outside.{outside}
+use Rattle.gm_io.specs.Outside.{outside}
+use Rattle.gm_io.proofs.ReadingLemmas.{good-from}
 use Rattle.gm_tool.specs.Words.{EndsAs}
-use Rattle.gm_tool.proofs.ReadingLemmas.{good-from}
 use Rattle.gm_tool.proofs.RunLemmas.{listing-stopped, listing-lists}
 use Rattle.gm_tool.proofs.list.list_file.Goals as goal
 

@@ -1,8 +1,8 @@
 use Rattle.std.proofs.Common.{◌≡◌, Option, sym, subst}
 use Rattle.lrat_steps.specs.Log.{LogStep}
-use Rattle.gm_tool.specs.declared.enumeration.Bounds.{Bounds}
+use Rattle.gm_io.specs.declared.bounds.Bounds.{Bounds}
+use Rattle.gm_io.specs.Endings.{error_line, status_by}
 use Rattle.gm_tool.specs.Closed.{is_complete}
-use Rattle.gm_tool.specs.Endings.{error_line, status_by}
 use Rattle.gm_tool.specs.Prepared.{all_logs}
 use Rattle.gm_tool.proofs.ReadyLemmas.{closing-before, ready-by}
 use Rattle.gm_tool.proofs.ReportLemmas.{report_for-from}

@@ -3,10 +3,10 @@ use Rattle.std.specs.Prelude.{IfSome}
 use Rattle.map_core.specs.declared.closing.Closing.{Closing}
 use Rattle.evidence_rec.specs.Records.{AllAccepted}
 use Rattle.gm_words.specs.Requests.{text_of}
-use Rattle.gm_tool.specs.declared.ending.Ending.{Ending}
-use Rattle.gm_tool.specs.Endings.{finish_of}
-use Rattle.gm_tool.specs.Outside.{outside}
-use Rattle.gm_tool.specs.Steps.{Writes}
+use Rattle.gm_io.specs.declared.ending.Ending.{Ending}
+use Rattle.gm_io.specs.Endings.{finish_of}
+use Rattle.gm_io.specs.Outside.{outside}
+use Rattle.gm_io.specs.Written.{Writes}
 use Rattle.gm_tool.proofs.ReadyLemmas.{closing-listed}
 use Rattle.gm_tool.proofs.ReportLemmas.{accepted-in}
 use Rattle.gm_tool.proofs.list.put_out.Goals as goal

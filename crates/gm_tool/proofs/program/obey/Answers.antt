@@ -1,6 +1,6 @@
 use Rattle.std.proofs.Common.{Some, ◌∙◌, ap, option_map, refl, subst, sym}
 use Rattle.gm_words.specs.Requests.{asked_by}
-use Rattle.gm_tool.specs.Outside.{outside}
+use Rattle.gm_io.specs.Outside.{outside}
 use Rattle.gm_tool.specs.Words.{EndsAs, EndsWith, asked_in}
 use Rattle.gm_tool.proofs.JournalLemmas.{memory-with}
 use Rattle.gm_tool.proofs.RunLemmas.{bad_words}

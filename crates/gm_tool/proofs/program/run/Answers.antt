@@ -1,7 +1,7 @@
 use Rattle.std.proofs.Common.{◌≡◌, Some, None, ap, refl, subst, sym, ◌∙◌}
-use Rattle.gm_tool.specs.Endings.{finish_of, line_of}
+use Rattle.gm_io.specs.Endings.{finish_of, line_of}
+use Rattle.gm_io.specs.Outside.{GetsLine, outside}
 use Rattle.gm_tool.specs.Journaled.{IsJournaled}
-use Rattle.gm_tool.specs.Outside.{GetsLine, outside}
 use Rattle.gm_tool.specs.Words.{IsDone, asked_in, journal_in}
 use Rattle.gm_tool.proofs.GetsLemmas.{answered}
 use Rattle.gm_tool.proofs.JournalLemmas.{journaled-gets, with, without}

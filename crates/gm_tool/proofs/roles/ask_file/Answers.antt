@@ -1,6 +1,6 @@
 use Rattle.std.proofs.Common.{refl, subst}
 use Rattle.gm_words.specs.Reading.{Asking}
-use Rattle.gm_tool.specs.Outside.{outside}
+use Rattle.gm_io.specs.Outside.{outside}
 use Rattle.gm_tool.specs.Steps.{Asks}
 use Rattle.gm_tool.proofs.RolesLemmas.{asking-stopped, asking-asks}
 use Rattle.gm_tool.proofs.roles.ask_file.Goals as goal

@@ -2,8 +2,8 @@ use Rattle.std.proofs.Common.{Option, Some, None}
 use Rattle.std.specs.Prelude.{IfSome, ⊤}
 use Rattle.gm_ports.specs.DiskState.{DiskState}
 use Rattle.gm_words.specs.Reading.{listing, checking, drilling, exporting, asking, carrying}
+use Rattle.gm_io.specs.Outside.{GetsLine, untold}
 use Rattle.gm_tool.specs.Journaled.{IsJournaled}
-use Rattle.gm_tool.specs.Outside.{GetsLine, untold}
 use Rattle.gm_tool.specs.Words.{asked_in, bounds_of, outputs_of}
 use Rattle.gm_tool.proofs.GetsLemmas.{run-gets, done-gets}
 use Rattle.gm_tool.proofs.JournalLemmas.{journaled-gets}

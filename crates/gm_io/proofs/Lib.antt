@@ -1,0 +1,6 @@
+pub mod ReadingLemmas
+pub mod LongerLemmas
+pub mod JudgedLemmas
+pub mod WritingLemmas
+pub mod OrderLemmas
+pub mod NumberedLemmas

@@ -1,0 +1,15 @@
+pub mod Outside
+pub mod Lines
+pub mod Refusals
+pub mod Endings
+pub mod Input
+pub mod Judging
+pub mod Resuming
+pub mod Longer
+pub mod Beginnings
+pub mod Writing
+pub mod Taking
+pub mod Evidence
+pub mod Written
+pub mod Counts
+pub mod Numbered

@@ -1,9 +1,0 @@
-use Rattle.std.proofs.Common.{◌≡◌, false, take}
-use Rattle.std.specs.List.{list_any}
-use Rattle.gm_base.specs.declared.kind.Kind.TheVariants.{Conflict}
-use Rattle.gm_tool.specs.Steps.{is_of}
-use Rattle.gm_tool.proofs.records_report.conflict_of.Given as goal
-
--- none so far is one
-abbrev pub invariant-loop-made : goal.invariant-loop-made
-invariant-loop-made l = list_any (is_of Conflict l.set) (take l.made-index l.records) ≡ false

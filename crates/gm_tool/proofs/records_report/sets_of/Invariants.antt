@@ -1,8 +1,0 @@
-use Rattle.std.proofs.Common.{◌≡◌, take}
-use Rattle.gm_tool.specs.Closed.{conflicts_in, corrections_in}
-use Rattle.gm_tool.proofs.records_report.sets_of.Given as goal
-
--- the sets of the records so far
-abbrev pub invariant-loop-made : goal.invariant-loop-made
-invariant-loop-made l =
-    (l.conflicts ≡ conflicts_in (take l.made-index l.records)) × (l.corrections ≡ corrections_in (take l.made-index l.records))
