@@ -1,9 +1,10 @@
 #!/usr/bin/env python3
 """Checks evidence of gmus, from docs/FORMATS.md alone: it shares nothing with the program.
 
-    tools/check_evidence.py FILE EVIDENCE
+    tools/check_evidence.py FILE EVIDENCE [--focus LIST]
 
-FILE is the GCNF or CNF file, EVIDENCE the evidence about it. If nothing is refused, the report of the evidence's sets is written,
+FILE is the GCNF or CNF file, EVIDENCE the evidence about it. With --focus LIST the evidence is about the groups of LIST, as 3,1,2,
+and the background: the clauses of all others are left out before anything is numbered. If nothing is refused, the report of the evidence's sets is written,
 and the status is 0. Else the first refusal is told on standard error, and the status is 9, as that of `gmus check`. It is 1
 if FILE is no such file or a file can't be read, and 2 if the words have no reading. It is plain and slow; evidence of some
 megabytes is fine.
@@ -12,6 +13,7 @@ import re
 import sys
 
 import telling
+from focus import without_focus
 
 EVIDENCE_REFUSED = 9
 NUMBER = re.compile(rb"0|[1-9][0-9]*")
@@ -59,6 +61,10 @@ class Problem:
             at += 1
         if at != len(tokens) and (in_braces or not tokens[at].startswith("%")):
             raise NoProblem("something stands behind the last clause")
+
+    def narrow(self, focus):
+        """Leaves out the clauses of groups that aren't among these."""
+        self.clauses = [(group, lits) for group, lits in self.clauses if group == 0 or group in focus]
 
     def selector_form(self):
         return [lits + [-(self.vars + group)] if group else lits for group, lits in self.clauses]
@@ -322,10 +328,25 @@ def report(problem, complete, sets):
     return "\n".join(lines + [f"e {len(sets['u'])} {len(sets['m'])}"]) + "\n"
 
 
+def check_alone(problem, text):
+    """Checks the text of one record of version 1 by itself, as a journal has it; gives its kind and its groups."""
+    reader = Reader(problem, text)
+    reader.version = 1
+    kind, line, groups, witnesses, proofs = reader.piece()
+    if kind == "e" or reader.at < len(reader.lines) or reader.rest:
+        raise Refused(line, "BadLine")
+    check_record(problem, problem.selector_form(), [], kind, groups, witnesses, proofs)
+    return kind, groups
+
+
 def problem_of(name):
     """The problem of a file; refused if it is none."""
     with open(name, encoding="latin-1", newline="") as file:
-        text = file.read()
+        return problem_in(file.read(), name)
+
+
+def problem_in(text, name):
+    """The problem that a text is; refused if it is none."""
     try:
         return Problem(text)
     except NoProblem as why:
@@ -335,9 +356,12 @@ def problem_of(name):
 
 
 def main(words):
+    words, focus = without_focus(words)
     if len(words) != 2 or any(word.startswith("-") for word in words):
         raise telling.WrongWords("a file and evidence about it are wanted")
     problem = problem_of(words[0])
+    if focus is not None:
+        problem.narrow(focus)
     with open(words[1], "rb") as file:
         text = file.read(MAX_BYTES + 1)
     try:

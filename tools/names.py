@@ -1,7 +1,7 @@
 #!/usr/bin/env python3
 """Writes a report of gmus with the names of its groups.
 
-    gmus list FILE | tools/names.py FILE [--first N] [--json] [--html [--why EVIDENCE]] [--fail-on-conflict]
+    gmus list FILE | tools/names.py FILE [--first N] [--json] [--html [--why EVIDENCE]] [--focus LIST] [--fail-on-conflict]
     tools/names.py FILE REPORT ..
 
 FILE is the GCNF or CNF file. Its comments 'c group 7 TEXT' name its groups, in CNF clause 7; if one group has several of
@@ -13,12 +13,14 @@ and in none.
 
 What is written is a text: first the rules, with how many conflicts and how many corrections each is in. Those in most
 conflicts come first, then those in most corrections. Then the conflicts and the corrections, those of few rules first,
-since they tell most; a correction of one rule is told as a sentence.
+since they tell most; a correction of one rule is told as a sentence. The last line has the name of FILE and the first 16
+digits of its SHA-256, so that it is known of which file all this was made.
 
 --first N writes the first N of each list, and how many are left. On a terminal that is so with 20, if N is not given.
 --json writes the whole report with names as JSON. Its form stands in docs/FORMATS.md.
 --html writes it as a page that stands by itself, in which rules can be given up or kept, and what then remains is shown.
 --why EVIDENCE: in the page each conflict opens to its reasons, by the evidence that gmus wrote with the report.
+--focus LIST: the report is of `gmus list FILE --focus LIST`; what that leaves out is told as left out.
 --fail-on-conflict: what is written stays the same, and the status is 3 if something clashes.
 
 The status is 0 if the report was written, 1 if something was refused, 2 if the words have no reading.
@@ -29,7 +31,8 @@ import sys
 
 import page
 import roles_report
-from report import Origin, decoded, named, number_of
+from focus import without_focus
+from report import decoded, named, number_of, origin_of
 from telling import DONE, Refused, WrongWords, bytes_of, run
 
 CLASH = 3
@@ -47,6 +50,7 @@ def as_text(shown, first=None):
         lines += left_line(len(shown.counts), first)
     if shown.others_line():
         lines += ["", shown.others_line()]
+    lines += ["", shown.origin.left_out()] if shown.origin.left_out() else []
     lines += shown.origin.later_text()
     for heading, meaning, alone, sets in shown.sections():
         lines += ["", heading, "-" * len(heading), "", meaning]
@@ -55,6 +59,7 @@ def as_text(shown, first=None):
             lines.append("")
             lines += [f"{f'{at}.' if not place else '':5} {line}" for place, line in enumerate(told)]
         lines += left_line(len(sets), first)
+    lines += ["", shown.origin.made_of()] if shown.origin.made_of() else []
     return "".join(line + "\n" for line in lines)
 
 
@@ -67,12 +72,13 @@ def left_line(count, first):
 
 def as_json(shown):
     """The whole report as JSON, one set a line."""
-    head = {"version": VERSION, "file": shown.origin.name, "complete": shown.report.is_complete, "groups": shown.report.groups,
-            "names": {str(group): name for group, name in sorted(shown.origin.names.items())}}
+    origin = shown.origin
+    head = {"version": VERSION, "file": origin.name, "sha256": origin.digest, "focus": origin.asked(), "complete": shown.report.is_complete, "groups": shown.report.groups,
+            "names": {str(group): name for group, name in sorted(origin.names.items())}}
     counts = [{"group": group, "conflicts": conflicts, "corrections": corrections}
               for group, (conflicts, corrections) in shown.counts]
     lines = [f'"{key}": {written(value)}' for key, value in head.items()]
-    later = [{"line": line, "text": text, "groups": groups} for (line, text), groups in shown.origin.later.items()]
+    later = [{"line": line, "text": text, "groups": groups} for (line, text), groups in origin.later.items()]
     for key, rows in (("later", later), ("counts", counts), ("conflicts", shown.conflicts), ("corrections", shown.corrections)):
         lines.append(f'"{key}": [' + ",".join("\n  " + written(row) for row in rows) + ("\n]" if rows else "]"))
     return "{\n" + ",\n".join(lines) + "\n}\n"
@@ -82,7 +88,7 @@ def written(value):
     return json.dumps(value, ensure_ascii=False)
 
 
-def reasons_of(file, held, evidence):
+def reasons_of(file, held, evidence, focus):
     """The reasons of each conflict that the evidence has, by its groups: of each rule, and None for the background, the lines
     on which its refutation rests."""
     try:
@@ -91,7 +97,7 @@ def reasons_of(file, held, evidence):
         from why_problem import Problem
     except ImportError:
         raise Refused("--why: tools/why.py, which finds reasons, is not there") from None
-    problem = Problem(io.BytesIO(held), file)
+    problem = Problem(io.BytesIO(held), file, focus)
     with why.opened(evidence) as source:
         return {tuple(reason.groups): [(problem.name(part.group) if part.group else None,
                                         [f"{place}: {line}" for place, line in part.lines]) for part in reason.parts]
@@ -103,7 +109,7 @@ class Words:
 
     def __init__(self, words):
         self.files, self.form, self.first, self.evidence, self.fails = [], None, None, None, False
-        words = list(words)
+        words, self.focus = without_focus(words)
         while words:
             self.take(words.pop(0), words)
         if not 1 <= len(self.files) <= 2:
@@ -148,7 +154,7 @@ def main(words):
     asked = Words(words)
     file, held = asked.files[0], bytes_of(asked.files[0])
     report = decoded(bytes_of(asked.files[1] if asked.files[1:] else "-"))
-    origin = Origin(decoded(held), file)
+    origin = origin_of(held, file, asked.focus)
     first = ON_A_TERMINAL if asked.first is None and sys.stdout.isatty() else asked.first
     if roles_report.is_roles(report):
         if asked.evidence is not None:
@@ -162,7 +168,7 @@ def main(words):
         if asked.form == "json":
             text = as_json(shown)
         elif asked.form == "html":
-            text = page.as_html(shown, None if asked.evidence is None else reasons_of(file, held, asked.evidence))
+            text = page.as_html(shown, None if asked.evidence is None else reasons_of(file, held, asked.evidence, asked.focus))
         else:
             text = as_text(shown, first)
     sys.stdout.buffer.write(text.encode("utf-8", "replace"))

@@ -42,22 +42,30 @@ def as_html(shown, reasons=None):
         '<meta name="viewport" content="width=device-width, initial-scale=1">',
         f"<title>{text(shown.title)}</title>", f"<style>\n{part('page.css')}</style>", *begin, "</head>",
         "<body>", f"<h1>{text(shown.title)}</h1>", f"<p>{text(shown.summary())}</p>",
-        *later_parts(shown.origin),
+        *notes_parts(shown.origin),
         '<div id="plain">', *plain_parts(shown, reasons), "</div>",
     ]
     if shown.has_choice():
         parts += ['<main id="decide"></main>', '<div id="printed"></div>',
                   f'<script type="application/json" id="data">{in_script(data(shown, reasons))}</script>',
                   '<script>\n(function () {\n"use strict";', part("page_choices.js") + part("page.js") + "})();\n</script>"]
-    return "".join(each + "\n" for each in parts + ["</body>", "</html>"])
+    return "".join(each + "\n" for each in [*parts, *made_of_parts(shown.origin), "</body>", "</html>"])
 
 
-def later_parts(origin):
-    """What is said of the lines that came to [always] later, if there are any."""
+def notes_parts(origin):
+    """What is said of groups that are left out, and of lines that came to [always] later, if there are any."""
+    if origin.left_out():
+        yield f"<p>{html.escape(origin.left_out())}</p>"
     if origin.later:
         yield f"<p>{LATER_LINES}</p>\n<ul>"
         yield from (f"<li>{html.escape(line)}</li>" for line in origin.later_lines())
         yield "</ul>"
+
+
+def made_of_parts(origin):
+    """Of which file the page was made, as its last line."""
+    if origin.made_of():
+        yield f'<footer class="pale">{html.escape(origin.made_of())}</footer>'
 
 
 def plain_parts(shown, reasons):

@@ -2,6 +2,7 @@
 
 A group that has a name is called a rule here, as its file was mostly made from rules; one without a name is `group 7`.
 """
+import hashlib
 import re
 
 from telling import Refused, plain
@@ -17,8 +18,16 @@ HEAD = re.compile(r"p gmus ([0-9]{1,18})")
 SET = re.compile(r"(u|m)((?: [1-9][0-9]{0,17})*) 0")
 
 
-FEW = 20        # of the rules with which a line of [always] stands, so many are named
+FEW = 20        # rules that stand with a line of [always], or are left out, are named if they are so few
 LATER_LINES = "What came to [always] since stands with the rules that need it:"
+
+
+DIGITS = 16     # of a SHA-256, so many are told
+
+
+def digest_of(held):
+    """The first digits of the SHA-256 of a file's bytes."""
+    return hashlib.sha256(held).hexdigest()[:DIGITS]
 
 
 def decoded(held):
@@ -59,13 +68,37 @@ def read_later(text):
 
 
 class Origin:
-    """What a report is of: a file, by its name, with what its comments say."""
+    """What a report is of: a file, by its name and the first digits of its SHA-256, with what its comments say; and the groups
+    that the question is about, if it isn't about all."""
 
-    def __init__(self, text, name):
+    def __init__(self, text, name, digest="", focus=None):
         self.path = name
         self.name = plain(name.rpartition("/")[2])
+        self.digest = digest
         self.names, self.groups = read_problem(text)
         self.later = read_later(text) if "\nc always " in text else {}
+        self.focus = focus
+
+    def is_asked(self, group):
+        """Whether the question is about this group."""
+        return self.focus is None or group in self.focus
+
+    def asked(self):
+        """The groups of the file that the question is about, or None if it is about all."""
+        return None if self.focus is None else sorted(group for group in self.focus if group <= self.groups)
+
+    def left_out(self):
+        """What is said of the groups that the question is not about, as names if they are few."""
+        if self.focus is None:
+            return ""
+        groups = [group for group in range(1, self.groups + 1) if group not in self.focus]
+        if len(groups) > FEW:
+            return f"{len(groups)} rules are left out by --focus."
+        return f"Left out by --focus: {'; '.join(map(self.name_of, groups))}." if groups else ""
+
+    def made_of(self):
+        """Of which file something was made, if its digest is known."""
+        return f"Made of {self.name}, SHA-256 {self.digest}." if self.digest else ""
 
     def name_of(self, group):
         return self.names.get(group, f"group {group}")
@@ -109,14 +142,30 @@ class Report:
         self.groups = int(head.group(1))
         self.is_complete = lines[1] == "s COMPLETE"
         self.conflicts, self.corrections = [], []
+        before = None
         for number, line in enumerate(lines[2:-2], 3):
             found = SET.fullmatch(line)
             members = [int(word) for word in found.group(2).split()] if found else [1, 1]
-            if any(after <= before for before, after in zip(members, members[1:] + [self.groups + 1])):
+            if any(high <= low for low, high in zip(members, members[1:] + [self.groups + 1])):
                 raise Refused(f"line {number} is no set of its groups")
+            at = found.group(1) == "m", members
+            if before is not None and at <= before:
+                raise Refused(f"line {number} stands there twice" if at == before else f"line {number} stands out of order")
+            before = at
             (self.conflicts if found.group(1) == "u" else self.corrections).append(members)
         if lines[-2] != f"e {len(self.conflicts)} {len(self.corrections)}":
             raise Refused("its last line does not count its sets")
+        self.refuse_impossible()
+
+    def refuse_impossible(self):
+        """Refuses sets that no file has."""
+        for line, sets, others in (("u 0", self.conflicts, self.corrections), ("m 0", self.corrections, self.conflicts)):
+            if [] in sets and (len(sets) > 1 or others):
+                raise Refused(f"'{line}' stands beside other sets, and no file has both")
+        alone = [] in self.conflicts + self.corrections
+        if self.is_complete and not alone and not (self.conflicts and self.corrections):
+            none = "sets" if not self.conflicts + self.corrections else "conflicts" if self.corrections else "corrections"
+            raise Refused(f"it is complete, and has no {none}; no file has such a report")
 
     def counts(self):
         """In how many conflicts and in how many corrections each group is that is in any, the telling ones first."""
@@ -157,7 +206,7 @@ class Named:
         self.conflicts = sorted(report.conflicts, key=len)
         self.corrections = sorted(report.corrections, key=len)
         involved = {group for group, _ in self.counts}
-        self.others = [group for group in range(1, report.groups + 1) if group not in involved]
+        self.others = [group for group in range(1, report.groups + 1) if group not in involved and origin.is_asked(group)]
 
     def name(self, group):
         return self.origin.name_of(group)
@@ -201,4 +250,12 @@ def named(origin, report_text):
     except Refused as why:
         raise Refused(f"the report can't be read: {why}") from None
     origin.want_groups(report.groups)
+    foreign = next((group for group, _ in report.counts() if not origin.is_asked(group)), None)
+    if foreign is not None:
+        raise Refused(f"the report can't be read: group {foreign} is in a set of it, and --focus leaves that group out")
     return Named(report, origin)
+
+
+def origin_of(held, name, focus=None):
+    """The origin of a report, by the bytes of its file."""
+    return Origin(decoded(held), name, digest_of(held), focus)

@@ -4,7 +4,7 @@ import html
 import json
 import re
 
-from page import cut, later_parts, part
+from page import cut, made_of_parts, notes_parts, part
 from report import number_of
 from telling import Refused
 
@@ -43,7 +43,12 @@ class Roles:
             found = LINE.fullmatch(line)
             if not found or int(found.group(1)) != group:
                 raise Refused(f"the report can't be read: line {group + 1} is not of group {group}")
-            self.groups[found.group(2)].append(group)
+            if origin.is_asked(group):
+                self.groups[found.group(2)].append(group)
+            elif found.group(2) != "none":
+                raise Refused(f"the report can't be read: group {group} is in a conflict, and --focus leaves that group out")
+        if len(self.groups["some"]) == 1:
+            raise Refused("the report can't be read: one rule alone is in some conflicts; no file has such a report")
 
     def name(self, group):
         return self.origin.name_of(group)
@@ -65,20 +70,24 @@ class Roles:
 
 def as_text(roles, first=None):
     """The roles as a text; of each list the first ones alone, if so many are asked for."""
-    lines = [roles.title, "=" * len(roles.title), "", roles.summary(), *roles.origin.later_text()]
+    lines = [roles.title, "=" * len(roles.title), "", roles.summary()]
+    lines += ["", roles.origin.left_out()] if roles.origin.left_out() else []
+    lines += roles.origin.later_text()
     for heading, meaning, groups in roles.sections():
         lines += ["", heading, "-" * len(heading), "", meaning, ""]
         lines += [f"{group:5}  {roles.name(group)}" for group in groups[:first]]
         if first is not None and len(groups) > first:
             left = number_of(len(groups) - first, "more is", "more are")
             lines += ["", f"{left} left: --first {len(groups)} has all of them."]
+    lines += ["", roles.origin.made_of()] if roles.origin.made_of() else []
     return "".join(line + "\n" for line in lines)
 
 
 def as_json(roles):
     """The roles as JSON, a list of groups a line."""
-    head = {"version": VERSION, "file": roles.origin.name, "groups": sum(map(len, roles.groups.values())),
-            "names": {str(group): name for group, name in sorted(roles.origin.names.items())}, **roles.groups}
+    origin = roles.origin
+    head = {"version": VERSION, "file": origin.name, "sha256": origin.digest, "focus": origin.asked(), "groups": origin.groups,
+            "names": {str(group): name for group, name in sorted(origin.names.items())}, **roles.groups}
     return "{\n" + ",\n".join(f'"{key}": {json.dumps(value, ensure_ascii=False)}' for key, value in head.items()) + "\n}\n"
 
 
@@ -89,10 +98,10 @@ def as_html(roles):
              '<meta name="viewport" content="width=device-width, initial-scale=1">',
              f"<title>{text(roles.title)}</title>", f"<style>\n{part('page.css')}</style>", "</head>",
              "<body>", f"<h1>{text(roles.title)}</h1>", f"<p>{text(roles.summary())}</p>",
-             *later_parts(roles.origin)]
+             *notes_parts(roles.origin)]
     for heading, meaning, groups in roles.sections():
         lines += [f"<h2>{heading}</h2>", f"<p>{text(meaning)}</p>", "<table>",
                   '<tr class="head"><th class="n">no.</th><th>rule</th></tr>']
         lines += [f'<tr><td class="n">{group}</td><td>{text(cut(roles.name(group)))}</td></tr>' for group in groups]
         lines.append("</table>")
-    return "".join(line + "\n" for line in [*lines, "</body>", "</html>"])
+    return "".join(line + "\n" for line in [*lines, *made_of_parts(roles.origin), "</body>", "</html>"])

@@ -214,7 +214,7 @@ class Command(unittest.TestCase):
         self.assertEqual((done.returncode, done.stdout, done.stderr), (9, b"", b"evidence refused: line 30: 1 BadLine\n"))
 
     def test_what_is_no_evidence_is_told(self):
-        usage = "    tools/check_evidence.py FILE EVIDENCE\n"
+        usage = "    tools/check_evidence.py FILE EVIDENCE [--focus LIST]\n"
         with tempfile.TemporaryDirectory() as room:
             for text, why in (("x", "it does not begin with 'p gcnf' or 'p cnf'"),
                               ("p gcnf 1 1", "a number is missing in its header or in a clause"),
@@ -232,6 +232,16 @@ class Command(unittest.TestCase):
             self.told([room + "/x", room], 1, f"check_evidence.py: {room}/x: No such file or directory\n")
         for words in ([], ["a"], ["a", "b", "c"], ["-x", "b"]):
             self.told(words, 2, "check_evidence.py: a file and evidence about it are wanted\n" + usage)
+
+    def test_evidence_of_some_groups(self):
+        # Without group 2 the clauses 1, 3 and 4 are 1 to 3.
+        whole = b"p gmev 1 2 3 4\nu 1 3 4 0\nd 4 -3 -5 -6 0 1 2 3 0\nr 0 4\nw 1 0\nw 3 1 0\nw 4 1 2 0\ne partial\n"
+        report = b"p gmus 4\ns PARTIAL\nu 1 3 4 0\ne 1 0\n"
+        for words, wanted in ((["--focus", "4,3,1,9"], (0, report, b"")), ([], (9, b"", b"evidence refused: line 1: 4 OtherProblem\n")),
+                              (["--focus=1,2,3"], (9, b"", b"evidence refused: line 3: 12 NotFalse\n"))):
+            done = subprocess.run([sys.executable, os.path.join(TOOLS, "check_evidence.py"), os.path.join(EXAMPLES, "first.gcnf"), "/dev/stdin",
+                                   *words], input=whole, stdout=subprocess.PIPE, stderr=subprocess.PIPE)
+            self.assertEqual((done.returncode, done.stdout, done.stderr), wanted, words)
 
     def told(self, words, status, said):
         ended = subprocess.run([sys.executable, os.path.join(TOOLS, "check_evidence.py"), *words], stdout=subprocess.PIPE,

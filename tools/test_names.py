@@ -19,6 +19,8 @@ import names    # noqa: E402
 import report   # noqa: E402
 import telling  # noqa: E402
 
+# the first digits that sha256sum tells of a file of the one line p gcnf 0 0 0
+SUM = "232ad4fa62ef48fe"
 LAPTOP = os.path.join(EXAMPLES, "laptop.gcnf")
 LAPTOP_REPORT = os.path.join(EXAMPLES, "laptop.report")
 
@@ -75,6 +77,19 @@ class Reading(unittest.TestCase):
                 ("p gmus 2\ns COMPLETE\nm 1 1 0\ne 0 1\n", "line 3 is no set"),
                 (f"p gmus 1\ns COMPLETE\nm {'9' * 5000} 0\ne 0 1\n", "line 3 is no set"),
                 ("p gmus 1\ns COMPLETE\nm 0\ne 1 1\n", "its last line"),
+                ("p gmus 2\ns PARTIAL\nu 2 0\nu 1 0\ne 2 0\n", "line 4 stands out of order"),
+                ("p gmus 2\ns PARTIAL\nu 1 2 0\nu 1 0\ne 2 0\n", "line 4 stands out of order"),
+                ("p gmus 20\ns PARTIAL\nm 10 0\nm 9 0\ne 0 2\n", "line 4 stands out of order"),
+                ("p gmus 2\ns PARTIAL\nm 1 0\nu 1 0\ne 1 1\n", "line 4 stands out of order"),
+                ("p gmus 2\ns PARTIAL\nm 1 0\nm 1 0\ne 0 2\n", "line 4 stands there twice"),
+                ("p gmus 1\ns PARTIAL\nu 0\nu 1 0\ne 2 0\n", "'u 0' stands beside other sets"),
+                ("p gmus 1\ns COMPLETE\nu 0\nm 1 0\ne 1 1\n", "'u 0' stands beside other sets"),
+                ("p gmus 1\ns COMPLETE\nu 0\nm 0\ne 1 1\n", "'u 0' stands beside other sets"),
+                ("p gmus 1\ns PARTIAL\nm 0\nm 1 0\ne 0 2\n", "'m 0' stands beside other sets"),
+                ("p gmus 1\ns COMPLETE\nu 1 0\nm 0\ne 1 1\n", "'m 0' stands beside other sets"),
+                ("p gmus 1\ns COMPLETE\ne 0 0\n", "it is complete, and has no sets;"),
+                ("p gmus 1\ns COMPLETE\nu 1 0\ne 1 0\n", "it is complete, and has no corrections;"),
+                ("p gmus 1\ns COMPLETE\nm 1 0\ne 0 1\n", "it is complete, and has no conflicts;"),
         ):
             with self.assertRaises(telling.Refused, msg=text) as refused:
                 report.Report(text)
@@ -132,7 +147,7 @@ class Texts(unittest.TestCase):
     def test_json_has_these_keys_in_this_order(self):
         made = names.as_json(shown("p gmus 3\ns PARTIAL\nu 1 2 0\nu 3 0\nm 1 3 0\ne 2 1\n", "c group 1 \"ä\\b\"\nc group 0 all\n", "/a/b.gcnf"))
         self.assertEqual(json.loads(made, object_pairs_hook=lambda pairs: [list(pair) for pair in pairs]), [
-            ["version", 1], ["file", "b.gcnf"], ["complete", False], ["groups", 3], ["names", [["0", "all"], ["1", "\"ä\\b\""]]],
+            ["version", 1], ["file", "b.gcnf"], ["sha256", ""], ["focus", None], ["complete", False], ["groups", 3], ["names", [["0", "all"], ["1", "\"ä\\b\""]]],
             ["later", []], ["counts", [[["group", 1], ["conflicts", 1], ["corrections", 1]], [["group", 3], ["conflicts", 1], ["corrections", 1]],
                         [["group", 2], ["conflicts", 1], ["corrections", 0]]]],
             ["conflicts", [[3], [1, 2]]], ["corrections", [[1, 3]]]])
@@ -142,6 +157,20 @@ class Texts(unittest.TestCase):
             wanted = file.read().partition("### The report as JSON")[2].partition("```text\n")[2].partition("```")[0]
         first = os.path.join(EXAMPLES, "first")
         self.assertEqual(run(first + ".gcnf", first + ".report", "--json"), (0, wanted, ""))
+
+    def test_what_is_left_out_by_a_focus_is_told_so(self):
+        problem = "c group 2 a pen\nc group 4 ink\np gcnf 1 2 5\n"
+        text = "p gmus 5\ns COMPLETE\nu 1 3 0\nm 1 0\nm 3 0\ne 1 2\n"
+        found = report.named(report.Origin(problem, "f", focus={1, 3, 4, 9}), text)
+        made = names.as_text(found)
+        self.assertIn("\n\nIn none: ink.\n\nLeft out by --focus: a pen; group 5.\n\nConflicts\n", made)
+        self.assertEqual(json.loads(names.as_json(found))["focus"], [1, 3, 4])
+        self.assertNotIn("Left out", names.as_text(report.named(report.Origin(problem, "f", focus=set(range(1, 9))), text)))
+        with self.assertRaises(telling.Refused) as refused:
+            report.named(report.Origin(problem, "f", focus={1, 2}), text)
+        self.assertEqual(str(refused.exception), "the report can't be read: group 3 is in a set of it, and --focus leaves that group out")
+        many = report.named(report.Origin("p gcnf 1 1 99\n", "f", focus={1}), "p gmus 99\ns COMPLETE\nm 0\ne 0 1\n")
+        self.assertIn("\n\n98 rules are left out by --focus.\n", names.as_text(many))
 
     def test_what_came_to_always_is_told_with_its_rules(self):
         problem = ("c variable 1 x\np gcnf 2 5 3\n{0} 1 0\nc group 2 a pen\n{2} 2 0\nc always 3 x implies pen\n{2} -1 2 0\n"
@@ -197,6 +226,31 @@ class Program(unittest.TestCase):
             [["x holds", ["clause 1: 1"]], ["x does not hold", ["clause 2: not 1"]]],
             [["x holds", ["clause 1: 1"]], ["x implies y", ["clause 3: not 1 or 2"]], ["y does not hold", ["clause 4: not 2"]]]])
 
+    def test_it_says_of_which_file_it_was_made(self):
+        file = self.file("f.gcnf", b"p gcnf 0 0 0\n")
+        given = b"p gmus 0\ns COMPLETE\nm 0\ne 0 1\n"
+        self.assertEqual(run(file, given=given)[1].split("\n")[3:], [
+            "Nothing clashes: all rules fit together.", "", f"Made of f.gcnf, SHA-256 {SUM}.", ""])
+        self.assertEqual(json.loads(run(file, "--json", given=given)[1])["sha256"], SUM)
+        self.assertIn(f'<footer class="pale">Made of f.gcnf, SHA-256 {SUM}.</footer>\n</body>', run(file, "--html", given=given)[1])
+        roles = b"p roles 0\n"
+        self.assertTrue(run(file, given=roles)[1].endswith(f"\n\nMade of f.gcnf, SHA-256 {SUM}.\n"))
+        self.assertEqual(json.loads(run(file, "--json", given=roles)[1])["sha256"], SUM)
+        self.assertIn(f"Made of f.gcnf, SHA-256 {SUM}.</footer>", run(file, "--html", given=roles)[1])
+
+    def test_a_focus_on_the_command_line(self):
+        first = os.path.join(EXAMPLES, "first")
+        given = b"p gmus 4\ns COMPLETE\nu 1 2 0\nm 1 0\nm 2 0\ne 1 2\n"
+        for words in (["--focus", "2,1"], ["--focus=1,2"]):
+            status, made, said = run(first + ".gcnf", *words, given=given)
+            self.assertEqual((status, said), (0, ""))
+            self.assertIn("\nLeft out by --focus: x implies y; y does not hold.\n", made)
+        for words, told in ((["--focus"], "--focus has nothing behind it"), (["--focus", "1", "--focus", "1"], "--focus stands twice"),
+                            (["--focus", "0"], "--focus 0: numbers from 1 to 4294967295 have to stand here, with commas between them"),
+                            (["--focus", "1, 2"], "--focus 1, 2: numbers from 1")):
+            status, made, said = run(first + ".gcnf", *words, given=given)
+            self.assertEqual((status, made, said.startswith("names.py: " + told)), (2, "", True), said)
+
     def test_bytes_that_are_no_text_are_marked(self):
         file = self.file("f", b"\xef\xbb\xbfc group 1 Gr\xfc\xdfe\np gcnf 1 1 1\n")
         self.assertIn("Giving up Gr\ufffd\ufffde alone", run(file, given=b"p gmus 1\ns COMPLETE\nu 1 0\nm 1 0\ne 1 1\n")[1])
@@ -249,7 +303,7 @@ class Program(unittest.TestCase):
         for words, wanted in (([], 2), (["--first", "21"], 0)):
             child = subprocess.Popen([sys.executable, os.path.join(TOOLS, "names.py"), problem, found, *words], stdout=theirs)
             text = b""
-            while not text.endswith(b"group 21 can't be kept, whatever else is given up.\r\n") and text.count(b"left:") < 2:
+            while b"Made of " not in text or not text.endswith(b"\n"):
                 text += os.read(ours, 65536)
             self.assertEqual((child.wait(), text.count(b"1 more is left: --first 21 has all of them.")), (0, wanted), words)
         os.close(ours)

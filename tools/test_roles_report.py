@@ -55,6 +55,19 @@ class Roles(unittest.TestCase):
             "", "What came to [always] since stands with the rules that need it:", "  line 3, with a <touch> screen: a implies b"])
         self.assertIn("<li>line 3, with a &lt;touch&gt; screen: a implies b</li>", roles_report.as_html(roles(file=file)))
 
+    def test_what_is_left_out_by_a_focus_is_in_no_list(self):
+        found = roles_report.Roles(Origin(NAMES, "f", focus={1, 2, 3}), ROLES)
+        self.assertEqual(roles_report.as_text(found).split("\n")[3:7], [
+            "1 rule in every conflict, 2 rules in some, 0 rules in none.", "", "Left out by --focus: group 4.", ""])
+        self.assertEqual([json.loads(roles_report.as_json(found))[key] for key in ("focus", "groups", "none")], [[1, 2, 3], 4, []])
+        self.assertIn("<p>Left out by --focus: group 4.</p>", roles_report.as_html(found))
+        with self.assertRaisesRegex(Refused, "group 3 is in a conflict, and --focus leaves that group out"):
+            roles_report.Roles(Origin(NAMES, "f", focus={1, 2}), ROLES)
+
+    def test_one_rule_alone_is_not_in_some_conflicts(self):
+        with self.assertRaisesRegex(Refused, "one rule alone is in some conflicts; no file has such a report"):
+            roles(ROLES.replace("2 some", "2 none"))
+
     def test_a_list_that_has_none_is_left_out(self):
         self.assertEqual(roles_report.as_text(roles("p roles 2\nr 1 none\nr 2 none\n", "p cnf 1 2\n")).split("\n")[3:], [
             "No rule is in a conflict: all rules fit together, unless the background clashes with itself.", "", "In no conflict",
@@ -63,7 +76,7 @@ class Roles(unittest.TestCase):
 
     def test_as_json(self):
         self.assertEqual(json.loads(roles_report.as_json(roles())), {
-            "version": 1, "file": "f.gcnf", "groups": 4, "names": {"1": "a <touch> screen", "3": "no fan"},
+            "version": 1, "file": "f.gcnf", "sha256": "", "focus": None, "groups": 4, "names": {"1": "a <touch> screen", "3": "no fan"},
             "every": [1], "some": [2, 3], "none": [4]})
 
     def test_as_a_page(self):
@@ -87,7 +100,7 @@ class Roles(unittest.TestCase):
         self.assertEqual((status, said, output.split("\n")[3]), (0, "", "0 rules in every conflict, 7 rules in some, 0 rules in none."))
         self.assertIn("    6  the large battery\n", output)
         self.assertEqual(run(LAPTOP, "--fail-on-conflict", given=report)[0], 3)
-        self.assertEqual(run(LAPTOP, "--json", given=report)[1].count("\n"), 9)
+        self.assertEqual(run(LAPTOP, "--json", given=report)[1].count("\n"), 11)
         self.assertTrue(run(LAPTOP, "--html", given=report)[1].startswith("<!DOCTYPE html>"))
         self.assertEqual(run(LAPTOP, "--html", "--why", "e", given=report)[::2], (
             1, "names.py: --why: a report of roles has no conflicts to open\n"))

@@ -19,8 +19,9 @@ from telling import Refused, WrongWords  # noqa: E402
 
 BUILT = os.environ.get("GMUS") or os.path.join(TOP, "crates", "gmus", "out", "gmus")
 
-# It knows a problem of 50 conflicts, each of one group. It notes its words, writes evidence of as many conflicts as the limit
-# allows, beside its name as gmus does, and ends as gmus does, but at a limit with a status that it was told, or never.
+# It knows a problem of 50 conflicts, each of one group, and so of one correction. It notes its words, writes evidence of as many
+# conflicts as the limit allows, beside its name as gmus does, and ends as gmus does, but at a limit with a status that it was told,
+# or never.
 FAKE = f"""#!{sys.executable} -SE
 import os, re, sys, time
 words = sys.argv[1:]
@@ -45,12 +46,13 @@ if told.get("fails") == str(limit):
     print("gmus: out of memory", file=sys.stderr)
     sys.exit(8)
 found = min(limit, 50)
-lines = [f"u {{group}} 0" for group in sorted(range(1, 51), key=str)[:found]]
+lines = [f"u {{group}} 0" for group in range(1, found + 1)]
+spent = told.get("spends") == str(limit)
+lines += [] if limit <= 50 or spent else [f"m {{' '.join(map(str, range(1, 51)))}} 0"]
 evidence.write("".join(f"{{line}}\\nd 51 0 1 0\\nr 0 51\\nw 1 0\\n" for line in lines) + "e partial\\n")
 evidence.close()
 os.rename(beside, value("--evidence"))
-spent = told.get("spends") == str(limit)
-print("\\n".join(["p gmus 50", "s PARTIAL" if limit <= 50 or spent else "s COMPLETE", *lines, f"e {{found}} 0"]))
+print("\\n".join(["p gmus 50", "s PARTIAL" if limit <= 50 or spent else "s COMPLETE", *lines, f"e {{found}} {{len(lines) - found}}"]))
 if spent:
     print("gmus: budget of 7 conflicts spent", file=sys.stderr)
     sys.exit(3)
@@ -103,11 +105,11 @@ class Rounds(Room):
             "80 --evidence f.gcnf.evidence.N.new --resume f.gcnf.evidence")))
         self.assertEqual(self.files(), ["f.gcnf.evidence", "page.html"])
         for line in ("up to 20 sets, after ", "20 conflicts and 0 corrections were found.", "    new conflict: the <first> rule\n",
-                     "    new conflict: group 10\n", "    and 17 more new conflicts\n", "    and 7 more new conflicts\n",
-                     "50 conflicts and 0 corrections. The report is complete: there are no others.", "f.gcnf.evidence has 50 sets."):
+                     "    new conflict: group 2\n", "    and 17 more new conflicts\n", "    and 7 more new conflicts\n",
+                     "50 conflicts and 1 correction. The report is complete: there are no others.", "f.gcnf.evidence has 51 sets."):
             self.assertIn(line, output)
         self.assertNotIn("To go on", output)
-        self.assertIn("50 conflicts and 0 corrections. The report is complete", self.read("page.html"))
+        self.assertIn("50 conflicts and 1 correction. The report is complete", self.read("page.html"))
 
     def test_how_rounds_end(self):
         for told, words, wanted, limits, said, go_on in (
@@ -165,7 +167,7 @@ class Rounds(Room):
                 (["--html"], WrongWords, "--html has nothing behind it"),
                 (["a", "b"], WrongWords, "b can't stand here; words of gmus stand behind --"),
                 (["a", "--jobs", "2"], WrongWords, "--jobs can't stand here; words of gmus stand behind --"),
-                (["a", "--", "--resume", "e"], WrongWords, "--resume can't stand behind --: --jobs, --conflicts, --limit, --evidence may"),
+                (["a", "--", "--resume", "e"], WrongWords, "--resume can't stand behind --: --jobs, --conflicts, --limit, --evidence, --focus may"),
                 (["a", "--", "--jobs"], WrongWords, "--jobs has nothing behind it"),
                 (["a", "--", "--limit", "0"], WrongWords, "--limit 0: a number from 1 to 1000000000 has to stand here"),
                 (["a", "--", "--limit", "1", "--limit=2"], WrongWords, "--limit stands twice"),
@@ -175,6 +177,8 @@ class Rounds(Room):
                 ([file, "--", "--evidence", "/dev/null"], Refused, "/dev/null: this is no plain file"),
                 ([file, "--journal"], WrongWords, "--journal has nothing behind it"),
                 ([file, "--once"], WrongWords, "--once is for --journal"),
+                ([file, "--focus", "1"], WrongWords, "--focus stands before -- with --journal alone"),
+                ([file, "--", "--focus", "1,"], WrongWords, "--focus 1,: numbers from 1 to 4294967295 have to stand here"),
                 ([file, "--journal", "j", "--", "--jobs", "2"], WrongWords, "nothing is called with --journal"),
                 ([file, "--journal", file], Refused, f"{file}, {file}: two of these are one file"),
                 ([file, "--journal", "j", "--html", "j"], Refused, f"{file}, j, j: two of these are one file"),
@@ -200,9 +204,15 @@ def frame(text):
 class Journals(Room):
     """Journals are read; the program is never called."""
 
-    FIRST = frame(b"u 1 2 0\nd 51 -51 -52 0 1 2 0\nr 0 51\nw 1 0\nw 2 0\n")
-    SECOND = frame(b"m 2 0\nw 0 0\nd 51 -51 0 1 0\nr 2 51\n")
-    THIRD = frame(b"u 2 3 0\n")
+    # The clauses 1: x, 2: not x, 3: x, of the groups 1 to 3 of 50. Their conflicts are 1 2 and 2 3, their corrections 1 3 and 2.
+    PROBLEM = "c group 1 the <first> rule\np gcnf 1 3 50\n{1} 1 0\n{2} -1 0\n{3} 1 0\n"
+    FIRST = frame(b"u 1 2 0\nd 4 -2 -3 0 1 2 0\nr 0 4\nw 1 0\nw 2 1 0\n")
+    SECOND = frame(b"m 2 0\nw 0 1 0\nd 4 -2 -3 0 1 2 0\nr 2 4\n")
+    THIRD = frame(b"u 2 3 0\nd 4 -3 -4 0 3 2 0\nr 0 4\nw 2 1 0\nw 3 0\n")
+
+    def setUp(self):
+        super().setUp()
+        self.write("f.gcnf", self.PROBLEM)
 
     def hold(self, held):
         with open(self.at("j"), "wb") as file:
@@ -211,7 +221,7 @@ class Journals(Room):
     def test_whole_frames_alone_are_shown_once(self):
         whole = self.FIRST + self.SECOND
         for held, found in ((b"", "0 conflicts and 0 corrections"), (b"\0", "0 conflicts and 0 corrections"),
-                            (b"u 1 0", "0 conflicts and 0 corrections"), (self.FIRST + b"\0", "1 conflict and 0 corrections"),
+                            (b"\0u 1 0", "0 conflicts and 0 corrections"), (self.FIRST + b"\0", "1 conflict and 0 corrections"),
                             (whole + b"\0", "1 conflict and 1 correction"), (whole + b"\0" + self.THIRD, "1 conflict and 1 correction"),
                             (whole + b"\2", "1 conflict and 1 correction"), (whole + self.THIRD[:-1], "1 conflict and 1 correction"),
                             (whole + self.THIRD, "1 conflict and 1 correction"), (whole + b"\1", "1 conflict and 1 correction"),
@@ -224,23 +234,47 @@ class Journals(Room):
         self.assertEqual(self.files(), ["j"])
 
     def test_names_and_the_page(self):
-        self.hold(self.FIRST + self.THIRD + self.SECOND + frame(b"m 0\nw 0 0\n") + b"\0")
+        self.hold(self.FIRST + self.THIRD + self.SECOND + frame(b"m 1 3 0\n") + b"\0")
         status, output, said = self.watch("f.gcnf", "--journal=j", "--once", "--html=page.html")
         self.assertEqual((status, said, output.split("\n")), (0, "", [
-            "2 conflicts and 2 corrections are there", "    newest correction: the empty one", "    newest correction: group 2",
+            "2 conflicts and 2 corrections are there", "    newest correction: the <first> rule; group 3", "    newest correction: group 2",
             "    newest conflict: group 2; group 3",
             "    in most conflicts: group 2 (2); the <first> rule (1); group 3 (1)", ""]))
         self.assertIn("What clashes in f.gcnf", self.read("page.html"))
         self.assertEqual(self.files(), ["j", "page.html"])
 
-    def test_what_is_no_record(self):
-        for text in (b"", b"u 1 0", b"x 1 0\n", b"u 51 0\n", b"u 01 0\n", b"e partial\n"):
-            self.hold(self.FIRST + frame(text) + b"\0")
+    def test_where_nothing_clashes_there_is_the_empty_correction(self):
+        self.write("f.gcnf", "p gcnf 0 0 0\n")
+        self.hold(frame(b"m 0\nw 0 0\n") + b"\0")
+        self.assertEqual(self.watch("f.gcnf", "--journal", "j", "--once"), (
+            0, "0 conflicts and 1 correction are there\n    newest correction: the empty one\n", ""))
+
+    def test_what_is_no_journal_of_the_problem(self):
+        no_record = f"at byte {len(self.FIRST)} it has what is no record of a journal"
+        other = "the record at byte {} belongs to another problem, or to another focus: {}"
+        for held, told in (
+                *((self.FIRST + frame(text) + b"\0", no_record) for text in (b"", b"u 1 0", b"x 1 0\n", b"u 01 0\n", b"e partial\n")),
+                (self.FIRST + frame(b"u 51 0\n") + b"\0", other.format(len(self.FIRST), "it has a group above 50")),
+                (frame(b"u 1 2 0\nd 3 -2 -3 0 1 2 0\nr 0 3\nw 1 0\nw 2 1 0\n") + b"\0", other.format(0, "by f.gcnf, line 2: 14 IdNotRising")),
+                (frame(b"u 1 3 0\nd 4 -2 -4 0 1 3 0\nr 0 4\nw 1 0\nw 3 1 0\n") + b"\0", other.format(0, "by f.gcnf, line 2: 12 NotFalse")),
+                (self.SECOND + self.FIRST + self.SECOND + b"\0",
+                 f"the record at byte {len(self.SECOND + self.FIRST)} has a set that stood before, as in no journal of one problem"),
+                (b"u 1 2 0\n", "this is no journal, and a run that is told to keep one here writes over it"),
+                (b"\2", "this is no journal, and a run that is told to keep one here writes over it"),
+        ):
+            self.hold(held)
             status, output, said = self.watch("f.gcnf", "--journal", "j", "--once")
-            self.assertEqual((status, output, said), (
-                1, "", f"watch.py: j: at byte {len(self.FIRST)} it has what is no record of a journal\n"), text)
+            self.assertEqual((status, output, said), (1, "", f"watch.py: j: {told}\n"), held)
         status, output, said = self.watch("f.gcnf", "--journal", "none", "--once")
         self.assertEqual((status, output, said), (1, "", "watch.py: none: No such file or directory\n"))
+
+    def test_a_journal_of_some_groups(self):
+        # Without group 1 the clauses are two, so step 3 is behind them.
+        self.hold(frame(b"u 2 3 0\nd 3 -3 -4 0 2 1 0\nr 0 3\nw 2 1 0\nw 3 0\n") + b"\0")
+        self.assertEqual(self.watch("f.gcnf", "--journal", "j", "--once")[0], 1)
+        status, output, said = self.watch("f.gcnf", "--journal", "j", "--once", "--focus", "3,2", "--html", "page")
+        self.assertEqual((status, said, output.split("\n")[1]), (0, "", "    newest conflict: group 2; group 3"))
+        self.assertIn("48 rules are left out by --focus.", self.read("page"))
 
     def test_it_follows_until_an_interrupt(self):
         child = self.start("f.gcnf", "--journal", "j")
@@ -278,6 +312,16 @@ class Built(Room):
             wanted = report.read()
         checked = subprocess.run([BUILT, "check", "f.gcnf", "f.gcnf.evidence"], cwd=self.room, stdout=subprocess.PIPE)
         self.assertEqual((checked.returncode, checked.stdout.decode()), (0, wanted))
+
+    def test_it_asks_about_some_groups(self):
+        shutil.copy(os.path.join(TOP, "examples", "laptop.gcnf"), self.at("f.gcnf"))
+        status, output, said = self.watch("f.gcnf", "--html", "page", "--", "--focus", "5,3,1", program=BUILT)
+        self.assertEqual((status, said), (0, ""))
+        self.assertIn("1 conflict and 2 corrections. The report is complete", output)
+        self.assertIn("Left out by --focus: a matte screen; no fan;", self.read("page"))
+        told = output.split("To read them: ")[1].strip()
+        checked = subprocess.run(["sh", "-c", told], cwd=self.room, stdout=subprocess.PIPE, check=True).stdout.decode()
+        self.assertIn("1.    a graphics card\n      the light case\n", checked)
 
     def test_what_it_refuses_is_told_by_its_own_line(self):
         for held, status, wanted in (("p gcnf x", 5, "gmus: input refused: 2 BadHeader"), (None, 6, "gmus: read fault on input")):

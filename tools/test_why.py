@@ -198,7 +198,7 @@ class Followed(unittest.TestCase):
 class Told(unittest.TestCase):
     def test_text_has_the_lines_as_they_were_written(self):
         of = problem(RULED, "folder/x.gcnf")
-        self.assertEqual(why.as_text(why.Page(of, evidence(RULED_EVIDENCE, of), None)), """\
+        self.assertEqual(why.as_text(why.Page(of, evidence(RULED_EVIDENCE, of), None, "0123456789abcdef")), """\
 What makes the rules of x.gcnf clash
 ====================================
 
@@ -215,7 +215,23 @@ the first
     line 5  x
 the <second>
     line 7  not "a y"
+
+Made of x.gcnf, SHA-256 0123456789abcdef.
 """)
+
+    def test_evidence_of_some_groups(self):
+        # Without group 1 the clauses 2 to 4 are 1 to 3.
+        text = "p gmev 1 2 3 4\nu 3 4 0\nd 4 -1 -5 -6 0 2 3 0\nr 0 4\nw 3 0\nw 4 0\ne partial\n"
+        of = why_problem.Problem(io.BytesIO(PLAIN.replace("{2} -1", "{0} 1").encode()), "f", {3, 4})
+        with self.assertRaisesRegex(telling.Refused, "17 NotRefuting"):
+            list(why.reasons(of, evidence(text, of)))
+        text = text.replace("d 4 -1 -5 -6 0 2 3 0", "d 4 -5 -6 0 1 2 3 0")
+        self.assertEqual([reason.parts for reason in why.reasons(of, evidence(text, of))], [
+            [(0, [("clause 2", "1")]), (3, [("clause 3", "not 1 or 2")]), (4, [("clause 4", "not 2")])]])
+        for whole, told in ((problem(PLAIN), ""), (why_problem.Problem(io.BytesIO(PLAIN.encode()), "f", {1, 2}), " with this focus")):
+            with self.assertRaises(telling.Refused) as refused:
+                evidence(text, whole)
+            self.assertEqual(str(refused.exception), "e: line 1: 4 OtherProblem: this is no evidence about f" + told)
 
     def test_clauses_of_others_are_told_with_the_names_of_their_variables(self):
         without = "".join(line + "\n" for line in RULED.split("\n")[:-1] if not line.startswith("c rule"))
@@ -233,7 +249,7 @@ the <second>
     def test_page_is_escaped_closes_what_it_opens_and_stands_by_itself(self):
         bad = "</script><script>alert(1)</script> & \"x\" '"
         of = problem(RULED.replace("the <second>", bad).replace("5 x", "5 " + bad), bad)
-        made = why.as_html(why.Page(of, evidence(RULED_EVIDENCE, of), 1))
+        made = why.as_html(why.Page(of, evidence(RULED_EVIDENCE, of), 1, "0123456789abcdef"))
         opened = []
 
         class Reader(html.parser.HTMLParser):
@@ -248,11 +264,11 @@ the <second>
         self.assertEqual(opened, [])
         for word in ("<script", "</script", "http", "src="):
             self.assertNotIn(word, made)
-        self.assertEqual(made.count(html.escape(bad)), 3)   # heading, group and line; the title has its last part alone
+        self.assertEqual(made.count(html.escape(bad)), 3)   # heading, group and line; the title and the last line have its last part alone
 
     def test_how_it_ends(self):
         laptop = os.path.join(EXAMPLES, "laptop.gcnf")
-        usage = b"    gmus list FILE --evidence EVIDENCE\n    tools/why.py FILE EVIDENCE [N] [--html]\n"
+        usage = b"    gmus list FILE --evidence EVIDENCE\n    tools/why.py FILE EVIDENCE [N] [--html] [--focus LIST]\n"
         with tempfile.TemporaryDirectory() as folder:
             cut = os.path.join(folder, "cut")
             with open(EVIDENCE, "rb") as whole, open(cut, "wb") as part:

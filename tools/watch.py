@@ -2,7 +2,7 @@
 """Lists the conflicts and the corrections of a file in rounds, and shows after each what was found.
 
     tools/watch.py FILE [--html PAGE] [-- WORDS]
-    tools/watch.py FILE --journal NAME [--once] [--html PAGE]
+    tools/watch.py FILE --journal NAME [--once] [--html PAGE] [--focus LIST]
 
 The first round lists up to 20 sets, the next up to 40, then 80 and so on, until none is missing. After each round there are
 the counts, the time and some of the newest sets with their names; with --html the PAGE is written anew.
@@ -18,11 +18,13 @@ WORDS may be, as gmus has them:
 --conflicts B   how many clauses each round may learn
 --limit L       the limit of the last round; without it there is none
 --evidence NAME
+--focus LIST    the groups that the question is about
 
 With --journal nothing is called. NAME is a journal of records (docs/FORMATS.md, 'The journal'), which another run writes by
 `gmus list FILE --journal NAME`: it is read, never changed, and what it has is shown whenever it has more, with the sets a
 minute since the first look, the newest ones and the groups in most conflicts; with --html the PAGE is then written anew. That
-goes on until an interrupt; with --once it is shown once.
+goes on until an interrupt; with --once it is shown once. A journal of another problem, or of other groups in focus than those
+of LIST, is refused, and so is a file that is no journal.
 
 The status at the end is the program's own, and its line stands on standard error: 0 if no set is missing, 3 if a round learnt
 as many clauses as it may, 4 if the last limit was reached, and all others. It is 1 if watch.py refuses something, 2 if the
@@ -39,7 +41,7 @@ import time
 
 import page
 import program
-from report import Origin, decoded, named, number_of
+from report import decoded, named, number_of, origin_of
 from telling import Refused, bytes_of, run
 from watch_journal import JournalWatch
 from watch_words import MOST, Words
@@ -189,7 +191,7 @@ class Watch:
     def keep(self, limit, output):
         """Has a round's evidence take the place of the one before, and shows what it found."""
         if self.origin is None:
-            self.origin = Origin(decoded(bytes_of(self.asked.file)), self.asked.file)
+            self.origin = origin_of(bytes_of(self.asked.file), self.asked.file, self.asked.focus)
         shown = named(self.origin, output)
         with open(self.new, "rb") as evidence:
             os.fsync(evidence.fileno())
@@ -227,8 +229,9 @@ class Watch:
             tell(f"watch.py: {asked.evidence} was refused, and is left as it is. Another can be named: -- --evidence NAME")
             return status
         if os.path.exists(asked.evidence):
-            see = [shlex.join([program.command(), "check", asked.file, asked.evidence]),
-                   shlex.join([os.path.join(os.path.dirname(sys.argv[0]), "names.py"), asked.file])]
+            focus = ["--focus", asked.options["--focus"]] if "--focus" in asked.options else []
+            see = [shlex.join([program.command(), "check", asked.file, asked.evidence, *focus]),
+                   shlex.join([os.path.join(os.path.dirname(sys.argv[0]), "names.py"), asked.file, *focus])]
             print(f"{asked.evidence} has {number_of(len(self.known), 'set', 'sets')}. To read them: {' | '.join(see)}")
         go_on = self.going_on(status)
         if go_on:

@@ -6,8 +6,9 @@ import os
 import re
 import time
 
+import check_evidence
 import page
-from report import Origin, decoded, named, number_of
+from report import decoded, named, number_of, origin_of
 from telling import DONE, Refused, bytes_of
 
 OPEN = 1
@@ -18,21 +19,24 @@ NEWEST, MOST_TOLD, WIDTH = 3, 5, 200
 PAUSE = 1.0
 # Looking and writing take this part of the time at most.
 SHARE = 0.2
+# Of a larger file it isn't tried whether the first record is one of it, which is plain and slow.
+LARGE = 20_000_000
 
 
 class Foreign(Exception):
-    """The place at which a journal has what no run writes."""
+    """Why a file is no journal of a problem."""
 
 
 class Journal:
-    """A journal as it is read from its beginning on: `sets` are the lines of its sets, in order."""
+    """A journal as it is read from its beginning on: `sets` are the lines of its sets, in order. `refusal_of` is asked why a
+    record is none of the problem, and gives None if it is one."""
 
-    def __init__(self, name, groups):
-        self.name, self.groups = name, groups
+    def __init__(self, name, groups, refusal_of):
+        self.name, self.groups, self.refusal_of = name, groups, refusal_of
         self.begin()
 
     def begin(self):
-        self.gate, self.sets, self.first = 0, [], b""
+        self.gate, self.sets, self.first, self.seen = 0, [], b"", set()
 
     def look(self):
         """Reads what came since the last look, and tells whether anything did. It is read anew if it was begun anew."""
@@ -41,6 +45,8 @@ class Journal:
             begins = file.read(64)
             if os.fstat(file.fileno()).st_size < self.gate or not begins.startswith(self.first):
                 self.begin()
+            if begins[:1] not in (b"", b"\0", bytes([OPEN])):
+                raise Foreign("this is no journal, and a run that is told to keep one here writes over it")
             while self.read_frame(file):
                 pass
             file.seek(0)
@@ -57,12 +63,25 @@ class Journal:
         left = os.fstat(file.fileno()).st_size - self.gate - 1 - LENGTH
         if len(length) < LENGTH or size >= left:
             return False
-        line = SET_LINE.match(file.read(size))
-        if not line or any(int(group) > self.groups for group in line.group(2).split()):
-            raise Foreign(self.gate)
-        self.sets.append(line.group().rstrip(b"\n").decode("ascii"))
+        self.sets.append(self.set_in(file.read(size)))
         self.gate += 1 + LENGTH + size
         return True
+
+    def set_in(self, text):
+        """The line of the set of a record."""
+        found = SET_LINE.match(text)
+        if not found:
+            raise Foreign(f"at byte {self.gate} it has what is no record of a journal")
+        line = found.group().rstrip(b"\n").decode("ascii")
+        refusal = None if self.sets else self.refusal_of(text)
+        if any(int(group) > self.groups for group in found.group(2).split()):
+            refusal = f"it has a group above {self.groups}"
+        if refusal:
+            raise Foreign(f"the record at byte {self.gate} belongs to another problem, or to another focus: {refusal}")
+        if line in self.seen:
+            raise Foreign(f"the record at byte {self.gate} has a set that stood before, as in no journal of one problem")
+        self.seen.add(line)
+        return line
 
 
 class JournalWatch:
@@ -70,10 +89,24 @@ class JournalWatch:
 
     def __init__(self, asked, stop, write_whole):
         self.asked, self.stop, self.write_whole = asked, stop, write_whole
-        self.origin = Origin(decoded(bytes_of(asked.file)), asked.file)
+        held = bytes_of(asked.file)
+        self.origin = origin_of(held, asked.file, asked.focus)
         self.origin.want_header()
-        self.journal = Journal(asked.journal, self.origin.groups)
+        self.journal = Journal(asked.journal, self.origin.groups, lambda text: self.refusal_of(held, text))
         self.began, self.at_first, self.known = None, None, 0
+
+    def refusal_of(self, held, text):
+        """Why a record is none of the file's problem, or None if it is one, or the file is large."""
+        if len(held) > LARGE:
+            return None
+        problem = check_evidence.problem_in(held.decode("latin-1"), self.asked.file)
+        if self.asked.focus is not None:
+            problem.narrow(self.asked.focus)
+        try:
+            check_evidence.check_alone(problem, text)
+        except check_evidence.Refused as why:
+            return f"by {self.asked.file}, {why}"
+        return None
 
     def looks(self):
         """Looks again and again until it is interrupted, or once if so asked, and gives the status."""
@@ -98,13 +131,14 @@ class JournalWatch:
             if self.asked.once:
                 raise
             return
-        except Foreign as at:
-            raise Refused(f"{self.asked.journal}: at byte {at} it has what is no record of a journal") from None
+        except Foreign as why:
+            raise Refused(f"{self.asked.journal}: {why}") from None
         if not came and self.at_first is not None:
             return
         sets = self.journal.sets
         self.known = min(self.known, len(sets))
-        report = "\n".join([f"p gmus {self.journal.groups}", "s PARTIAL", *sets,
+        in_order = sorted(sets, key=lambda line: (line[0] == "m", [int(word) for word in line[2:-2].split()]))
+        report = "\n".join([f"p gmus {self.journal.groups}", "s PARTIAL", *in_order,
                             f"e {sum(line[0] == 'u' for line in sets)} {sum(line[0] == 'm' for line in sets)}", ""])
         shown = named(self.origin, report)
         self.show(shown, sets[self.known:])

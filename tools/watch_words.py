@@ -3,6 +3,7 @@ import os
 import shlex
 import sys
 
+from focus import groups_in
 from telling import Refused, WrongWords
 
 # The greatest limit that the program takes. If none is given, it is this one.
@@ -12,11 +13,11 @@ MOST = 10 ** 9
 class Words:
     """The words of the command line."""
 
-    MAY_STAND = ("--jobs", "--conflicts", "--limit", "--evidence")
+    MAY_STAND = ("--jobs", "--conflicts", "--limit", "--evidence", "--focus")
 
     def __init__(self, words):
         at = words.index("--") if "--" in words else len(words)
-        self.file, self.page, self.journal, self.once = None, None, None, False
+        self.file, self.page, self.journal, self.once, self.focus = None, None, None, False, None
         before = list(words[:at])
         while before:
             word = before.pop(0)
@@ -25,6 +26,8 @@ class Words:
                 self.page = value_of(word, before)
             elif option == "--journal":
                 self.journal = value_of(word, before)
+            elif option == "--focus":
+                self.focus = groups_in(value_of(word, before))
             elif word == "--once":
                 self.once = True
             elif word.startswith("-") or self.file is not None:
@@ -35,9 +38,11 @@ class Words:
             raise WrongWords("a FILE has to be named")
         if self.journal is not None and at < len(words):
             raise WrongWords("nothing is called with --journal: no words of gmus can stand behind --")
-        if self.once and self.journal is None:
-            raise WrongWords("--once is for --journal")
+        if (self.once or self.focus is not None) and self.journal is None:
+            raise WrongWords("--once is for --journal" if self.once else "--focus stands before -- with --journal alone")
         self.options = self.read_options(list(words[at + 1:]))
+        if "--focus" in self.options:
+            self.focus = groups_in(self.options["--focus"])
         self.evidence = self.options.pop("--evidence", None) or self.file + ".evidence"
         limit = self.options.pop("--limit", str(MOST))
         if not (limit.isascii() and limit.isdecimal() and len(limit) <= 18 and 1 <= int(limit) <= MOST):

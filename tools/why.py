@@ -2,9 +2,10 @@
 """Says why rules clash: on which of their lines the refutation of a conflict rests.
 
     gmus list FILE --evidence EVIDENCE
-    tools/why.py FILE EVIDENCE [N] [--html]
+    tools/why.py FILE EVIDENCE [N] [--html] [--focus LIST]
 
-FILE is the GCNF or CNF file, EVIDENCE what gmus wrote about it (- is standard input). N is the number of a conflict in the
+FILE is the GCNF or CNF file, EVIDENCE what gmus wrote about it (- is standard input); with --focus LIST, as it stood behind
+`gmus list` too, about the groups of that list. N is the number of a conflict in the
 report's order; without it all are told. What is written is a text, or with --html a page that stands by itself.
 
 For a conflict come the lines of its rules, as they were written, and those that hold anyway: all together they can't hold. In
@@ -18,6 +19,8 @@ import os
 import sys
 
 import telling
+from focus import without_focus
+from report import digest_of
 from telling import Refused, WrongWords, plain
 from why_evidence import Evidence
 from why_problem import Problem
@@ -45,11 +48,13 @@ def reasons(problem, evidence, number=None):
 class Page:
     """The parts of a page, in words that the text and the HTML share."""
 
-    def __init__(self, problem, evidence, number):
+    def __init__(self, problem, evidence, number, digest):
+        self.digest = digest
         self.problem = problem
         self.count = len(evidence.conflicts)
         self.is_complete = evidence.is_complete
-        self.title = f"What makes the rules of {plain(os.path.basename(problem.source))} clash"
+        self.file = plain(os.path.basename(problem.source))
+        self.title = f"What makes the rules of {self.file} clash"
         self.reasons = reasons(problem, evidence, number)
 
     def summary(self):
@@ -57,6 +62,10 @@ class Page:
             return "No conflict stands in this evidence."
         found = "1 conflict" if self.count == 1 else f"{self.count} conflicts"
         return f"{found}." if self.is_complete else f"{found}. The evidence is partial: there may be others."
+
+    def made_of(self):
+        """Of which file this was made."""
+        return f"Made of {self.file}, SHA-256 {self.digest}."
 
     def heading(self, reason):
         names = "; ".join(map(self.problem.name, reason.groups)) or "what always holds clashes with itself"
@@ -76,7 +85,7 @@ def as_text(page):
         for part in reason.parts:
             lines.append(page.part_name(part))
             lines += [f"    {place:{width}}  {text}" for place, text in part.lines]
-    return "\n".join(lines) + "\n"
+    return "\n".join([*lines, "", page.made_of()]) + "\n"
 
 
 STYLE = """
@@ -84,7 +93,7 @@ body { font: 16px/1.45 system-ui, sans-serif; max-width: 52rem; margin: 2rem aut
 body { color: #222; background: #fff }
 h1 { font-size: 1.5rem } h2 { font-size: 1.2rem; margin-top: 2rem } h1, h2, dt, code { overflow-wrap: anywhere }
 dt { font-weight: 600; margin-top: .6rem } dd { margin: .1rem 0 .1rem 1.2rem } code { white-space: pre-wrap }
-dd span { color: #666; display: inline-block; min-width: 5.5rem }
+footer { color: #666; margin-top: 2rem } dd span { color: #666; display: inline-block; min-width: 5.5rem }
 @media print { body { margin: 0; max-width: none; font-size: 11pt } section { break-inside: avoid } }
 """
 
@@ -104,7 +113,7 @@ def as_html(page):
             parts.append(f"<dt>{text(page.part_name(part))}</dt>")
             parts += [f"<dd><span>{text(place)}</span> <code>{text(line)}</code></dd>" for place, line in part.lines]
         parts += ["</dl>", "</section>"]
-    return "\n".join(parts + ["</body>", "</html>"]) + "\n"
+    return "\n".join([*parts, f"<footer>{text(page.made_of())}</footer>", "</body>", "</html>"]) + "\n"
 
 
 def opened(name):
@@ -125,6 +134,7 @@ def number_in(words):
 
 
 def main(words):
+    words, focus = without_focus(words)
     options = [word for word in words if word.startswith("-") and word != "-"]
     if set(options) - {"--html"}:
         raise WrongWords(f"what is {options[0]}?")
@@ -133,12 +143,14 @@ def main(words):
         raise WrongWords("a file and evidence about it are wanted")
     number = number_in(files[2:])
     with opened(files[0]) as file:
-        problem = Problem(file, files[0])
+        digest = digest_of(file.read())
+        file.seek(0)
+        problem = Problem(file, files[0], focus)
     with opened(files[1]) as file:
         evidence = Evidence(file, files[1], problem)
         if number and number > len(evidence.conflicts):
             raise Refused(f"{files[1]}: there is no conflict {number}: it has {len(evidence.conflicts)}")
-        page = Page(problem, evidence, number)
+        page = Page(problem, evidence, number, digest)
         made = as_html(page) if options else as_text(page)
     sys.stdout.buffer.write(made.encode("utf-8", "replace"))
     return telling.DONE

@@ -62,7 +62,8 @@ class Evidence:
             self.refuse(1, "this evidence is of a version that is not known here")
         problem = self.problem
         if words[3:] != [b"%d" % count for count in (problem.variables, problem.count, problem.groups)]:
-            self.refuse(1, f"4 OtherProblem: this is no evidence about {problem.source}")
+            focus = "" if problem.focus is None else " with this focus"
+            self.refuse(1, f"4 OtherProblem: this is no evidence about {problem.source}{focus}")
 
     def numbers(self, number, line, greatest):
         """The numbers of a set, which ascend."""

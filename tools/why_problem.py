@@ -23,8 +23,9 @@ LARGEST = 2 ** 30
 class Problem:
     """The clauses of a file, numbered from 1, with their groups; and names of groups and variables, and rules."""
 
-    def __init__(self, lines, source):
-        self.source = source
+    def __init__(self, lines, source, focus=None):
+        """With a focus the clauses of groups that aren't in it are left out, and the others are numbered without gaps."""
+        self.source, self.focus = source, focus
         self.variables = self.count = self.groups = 0
         self.is_gcnf = True
         self.group_of = array.array("i", [0])       # of each clause
@@ -34,6 +35,21 @@ class Problem:
         self.rules = [None]                         # of each rule's line its place, its text, and whether it is of [always]
         self.group_names, self.variable_names = {}, {}
         Reader(self).read(lines)
+        self.numbers = range(self.count + 1)        # of each clause, its number in the file
+        if focus is not None:
+            self.narrow(focus)
+
+    def narrow(self, focus):
+        """Leaves out the clauses of groups that aren't in focus."""
+        kept = {0, *focus}
+        self.numbers = [0, *(clause for clause in range(1, self.count + 1) if self.group_of[clause] in kept)]
+        starts, literals = array.array("q", [0, 0]), array.array("i")
+        for clause in self.numbers[1:]:
+            literals.extend(self.lits(clause))
+            starts.append(len(literals))
+        self.group_of = array.array("i", map(self.group_of.__getitem__, self.numbers))
+        self.rule_of = array.array("i", map(self.rule_of.__getitem__, self.numbers))
+        self.starts, self.literals, self.count = starts, literals, len(self.numbers) - 1
 
     def lits(self, clause):
         return self.literals[self.starts[clause]:self.starts[clause + 1]]
@@ -61,7 +77,7 @@ class Problem:
         if rule:
             return rule[:2]
         words = [("not " if lit < 0 else "") + self.variable(abs(lit)) for lit in self.lits(clause)]
-        return f"clause {clause}", " or ".join(words) or "(the empty clause, which never holds)"
+        return f"clause {self.numbers[clause]}", " or ".join(words) or "(the empty clause, which never holds)"
 
     def variable(self, number):
         return written(self.variable_names[number]) if number in self.variable_names else str(number)
