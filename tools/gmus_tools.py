@@ -4,6 +4,10 @@
     result = gmus_tools.solve(rules)                    rules: their text, a file, or a mapping from names to lines
     result = gmus_tools.list_gcnf("laptop.gcnf")        a GCNF or CNF file, or its text
     result = gmus_tools.check("laptop.gcnf", evidence)  what evidence shows, which anybody may have written
+    found = gmus_tools.roles("laptop.gcnf")             which rules are in every conflict, in some, or in none
+    result = gmus_tools.carry(old, evidence, new)       a file that got longer, from what was known of it
+    cnf, lrat = gmus_tools.export(file, evidence, 1)    a conflict for other solvers and checkers
+    result = gmus_tools.read_journal(file, journal)     what the journal of a run has
     text = gmus_tools.gcnf(rules)                       the GCNF file of rules
 
     result.conflicts      a list of sets of names
@@ -20,14 +24,21 @@ import os
 import re
 import tempfile
 
+import library_runs as runs
+import limits
 import program
 import rule_text
 import rules as rule_language
 import telling
-from report import Report, decoded, read_problem
+from reasons import reason_of
+from report import Origin, Report, decoded, read_problem
+from roles_report import Roles as RolesReport
+from rules_after import Old
+from why_problem import Problem
 
-__all__ = ["BadWords", "EvidenceRefused", "GmusError", "InputRefused", "OutOfMemory", "ProgramFailed", "ProgramNotBuilt",
-           "ReadFault", "Result", "RulesRefused", "WriteFault", "check", "gcnf", "list_gcnf", "solve", "written"]
+__all__ = ["BadArgument", "BadWords", "EvidenceRefused", "GmusError", "InputRefused", "JournalRefused", "NoConflict", "NotAnExtension",
+           "OutOfMemory", "ProgramFailed", "ProgramNotBuilt", "ReadFault", "Result", "Roles", "RulesRefused", "WriteFault", "carry",
+           "check", "export", "gcnf", "list_gcnf", "read_journal", "roles", "solve", "written"]
 
 # The name of a literal as rules have it: in quotes if it needs them.
 written = rule_language.written
@@ -35,8 +46,13 @@ DONE, BUDGET_SPENT, LIMIT_REACHED = program.DONE, program.BUDGET_SPENT, program.
 
 
 class GmusError(Exception):
-    """Why there is no result. `status` is the status of the program, or None if it was not called."""
-    status = None
+    """Why there is no result: its text is the line of the program on standard error, `reason` says in words why that comes, and
+    `status` is the status of the program; both are None if it was not called."""
+    status = reason = None
+
+
+class BadArgument(GmusError, TypeError):
+    """What was handed in is nothing that the call takes."""
 
 
 class RulesRefused(GmusError):
@@ -44,7 +60,7 @@ class RulesRefused(GmusError):
 
 
 class BadWords(GmusError):
-    """The program can't read what it was called with: an option is out of its range."""
+    """An option is out of its range, or two options don't go together."""
     status = 2
 
 
@@ -58,14 +74,14 @@ class InputRefused(GmusError):
 
 
 class ReadFault(GmusError):
-    """A file could not be read: `on` is 'input' or 'evidence'."""
+    """A file could not be read: `on` is 'input', 'evidence' or 'journal'."""
     status = 6
     FORM = re.compile(r"read fault on (?P<on>\w+)")
     on = None
 
 
 class WriteFault(GmusError):
-    """The report or the evidence could not be written whole: `on` says which."""
+    """The report, the evidence, an export or the journal could not be written whole: `on` says which."""
     status = 7
     FORM = re.compile(r"write fault on (?P<on>\w+)")
     on = None
@@ -82,6 +98,27 @@ class EvidenceRefused(GmusError):
     line = number = name = None
 
 
+class JournalRefused(GmusError):
+    """The journal has something that is refused: `byte` is the place of the gate, from 0."""
+    status = 10
+    FORM = re.compile(r"journal refused at byte (?P<byte>\d+)")
+    byte = None
+
+
+class NoConflict(GmusError):
+    """The evidence shows fewer conflicts than the `number` that was asked for."""
+    status = 11
+    FORM = re.compile(r"no conflict (?P<number>\d+)")
+    number = None
+
+
+class NotAnExtension(GmusError):
+    """The new file does not extend the old one: `clause` is the place of the first clause that differs, from 1, or 0."""
+    status = 12
+    FORM = re.compile(r"not an extension: clause (?P<clause>\d+)")
+    clause = None
+
+
 class ProgramNotBuilt(GmusError):
     """The program is not there, or could not be built."""
     status = 127
@@ -91,8 +128,13 @@ class ProgramFailed(GmusError):
     """The program ended otherwise: with a status that it hasn't, or by a signal, whose number `status` then is below 0."""
 
 
-CLASSES = {it.status: it for it in (BadWords, InputRefused, ReadFault, WriteFault, OutOfMemory, EvidenceRefused,
-                                    ProgramNotBuilt)}
+CLASSES = {it.status: it for it in (BadWords, InputRefused, ReadFault, WriteFault, OutOfMemory, EvidenceRefused, JournalRefused,
+                                    NoConflict, NotAnExtension, ProgramNotBuilt)}
+for each in CLASSES.values():
+    each.reason = reason_of(each.status)
+# The options that are numbers, each with the least and the greatest that it may be.
+RANGES = {"jobs": (1, 64), "limit": (1, 10 ** 9), "conflicts": (0, 2 ** 64 - 1), "number": (1, 10 ** 9)}
+FILES = ("evidence", "resume", "journal")
 
 
 class Result:
@@ -100,7 +142,8 @@ class Result:
 
     `names` has the name of each group, in their order; no two are the same. `numbers` has the number of each name.
     `conflicts` and `corrections` are lists of sets of names, in the order of the report. `complete` says that no set is
-    missing; if some may be, `why` says why. `notes` tells what may be a mistake in the rules.
+    missing; if some may be, `why` says why. `notes` tells what may be a mistake in the rules. With a focus all this is of the
+    rules in focus.
     """
 
     def __init__(self, report, names, why, notes=()):
@@ -123,45 +166,170 @@ class Result:
         return f"<Result: {len(self.conflicts)} conflicts, {len(self.corrections)} corrections, {kind}>"
 
 
-def solve(rules, jobs=None, limit=None, conflicts=None, evidence=None, resume=None):
+class Roles:
+    """Which rules are in which conflicts, by the names of groups: `every`, `some` and `none` are lists of names, in their order.
+    What a focus leaves out is in none of them."""
+
+    def __init__(self, found, names):
+        self.every, self.some, self.none = ([names[group - 1] for group in found.groups[role]] for role in ("every", "some", "none"))
+
+    def __repr__(self):
+        return f"<Roles: {len(self.every)} in every conflict, {len(self.some)} in some, {len(self.none)} in none>"
+
+
+def solve(rules, jobs=None, limit=None, conflicts=None, evidence=None, resume=None, journal=None, focus=None, timeout=None):
     """The result for rules: their text, the name of a file that has it, or a mapping from names to lines.
 
     `jobs` is how many workers share the search, `limit` how many sets may be recorded, `conflicts` how many clauses may be
-    learnt. `evidence` names a file to write evidence to, and `resume` one to go on from.
+    learnt. `evidence` names a file to write evidence to, `resume` one to go on from, and `journal` one that keeps each set once
+    it is found and from which to go on. `focus` lists the rules that the question is about, by names or numbers; others are
+    left out. After `timeout` seconds the program is ended, and what it found is a partial result; before that, what is resumed is
+    checked, for which the time does not count. Raises a GmusError.
     """
     made, names = read_rules(rules)
-    options = options_of(jobs=jobs, limit=limit, conflicts=conflicts, evidence=evidence, resume=resume)
     with tempfile.TemporaryDirectory(prefix="gmus-") as folder:
         file = kept(folder, "problem.gcnf", made.gcnf())
-        report, why = asked(["list", file, *options])
+        report, why = listed(folder, file, names, timeout, jobs=jobs, limit=limit, conflicts=conflicts, evidence=evidence, resume=resume,
+                             journal=journal, focus=focus)
     return Result(report, names, why, made.notes())
 
 
-def gcnf(rules):
-    """The GCNF file of rules, as a text; they are given as to `solve`."""
-    return read_rules(rules)[0].gcnf()
+def gcnf(rules, after=None):
+    """The GCNF file of rules, as a text; they are given as to `solve`. `after` is such a file of fewer rules, by its name or as a
+    text: what is made begins with all of it."""
+    made, _ = read_rules(rules)
+    if after is None:
+        return made.gcnf()
+    try:
+        return Old(*text_of(after, "after")).longer(made)
+    except telling.Refused as why:
+        raise RulesRefused(str(why)) from None
 
 
-def list_gcnf(file, jobs=None, limit=None, conflicts=None, evidence=None, resume=None):
+def list_gcnf(file, jobs=None, limit=None, conflicts=None, evidence=None, resume=None, journal=None, focus=None, timeout=None):
     """The result for a GCNF file, by its name or as a text. The options are those of `solve`."""
-    options = options_of(jobs=jobs, limit=limit, conflicts=conflicts, evidence=evidence, resume=resume)
     with tempfile.TemporaryDirectory(prefix="gmus-") as folder:
         name = file_of(folder, "problem.gcnf", file)
-        report, why = asked(["list", name, *options])
+        names = names_if_readable(name)
+        report, why = listed(folder, name, names, timeout, jobs=jobs, limit=limit, conflicts=conflicts, evidence=evidence, resume=resume,
+                             journal=journal, focus=focus)
         return Result(report, names_in(name, report.groups), why)
 
 
-def check(file, evidence):
-    """What evidence shows of a GCNF file. Both are names of files, or texts."""
+def check(file, evidence, focus=None):
+    """What evidence shows of a GCNF file. Both are names of files, or texts; `focus` is that of `solve`."""
     with tempfile.TemporaryDirectory(prefix="gmus-") as folder:
         name = file_of(folder, "problem.gcnf", file)
-        report, _ = asked(["check", name, file_of(folder, "evidence", evidence)])
+        words = options_of(names_if_readable(name), focus=focus)
+        report, _ = asked(["check", name, file_of(folder, "evidence", evidence), *words])
         return Result(report, names_in(name, report.groups), "the evidence is partial")
+
+
+def roles(file, jobs=None, focus=None):
+    """Which rules of a GCNF file are in every conflict, in some, or in none; it is given as to `list_gcnf`."""
+    with tempfile.TemporaryDirectory(prefix="gmus-") as folder:
+        name = file_of(folder, "problem.gcnf", file)
+        names = names_if_readable(name)
+        output, _ = called(["roles", name, *options_of(names, jobs=jobs, focus=focus)])
+        origin = Origin(decoded(telling.bytes_of(name)), name, focus=groups_of(names, focus))
+        try:
+            return Roles(RolesReport(origin, output), names)
+        except telling.Refused as why:
+            raise ProgramFailed(f"the report can't be read: {why}") from None
+
+
+def carry(old, evidence, new, jobs=None, new_evidence=None):
+    """The result for the GCNF file `new`, which is `old` with more at its end, from evidence about `old`. Each is a name or a text;
+    `new_evidence` names a file to write evidence about `new` to."""
+    with tempfile.TemporaryDirectory(prefix="gmus-") as folder:
+        names = [file_of(folder, kind, given) for kind, given in (("old.gcnf", old), ("evidence", evidence), ("new.gcnf", new))]
+        report, why = asked(["carry", *names, *options_of((), jobs=jobs, evidence=new_evidence)])
+        return Result(report, names_in(names[2], report.groups), why)
+
+
+def export(file, evidence, number):
+    """The conflict of this number, from 1, in the order of the report: the clauses of its groups as a CNF, and a refutation of them
+    in LRAT. Both are texts, and so or by their names are `file` and `evidence` given."""
+    want_in_range("number", number)
+    with tempfile.TemporaryDirectory(prefix="gmus-") as folder:
+        names = [file_of(folder, kind, given) for kind, given in (("problem.gcnf", file), ("evidence", evidence))]
+        made = [os.path.join(folder, name) for name in ("cnf", "lrat")]
+        called(["export", *names, str(number), *made])
+        return tuple(telling.text_of(name) for name in made)
+
+
+def read_journal(file, journal):
+    """What the journal of a run has, which keeps it now or kept it: a partial result. It is not checked; a run that goes on from it
+    does that."""
+    with tempfile.TemporaryDirectory(prefix="gmus-") as folder:
+        name = file_of(folder, "problem.gcnf", file)
+        names = names_if_readable(name)
+        return Result(journal_report(journal, len(names)), names, "a journal does not say that no set is missing")
+
+
+def listed(folder, name, names, timeout, **options):
+    """The report of a listing, and why it ended early, if it did. With a timeout a journal is kept meanwhile."""
+    words = options_of(names, **options)
+    if timeout is None:
+        return asked(["list", name, *words])
+    if not isinstance(timeout, (int, float)) or isinstance(timeout, bool) or not 0 < timeout < float("inf"):
+        raise BadWords(f"timeout={timeout!r}: a number of seconds above 0 is wanted")
+    journal, resume = options["journal"], options["resume"]
+    if journal is not None and resume is not None:
+        raise BadWords("journal and resume don't go together: a journal is gone on from by itself")
+    if journal is None:
+        journal = kept(folder, "journal", runs.framed(records_of(name, names, resume, options["focus"]) if resume is not None else []))
+        words = options_of(names, **{**options, "journal": journal, "resume": None})
+    found = asked(["list", name, *words], timeout)
+    if found is not None:
+        return found
+    if options["evidence"] is not None:
+        write_evidence(os.path.abspath(os.fspath(options["evidence"])), name, journal, groups_of(names, options["focus"]))
+    return journal_report(journal, len(names)), f"timeout of {timeout} seconds"
+
+
+def records_of(name, names, evidence, focus):
+    """The records of evidence, once the program has accepted them."""
+    asked(["check", name, os.path.abspath(os.fspath(evidence)), *options_of(names, focus=focus)])
+    return runs.records_in(bytes_in(evidence, "evidence"))
+
+
+def write_evidence(place, name, journal, focus):
+    """Writes the records of a journal as evidence."""
+    with open(name, "rb") as file:
+        problem = Problem(file, name, focus)
+    texts = runs.texts_in(bytes_in(journal))
+    try:
+        kept("", place, runs.evidence_of(problem.variables, problem.count, problem.groups, texts))
+    except OSError as error:
+        raise fault(WriteFault, "evidence", error) from None
+
+
+def journal_report(journal, groups):
+    """The partial report of what a journal has."""
+    return read_report(runs.report_of(groups, runs.texts_in(bytes_in(journal))))
+
+
+def bytes_in(name, on="journal"):
+    """What a journal or evidence holds."""
+    want_text(name, on)
+    try:
+        return telling.bytes_of(os.path.abspath(os.fspath(name)))
+    except OSError as error:
+        raise fault(ReadFault, on, error) from None
+
+
+def fault(kind, on, error):
+    """The exception for what the system answered, as if the program had told it."""
+    raised = kind(f"{'read' if kind is ReadFault else 'write'} fault on {on}: {error.filename}: {error.strerror}")
+    raised.on, raised.reason = on, reason_of(kind.status)
+    return raised
 
 
 def read_rules(rules):
     """The rules as they are read, and the names of their groups."""
     names = None
+    want_text(rules, "rules", has_mapping=True)
     if isinstance(rules, collections.abc.Mapping):
         names, text, source = *text_of_mapping(rules), "rules"
     else:
@@ -173,6 +341,23 @@ def read_rules(rules):
     if names is not None and len(names) != len(made.names) - 1:
         raise RulesRefused(f"{source}: a line begins with '[', as only the first line of a rule does in a text")
     return made, made.names[1:] if names is None else names
+
+
+def want_text(given, what, has_mapping=False):
+    """Refuses what is neither a text nor the name of a file, nor a mapping if that may be given."""
+    if has_mapping and isinstance(given, collections.abc.Mapping):
+        return
+    if not isinstance(given, (str, bytes, bytearray, os.PathLike)):
+        wanted = "a text, the name of a file or a mapping from names to lines" if has_mapping else "a text or the name of a file"
+        raise BadArgument(f"{what}: {wanted} is wanted, and not {shown(given)}")
+    if isinstance(given, str) and not given:
+        raise BadArgument(f"{what}: an empty text was given, which is no name of a file either")
+
+
+def shown(given):
+    """What was handed in, in a message."""
+    text = repr(given)
+    return text if len(text) <= 60 else text[:57] + "..."
 
 
 def is_text(given):
@@ -191,11 +376,13 @@ def text_of(given, source):
     except telling.Refused as why:
         raise RulesRefused(str(why)) from None
     except OSError as error:
-        raise RulesRefused(f"{name}: {error.strerror}") from None
+        hint = "; a string of one line is the name of a file" if isinstance(given, str) else ""
+        raise RulesRefused(f"{name}: {error.strerror}{hint}") from None
 
 
 def file_of(folder, name, given):
     """A name of a file that has the text that is given, or of the one that is named."""
+    want_text(given, "file" if name == "problem.gcnf" else name.partition(".")[0])
     return kept(folder, name, given) if is_text(given) else os.path.abspath(os.fspath(given))
 
 
@@ -211,12 +398,21 @@ def text_of_mapping(rules):
     """The names of the rules of a mapping, and their text: a line, or a list of lines, for each name."""
     lines, names = [], []
     for name, given in rules.items():
+        if not isinstance(name, str):
+            raise BadArgument(f"rules: the name of a rule is a text, and not {shown(name)}")
+        given = [given] if isinstance(given, str) else given
+        if not isinstance(given, collections.abc.Iterable) or isinstance(given, (bytes, collections.abc.Mapping)):
+            raise BadArgument(f"rules: the rule '{telling.plain(name)}' has a line or a list of lines, and not {shown(given)}")
+        given = list(given)
+        wrong = [line for line in given if not isinstance(line, str)]
+        if wrong:
+            raise BadArgument(f"rules: a line of the rule '{telling.plain(name)}' is a text, and not {shown(wrong[0])}")
         if name.strip().lower() in rule_language.RESERVED:
             lines.append(f"[{name.strip().lower()}]")
         else:
             names.append(name)
             lines.append(f"[{name_in_text(name, len(names), rules)}]")
-        lines += [given] if isinstance(given, str) else given
+        lines += given
     return names, "\n".join(lines) + "\n"
 
 
@@ -230,27 +426,71 @@ def name_in_text(name, number, taken):
     return found
 
 
-def options_of(**given):
-    """The words for the options that are given."""
+def options_of(names, **given):
+    """The words for the options that are given; those of groups may be given by these names."""
     words = []
     for name, value in given.items():
-        if value is not None:
-            is_file = name in ("evidence", "resume")
-            words.append(f"--{name}={os.path.abspath(os.fspath(value)) if is_file else value}")
+        if value is None:
+            continue
+        if name in RANGES:
+            want_in_range(name, value)
+        if name == "focus":
+            value = ",".join(map(str, sorted(groups_of(names, value))))
+        if name in FILES:
+            want_text(value, name)
+            value = os.path.abspath(os.fspath(value))
+        words.append(f"--{name}={value}")
     return words
 
 
-def asked(words):
-    """The report that the program writes, and why it ended early, if it did."""
+def want_in_range(name, value):
+    """Refuses a number that is none, or out of its range."""
+    least, most = RANGES[name]
+    if not isinstance(value, int) or isinstance(value, bool) or not least <= value <= most:
+        raise BadWords(f"{name}={shown(value)}: a whole number from {least} to {most} is wanted")
+
+
+def groups_of(names, focus):
+    """The groups of a focus, which names them or has their numbers; None if there is none."""
+    if focus is None:
+        return None
+    if isinstance(focus, (str, bytes)) or not isinstance(focus, collections.abc.Iterable):
+        raise BadArgument(f"focus: a list of names or numbers of rules is wanted, and not {shown(focus)}")
+    numbers, found = {name: number for number, name in enumerate(names, 1)}, set()
+    for it in focus:
+        number = it if isinstance(it, int) and not isinstance(it, bool) else numbers.get(it) if isinstance(it, str) else None
+        if number is None or number < 1:
+            raise BadWords(f"focus: {shown(it)} is no name or number of a rule")
+        found.add(number)
+    if not found:
+        raise BadWords("focus: at least one rule is wanted")
+    return found
+
+
+def called(words, seconds=None):
+    """What the program writes, and why it ended early, if it did; None if it took more seconds than these."""
     try:
-        status, report, told = program.call(words)
+        ended = runs.call(words, seconds)
     except telling.Refused as why:
-        raise ProgramNotBuilt(str(why)) from None
+        raise error_of(ProgramNotBuilt.status, str(why)) from None
+    if ended is None:
+        return None
+    status, report, told = ended
     line = next((it[len("gmus: "):] for it in reversed(told.split("\n")) if it.startswith("gmus: ")), told.strip())
     if status not in (DONE, BUDGET_SPENT, LIMIT_REACHED):
         raise error_of(status, line)
+    return report, line
+
+
+def asked(words, seconds=None):
+    """The report that the program writes, and why it ended early, if it did; None if it took more seconds than these."""
+    found = called(words, seconds)
+    return None if found is None else (read_report(found[0]), found[1])
+
+
+def read_report(text):
     try:
-        return Report(report), line
+        return Report(text)
     except telling.Refused as why:
         raise ProgramFailed(f"the report can't be read: {why}") from None
 
@@ -263,7 +503,17 @@ def error_of(status, line):
     found = kind.FORM.match(line) if hasattr(kind, "FORM") else None
     for name, value in (found.groupdict() if found else {}).items():
         setattr(error, name, int(value) if value and value.isdigit() else value)
+    error.reason = reason_of(status, getattr(error, "number", None))
     return error
+
+
+def names_if_readable(file):
+    """The names of the groups of a file; none if it can't be read, or is no such file, as the program then tells."""
+    try:
+        _, groups = read_problem(decoded(telling.bytes_of(file)))
+    except OSError:
+        return ()
+    return names_in(file, groups) if groups is not None and groups <= limits.GROUPS else ()
 
 
 def names_in(file, groups):
