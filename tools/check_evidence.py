@@ -1,13 +1,13 @@
 #!/usr/bin/env python3
 """Checks evidence of gmus, from docs/FORMATS.md alone: it shares nothing with the program.
 
-    tools/check_evidence.py FILE EVIDENCE [--focus LIST]
+    tools/check_evidence.py FILE EVIDENCE [--focus LIST] [-o REPORT]
 
-FILE is the GCNF or CNF file, EVIDENCE the evidence about it. With --focus LIST the evidence is about the groups of LIST, as 3,1,2,
-and the background: the clauses of all others are left out before anything is numbered. If nothing is refused, the report of the evidence's sets is written,
-and the status is 0. Else the first refusal is told on standard error, and the status is 9, as that of `gmus check`. It is 1
-if FILE is no such file or a file can't be read, and 2 if the words have no reading. It is plain and slow; evidence of some
-megabytes is fine.
+FILE is the GCNF or CNF file, EVIDENCE the evidence about it. With --focus LIST the evidence is about the groups of LIST, as
+3,1,2, and the background: the clauses of all others are left out before anything is numbered. If nothing is refused, the report
+of the evidence's sets is written, and the status is 0. Else the first refusal is told on standard error, and the status is 9, as
+that of `gmus check`. It is 1 if FILE is no such file or a file can't be read, and 2 if the words have no reading. It is plain
+and slow; evidence of some megabytes is fine.
 """
 import re
 import sys
@@ -341,8 +341,7 @@ def check_alone(problem, text):
 
 def problem_of(name):
     """The problem of a file; refused if it is none."""
-    with open(name, encoding="latin-1", newline="") as file:
-        return problem_in(file.read(), name)
+    return problem_in(telling.bytes_of(name).decode("latin-1"), name)
 
 
 def problem_in(text, name):
@@ -362,14 +361,14 @@ def main(words):
     problem = problem_of(words[0])
     if focus is not None:
         problem.narrow(focus)
-    with open(words[1], "rb") as file:
+    with telling.opened(words[1]) as file:
         text = file.read(MAX_BYTES + 1)
     try:
         complete, sets = check(problem, text)
     except Refused as refused:
         print(f"evidence refused: {refused}", file=sys.stderr)
         return EVIDENCE_REFUSED
-    sys.stdout.write(report(problem, complete, sets))
+    telling.put(report(problem, complete, sets))
     return telling.DONE
 
 

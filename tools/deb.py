@@ -1,7 +1,7 @@
 #!/usr/bin/env python3
 """Writes rules from a Debian package index and a list of wishes.
 
-    tools/deb.py [--arch ARCHITECTURE] PACKAGES.. WISHES > RULES
+    tools/deb.py [--arch ARCHITECTURE] PACKAGES.. WISHES [-o RULES]
 
 PACKAGES are one or more indices (the files 'Packages' of a distribution, or /var/lib/dpkg/status). WISHES has a wish a
 line, and each wish is a rule, which can be given up:
@@ -20,7 +20,7 @@ import sys
 import deb_index
 import rule_text
 from rules_near import near_names
-from telling import Refused, WrongWords, run, text_of
+from telling import Refused, WrongWords, put, run, text_of
 from unpacked import text_of as index_of
 
 
@@ -207,7 +207,7 @@ def main(words):
     made, told = rules_of(indices, wishes, native)
     for line in told:
         print(f"deb.py: {line}", file=sys.stderr)
-    sys.stdout.buffer.write(made.encode("utf-8"))
+    put(made)
 
 
 if __name__ == "__main__":

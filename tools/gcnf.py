@@ -1,8 +1,8 @@
 #!/usr/bin/env python3
 """Writes a GCNF file from named rules.
 
-    tools/gcnf.py RULES [--strict] > FILE.gcnf
-    tools/gcnf.py --after OLD.gcnf RULES [--strict] > FILE.gcnf
+    tools/gcnf.py RULES [--strict] [-o FILE.gcnf]
+    tools/gcnf.py --after OLD.gcnf RULES [--strict] [-o FILE.gcnf]
 
 RULES is a text (- is standard input):
 
@@ -63,7 +63,7 @@ def main(words):
     file = text.encode("utf-8", "replace")
     if len(file) > limits.BYTES:
         raise telling.Refused(f"{files[0]}: the file would have more than {limits.BYTES:,} bytes")
-    sys.stdout.buffer.write(file)
+    telling.put(file)
     return telling.DONE
 
 

@@ -1,14 +1,13 @@
 #!/usr/bin/env python3
 """Writes the problem that a seed and a size make, in plain text, to standard output.
 
-    tools/make_case.py SEED SIZE > FILE.gcnf
+    tools/make_case.py SEED SIZE [-o FILE.gcnf]
 
 SEED is 0 to 18446744073709551615, and SIZE 1 to 1000. docs/FORMATS.md says how such a problem is made and what its minimal
 sets are. This program shares nothing with gmus, which makes the same problems.
 """
-import sys
 
-from telling import WrongWords, run
+from telling import WrongWords, put, run
 
 MODULUS = 65537
 MOST_WIDE = 8
@@ -52,7 +51,7 @@ def main(words):
     seed, size = (int(word.lstrip("0") or "0") for word in words)
     if seed >= 2 ** 64 or not 1 <= size <= 1000:
         raise WrongWords("a seed is below 2^64, and a size 1 to 1000")
-    sys.stdout.write(text_of(seed, size))
+    put(text_of(seed, size))
 
 
 if __name__ == "__main__":

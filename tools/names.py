@@ -1,7 +1,7 @@
 #!/usr/bin/env python3
 """Writes a report of gmus with the names of its groups.
 
-    gmus list FILE | tools/names.py FILE [--first N] [--json] [--html [--why EVIDENCE]] [--focus LIST] [--fail-on-conflict]
+    gmus list FILE | tools/names.py FILE [--first N] [--json] [--html [--why EVIDENCE]] [--focus LIST] [--fail-on-conflict] [-o TEXT]
     tools/names.py FILE REPORT ..
 
 FILE is the GCNF or CNF file. Its comments 'c group 7 TEXT' name its groups, in CNF clause 7; if one group has several of
@@ -27,13 +27,12 @@ The status is 0 if the report was written, 1 if something was refused, 2 if the 
 """
 import io
 import json
-import sys
 
 import page
 import roles_report
 from focus import without_focus
 from report import decoded, named, number_of, origin_of
-from telling import DONE, Refused, WrongWords, bytes_of, run
+from telling import DONE, Refused, WrongWords, bytes_of, is_for_a_person, put, run
 
 CLASH = 3
 ON_A_TERMINAL, MOST = 20, 10 ** 18
@@ -155,7 +154,7 @@ def main(words):
     file, held = asked.files[0], bytes_of(asked.files[0])
     report = decoded(bytes_of(asked.files[1] if asked.files[1:] else "-"))
     origin = origin_of(held, file, asked.focus)
-    first = ON_A_TERMINAL if asked.first is None and sys.stdout.isatty() else asked.first
+    first = ON_A_TERMINAL if asked.first is None and is_for_a_person() else asked.first
     if roles_report.is_roles(report):
         if asked.evidence is not None:
             raise Refused("--why: a report of roles has no conflicts to open")
@@ -171,7 +170,7 @@ def main(words):
             text = page.as_html(shown, None if asked.evidence is None else reasons_of(file, held, asked.evidence, asked.focus))
         else:
             text = as_text(shown, first)
-    sys.stdout.buffer.write(text.encode("utf-8", "replace"))
+    put(text)
     return status_of(clashing) if asked.fails else DONE
 
 

@@ -1,22 +1,19 @@
 #!/usr/bin/env python3
 """Writes rules from the Boolean part of SMT-LIB 2.
 
-    tools/smt2.py FILE.smt2 > RULES
-    tools/smt2.py --tracked FILE.smt2 > RULES
-    tools/smt2.py --each FILE.smt2 > RULES
+    tools/smt2.py [--tracked] [--each] FILE.smt2 [-o RULES]
 
 A named assertion, (assert (! TERM :named NAME)), is a rule under its name. One without a name always holds; with --each it
 is a rule too, under the name of its line. With --tracked so is (assert (=> NAME TERM)), as assert_and_track of Z3 has it: its
-TERM is a rule under the NAME of a constant that stands nowhere else. `tools/gcnf.py RULES > FILE.gcnf` makes the file for gmus. FILE.smt2 may be -,
-for standard input. docs/IMPORT.md says what is read, and what is refused.
+TERM is a rule under the NAME of a constant that stands nowhere else. `tools/gcnf.py RULES -o FILE.gcnf` makes the file for
+gmus. FILE.smt2 may be -, for standard input. docs/IMPORT.md says what is read, and what is refused.
 """
-import sys
 
 import formulas
 import rule_text
 from smt2_terms import Reader
 from smt2_text import Source
-from telling import Refused, WrongWords, run, text_of
+from telling import Refused, WrongWords, put, run, text_of
 
 
 # What to do if no assertion has a name, and if each has a tracker.
@@ -79,7 +76,7 @@ def main(words):
     if len(files) != 1 or files[0].startswith("-") and files[0] != "-":
         raise WrongWords("one file is wanted" if len(files) != 1 else f"'{files[0]}' is no option")
     made = rules_of(files[0], text_of(files[0]), is_each, is_tracked)
-    sys.stdout.buffer.write(made.encode("utf-8"))
+    put(made)
 
 
 if __name__ == "__main__":

@@ -3,9 +3,13 @@
 0: done. 1: refused, and a line on standard error says what and where. 2: the words of the command line have no reading,
 and the tool's usage says which have. `--help` writes what the tool does to standard output, and ends with 0. No input ends
 in a traceback.
+
+A tool that writes a text has `[-o FILE]` in its usage. The text goes to standard output, or to FILE once it is whole: it is
+written beside it and takes its place, so what was refused leaves no file, and none that is half written.
 """
 import os
 import shlex
+import stat
 import sys
 import unicodedata
 
@@ -22,24 +26,63 @@ class WrongWords(Exception):
     """What is wrong with the words of the command line."""
 
 
+class Output:
+    """Where the text of a tool goes: to standard output, or to the file of this name. What was read is not written over."""
+
+    def __init__(self):
+        self.name, self.parts, self.read = None, [], set()
+
+    def take_name(self, words):
+        """The words without `-o FILE`, whose FILE is kept."""
+        at = words.index("-o") if "-o" in words[:words.index("--") if "--" in words else len(words)] else None
+        if at is None:
+            return words
+        left = words[:at] + words[at + 2:]
+        if at + 1 == len(words):
+            raise WrongWords("-o has nothing behind it")
+        if "-o" in left[:left.index("--") if "--" in left else len(left)]:
+            raise WrongWords("-o stands twice")
+        self.name = None if words[at + 1] == "-" else words[at + 1]
+        return left
+
+    def put(self, held):
+        if self.name is None:
+            sys.stdout.buffer.write(held)
+        else:
+            self.parts.append(held)
+
+    def end(self):
+        """Has the file that was named hold what was put, if anything was."""
+        if self.name is None:
+            sys.stdout.flush()
+        elif self.parts:
+            if os.path.realpath(self.name) in self.read:
+                raise Refused(f"{self.name}: this was read, and is not written over")
+            write_whole(self.name, b"".join(self.parts))
+
+
+OUTPUT = Output()
+
+
 def run(tool, main, doc):
     """Ends the process as the tool's `main` does over the command line's words: by the status that it returns, or None.
 
     `doc` is what the tool does: its usage is the first lines in it that are set in, up to an empty one.
     """
+    OUTPUT.__init__()
     if sys.stderr is None:
         # What is told has no place to go, and would stand in the output otherwise.
         sys.stderr = open(os.devnull, "w", encoding="utf-8")
     try:
-        if sys.stdout is None:
+        words = OUTPUT.take_name(sys.argv[1:]) if "[-o " in usage_of(doc) else sys.argv[1:]
+        if sys.stdout is None and OUTPUT.name is None:
             raise Refused("standard output is closed")
-        words = sys.argv[1:]
         if words in (["--help"], ["-h"]):
             print(doc.strip())
             status = DONE
         else:
             status = main(words)
-        sys.stdout.flush()
+        OUTPUT.end()
     except WrongWords as why:
         status = told(f"{tool}: {why}\n{usage_of(doc)}", WRONG_WORDS)
     except Refused as why:
@@ -63,6 +106,45 @@ def told(text, status):
     return status
 
 
+def put(text):
+    """Writes a text, or bytes, to where the output goes. What can't be written in UTF-8 is marked."""
+    OUTPUT.put(text.encode("utf-8", "replace") if isinstance(text, str) else text)
+
+
+def is_for_a_person():
+    """Whether the output goes to a terminal."""
+    return OUTPUT.name is None and sys.stdout.isatty()
+
+
+def write_whole(name, held):
+    """Writes a file so that whoever reads it finds the whole of it, the one before or this one. What is no plain file, as
+    /dev/null, is written to as it is."""
+    if os.path.exists(name) and not os.path.isfile(name):
+        with open(name, "wb") as file:
+            file.write(held)
+        return
+    place = os.path.realpath(name)
+    new = f"{place}.{os.getpid()}.new"
+    try:
+        with open(new, "wb") as file:
+            file.write(held)
+        if os.path.exists(place):
+            os.chmod(new, stat.S_IMODE(os.stat(place).st_mode))
+        os.replace(new, place)
+    except OSError as error:
+        # The file that was named is what a person knows of.
+        raise OSError(error.errno, error.strerror, name) from None
+    finally:
+        remove(new)
+
+
+def remove(name):
+    try:
+        os.remove(name)
+    except FileNotFoundError:
+        pass
+
+
 def usage_of(doc):
     """The tool's usage, as its text has it."""
     lines = iter(doc.split("\n"))
@@ -79,8 +161,14 @@ def bytes_of(name):
     """What a file holds, or standard input where the name is `-`."""
     if name == "-":
         return standard_input().read()
-    with open(name, "rb") as source:
+    with opened(name) as source:
         return source.read()
+
+
+def opened(name):
+    """The file, opened to be read."""
+    OUTPUT.read.add(os.path.realpath(name))
+    return open(name, "rb")
 
 
 def standard_input():

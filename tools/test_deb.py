@@ -382,7 +382,7 @@ class Refusals(unittest.TestCase):
             return subprocess.run([sys.executable, os.path.join(TOOLS, "deb.py"), *words], input=given, stdout=subprocess.PIPE,
                                   stderr=subprocess.PIPE)
 
-        usage = b"\n    tools/deb.py [--arch ARCHITECTURE] PACKAGES.. WISHES > RULES\n"
+        usage = b"\n    tools/deb.py [--arch ARCHITECTURE] PACKAGES.. WISHES [-o RULES]\n"
         with tempfile.TemporaryDirectory() as folder:
             wishes = os.path.join(folder, "wishes")
             with open(wishes, "w") as out:

@@ -214,7 +214,7 @@ class Command(unittest.TestCase):
         self.assertEqual((done.returncode, done.stdout, done.stderr), (9, b"", b"evidence refused: line 30: 1 BadLine\n"))
 
     def test_what_is_no_evidence_is_told(self):
-        usage = "    tools/check_evidence.py FILE EVIDENCE [--focus LIST]\n"
+        usage = "    tools/check_evidence.py FILE EVIDENCE [--focus LIST] [-o REPORT]\n"
         with tempfile.TemporaryDirectory() as room:
             for text, why in (("x", "it does not begin with 'p gcnf' or 'p cnf'"),
                               ("p gcnf 1 1", "a number is missing in its header or in a clause"),

@@ -397,7 +397,7 @@ class Declared(unittest.TestCase):
 
 class Program(unittest.TestCase):
     def test_how_it_ends(self):
-        usage = b"    tools/gcnf.py RULES [--strict] > FILE.gcnf\n"
+        usage = b"    tools/gcnf.py RULES [--strict] [-o FILE.gcnf]\n"
         with tempfile.TemporaryDirectory() as folder:
             for words, given, status, told in (
                     (["-"], b"[r]\na b\n", 1, b"gcnf.py: -: line 2: 'b' can't come here"),

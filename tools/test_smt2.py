@@ -279,8 +279,8 @@ class Refusals(unittest.TestCase):
     def test_program_ends_as_all_tools_do(self):
         missing = os.path.join(TOOLS, "no such file")
         for words, given, status, wanted in (
-                ([], b"", 2, b"smt2.py: one file is wanted\n    tools/smt2.py FILE.smt2 > RULES\n"),
-                (["-x"], b"", 2, b"smt2.py: '-x' is no option\n    tools/smt2.py FILE.smt2 > RULES\n"),
+                ([], b"", 2, b"smt2.py: one file is wanted\n    tools/smt2.py [--tracked] [--each] FILE.smt2 [-o RULES]\n"),
+                (["-x"], b"", 2, b"smt2.py: '-x' is no option\n    tools/smt2.py [--tracked] [--each] FILE.smt2 [-o RULES]\n"),
                 ([missing], b"", 1, b"smt2.py: " + os.fsencode(missing) + b": No such file or directory\n"),
                 ([TOOLS], b"", 1, b"smt2.py: " + os.fsencode(TOOLS) + b": Is a directory\n"),
                 (["-"], b"\xff", 1, b"smt2.py: -: line 1: the bytes are no UTF-8. "

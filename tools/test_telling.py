@@ -2,6 +2,8 @@
 """Tests of telling.py: what all tools for users say of a file that is no text. What is wanted was worked out by hand."""
 import bz2
 import gzip
+import importlib
+import io
 import lzma
 import os
 import shutil
@@ -9,12 +11,15 @@ import subprocess
 import sys
 import tempfile
 import unittest
+from unittest import mock
 
 TOOLS = os.path.dirname(os.path.abspath(__file__))
 sys.path.insert(0, TOOLS)
 
 import telling  # noqa: E402
 
+EXAMPLES = os.path.join(os.path.dirname(TOOLS), "examples")
+FIRST, EVIDENCE = (os.path.join(EXAMPLES, name) for name in ("first.gcnf", "first.evidence"))
 RULES = "[größe]\nx and not x\n"
 LZ4 = b"\x04\x22\x4d\x18\x60\x40\x82\x00\x00\x00\x00"     # of nothing
 ZSTD = b"\x28\xb5\x2f\xfd\x24\x00\x01\x00\x00\x99\xe9\xd8\x51"
@@ -71,8 +76,95 @@ class Texts(unittest.TestCase):
                         self.assertEqual(telling.text_in(file.read(), "f"), RULES, words)
 
 
-EXAMPLES = os.path.join(os.path.dirname(TOOLS), "examples")
-FIRST, EVIDENCE = (os.path.join(EXAMPLES, name) for name in ("first.gcnf", "first.evidence"))
+class Outputs(unittest.TestCase):
+    """`-o FILE`, which a file takes once it is whole."""
+
+    def setUp(self):
+        room = tempfile.TemporaryDirectory()
+        self.addCleanup(room.cleanup)
+        self.room = room.name
+
+    def run_tool(self, tool, *words, given=""):
+        """How a tool ends in the room: its status, and what it writes to standard output and to standard error."""
+        streams = [io.TextIOWrapper(io.BytesIO(text.encode()), encoding="utf-8", write_through=True) for text in (given, "", "")]
+        main = importlib.import_module(tool[:-len(".py")])
+        before = os.getcwd()
+        os.chdir(self.room)
+        try:
+            with mock.patch.multiple(sys, argv=[tool, *words], stdin=streams[0], stdout=streams[1], stderr=streams[2]):
+                with self.assertRaises(SystemExit) as end:
+                    telling.run(tool, main.main, main.__doc__)
+        finally:
+            os.chdir(before)
+        return end.exception.code, streams[1].buffer.getvalue().decode(), streams[2].buffer.getvalue().decode()
+
+    def held(self):
+        found = {}
+        for name in sorted(os.listdir(self.room)):
+            with open(os.path.join(self.room, name), encoding="utf-8") as file:
+                found[name] = file.read()
+        return found
+
+    def test_each_tool_that_writes_a_text_writes_it_to_a_file(self):
+        with open(os.path.join(self.room, "in"), "w", encoding="utf-8") as file:
+            file.write("[r]\nx\n")
+        report = os.path.join(EXAMPLES, "first.report")
+        for words, given in (
+                (["gcnf.py", "in"], ""), (["gcnf.py", "-"], "[r]\nx and y\n"), (["names.py", FIRST, report], ""), (["names.py", FIRST, report, "--json"], ""),
+                (["names.py", FIRST, report, "--html", "--why", EVIDENCE], ""), (["why.py", FIRST, EVIDENCE], ""), (["why.py", FIRST, EVIDENCE, "--html"], ""),
+                (["smt2.py", "--each", "-"], "(declare-const p Bool)(assert p)"), (["uvl.py", "-"], "features\n\tr\nconstraints\n\t!r\n"),
+                (["deb.py", "-", "in"], "Package: a\nVersion: 1\n"), (["make_case.py", "7", "3"], ""), (["check_evidence.py", FIRST, EVIDENCE], "")):
+            if words[0] == "deb.py":
+                with open(os.path.join(self.room, "in"), "w", encoding="utf-8") as file:
+                    file.write("a\n")
+            plain = self.run_tool(*words, given=given)
+            self.assertEqual((plain[0], plain[1] != ""), (0, True), words)
+            before = self.held()
+            for place in (["-o", "out"], ["-o", "./out"]):
+                self.assertEqual(self.run_tool(*words[:1], *place, *words[1:], given=given), (0, "", plain[2]), words)
+                self.assertEqual(self.held(), {**before, "out": plain[1]}, words)
+            self.assertEqual(self.run_tool(*words, "-o", "-", given=given)[:2], (0, plain[1]), words)
+
+    def test_what_is_refused_leaves_files_as_they_are(self):
+        for held in (None, "before"):
+            if held:
+                with open(os.path.join(self.room, "out"), "w", encoding="utf-8") as file:
+                    file.write(held)
+            for words, status in ((["gcnf.py", "-"], 1), (["names.py", FIRST], 1), (["check_evidence.py", FIRST, FIRST], 9), (["smt2.py"], 2),
+                                  (["gcnf.py", "--strict", "-"], 1)):
+                given = "[r]\nx\n" if "--strict" in words else "x"
+                self.assertEqual(self.run_tool(*words, "-o", "out", given=given)[:2], (status, ""), words)
+                self.assertEqual(self.held(), {"out": held} if held else {}, words)
+
+    def test_a_clash_that_fails_is_written(self):
+        status, output, _ = self.run_tool("names.py", FIRST, os.path.join(EXAMPLES, "first.report"), "--fail-on-conflict", "-o", "out")
+        self.assertEqual((status, output, list(self.held())), (3, "", ["out"]))
+
+    def test_places_that_are_refused_or_no_plain_files(self):
+        with open(os.path.join(self.room, "in"), "w", encoding="utf-8") as file:
+            file.write("[r]\nx\n")
+        os.chmod(os.path.join(self.room, "in"), 0o640)
+        os.symlink("in", os.path.join(self.room, "same"))
+        for name in ("in", "same", "../" + os.path.basename(self.room) + "/in"):
+            self.assertEqual(self.run_tool("gcnf.py", "in", "-o", name)[::2],
+                             (1, "gcnf.py: in: 1 name stands with one sign only: no clause with such a name is in any conflict\n"
+                                 f"gcnf.py: {name}: this was read, and is not written over\n"))
+        self.assertEqual(self.held(), {"in": "[r]\nx\n", "same": "[r]\nx\n"})
+        self.assertEqual(self.run_tool("make_case.py", "1", "1", "-o", "/dev/null"), (0, "", ""))
+        ended = subprocess.run([sys.executable, os.path.join(TOOLS, "make_case.py"), "1", "1", "-o", "/dev/stdout"], stdout=subprocess.PIPE, check=True)
+        self.assertTrue(ended.stdout.startswith(b"p gcnf 5 8 2\n"))
+        self.assertEqual(self.run_tool("make_case.py", "1", "1", "-o", "no/out"), (1, "", "make_case.py: no/out: No such file or directory\n"))
+        self.assertEqual(self.run_tool("make_case.py", "1", "1", "-o", "."), (1, "", "make_case.py: .: Is a directory\n"))
+        # A link stays one, and the file behind it keeps who may read it.
+        self.assertEqual(self.run_tool("make_case.py", "1", "1", "-o", "same")[0], 0)
+        self.assertEqual((os.readlink(os.path.join(self.room, "same")), os.stat(os.path.join(self.room, "in")).st_mode & 0o777), ("in", 0o640))
+        self.assertTrue(self.held()["in"].startswith("p gcnf 5 8 2\n"))
+
+    def test_words_that_have_no_reading(self):
+        for words, told in ((["-o"], "-o has nothing behind it"), (["-o", "a", "-o", "b"], "-o stands twice")):
+            status, output, said = self.run_tool("make_case.py", "1", "1", *words)
+            self.assertEqual((status, output, said.split("\n")[0]), (2, "", "make_case.py: " + told))
+        self.assertEqual(self.run_tool("names.py", "--", "-o", "x")[::2], (1, "names.py: -o: No such file or directory\n"))
 
 
 class Closed(unittest.TestCase):

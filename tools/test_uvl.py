@@ -274,7 +274,7 @@ class Refusals(unittest.TestCase):
             return subprocess.run([sys.executable, os.path.join(TOOLS, "uvl.py"), *words], input=given, stdout=subprocess.PIPE,
                                   stderr=subprocess.PIPE)
 
-        usage = b"\n    tools/uvl.py [--skip] MODEL.uvl [WISHES] > RULES\n"
+        usage = b"\n    tools/uvl.py [--skip] MODEL.uvl [WISHES] [-o RULES]\n"
         missing = os.path.join(TOOLS, "no such file")
         for words, given, status, wanted in (
                 ([], b"", 2, b"uvl.py: one model is wanted, and a list of wishes may be named" + usage),

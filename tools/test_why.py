@@ -268,7 +268,7 @@ Made of x.gcnf, SHA-256 0123456789abcdef.
 
     def test_how_it_ends(self):
         laptop = os.path.join(EXAMPLES, "laptop.gcnf")
-        usage = b"    gmus list FILE --evidence EVIDENCE\n    tools/why.py FILE EVIDENCE [N] [--html] [--focus LIST]\n"
+        usage = b"    gmus list FILE --evidence EVIDENCE\n    tools/why.py FILE EVIDENCE [N] [--html] [--focus LIST] [-o TEXT]\n"
         with tempfile.TemporaryDirectory() as folder:
             cut = os.path.join(folder, "cut")
             with open(EVIDENCE, "rb") as whole, open(cut, "wb") as part:

@@ -1,7 +1,7 @@
 #!/usr/bin/env python3
 """Writes rules from a feature model in UVL, the Universal Variability Language.
 
-    tools/uvl.py [--skip] MODEL.uvl [WISHES] > RULES
+    tools/uvl.py [--skip] MODEL.uvl [WISHES] [-o RULES]
 
 The tree of features holds always, and each constraint is a rule under its own text. With WISHES the constraints hold always
 too, and each line of WISHES is a rule: a feature, or a constraint over features, as
@@ -18,7 +18,7 @@ import sys
 
 import formulas
 import rule_text
-from telling import Refused, WrongWords, run, text_of
+from telling import Refused, WrongWords, put, run, text_of
 from uvl_constraint import Wishes
 from uvl_model import Model
 from uvl_text import Source
@@ -131,7 +131,7 @@ def main(words):
     made, told = rules_of(files[0], text_of(files[0]), wishes, "--skip" in words)
     for line in told:
         print(f"uvl.py: {line}", file=sys.stderr)
-    sys.stdout.buffer.write(made.encode("utf-8"))
+    put(made)
 
 
 if __name__ == "__main__":

@@ -42,7 +42,7 @@ import time
 import page
 import program
 from report import decoded, named, number_of, origin_of
-from telling import Refused, bytes_of, run
+from telling import Refused, bytes_of, remove, run, write_whole
 from watch_journal import JournalWatch
 from watch_words import MOST, Words
 
@@ -198,7 +198,7 @@ class Watch:
         os.replace(self.new, self.place)
         self.show(limit, shown)
         if self.asked.page is not None:
-            write_whole(self.asked.page, page.as_html(shown))
+            write_whole(self.asked.page, page.as_html(shown).encode("utf-8", "replace"))
 
     def show(self, limit, shown):
         clear()
@@ -246,25 +246,6 @@ class Watch:
             budget = self.asked.options.get("--conflicts", "")
             return self.asked.again(conflicts=2 * int(budget) or 1000) if budget.isdecimal() else None
         return self.asked.again() if status in (WRITE_FAULT, NO_MEMORY) or status > BY_SIGNAL else None
-
-
-def write_whole(name, text):
-    """Writes a file so that whoever reads it finds the whole of it, the one before or this one."""
-    place = os.path.realpath(name)
-    new = f"{place}.{os.getpid()}.new"
-    try:
-        with open(new, "wb") as file:
-            file.write(text.encode("utf-8", "replace"))
-        os.replace(new, place)
-    finally:
-        remove(new)
-
-
-def remove(name):
-    try:
-        os.remove(name)
-    except FileNotFoundError:
-        pass
 
 
 def main(words):

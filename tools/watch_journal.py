@@ -147,7 +147,7 @@ class JournalWatch:
             # The time before there was a journal doesn't count.
             self.began, self.at_first = time.monotonic(), len(sets)
         if self.asked.page is not None:
-            self.write_whole(self.asked.page, page.as_html(shown))
+            self.write_whole(self.asked.page, page.as_html(shown).encode("utf-8", "replace"))
 
     def show(self, shown, new):
         found = f"{number_of(len(shown.conflicts), 'conflict', 'conflicts')} and " \

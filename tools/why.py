@@ -2,7 +2,7 @@
 """Says why rules clash: on which of their lines the refutation of a conflict rests.
 
     gmus list FILE --evidence EVIDENCE
-    tools/why.py FILE EVIDENCE [N] [--html] [--focus LIST]
+    tools/why.py FILE EVIDENCE [N] [--html] [--focus LIST] [-o TEXT]
 
 FILE is the GCNF or CNF file, EVIDENCE what gmus wrote about it (- is standard input); with --focus LIST, as it stood behind
 `gmus list` too, about the groups of that list. N is the number of a conflict in the
@@ -16,7 +16,6 @@ import collections
 import html
 import io
 import os
-import sys
 
 import telling
 from focus import without_focus
@@ -120,7 +119,7 @@ def opened(name):
     """The file, in which any place can be read again."""
     if name == "-":
         return io.BytesIO(telling.bytes_of(name))
-    file = open(name, "rb")
+    file = telling.opened(name)
     return file if file.seekable() else io.BytesIO(file.read())
 
 
@@ -152,7 +151,7 @@ def main(words):
             raise Refused(f"{files[1]}: there is no conflict {number}: it has {len(evidence.conflicts)}")
         page = Page(problem, evidence, number, digest)
         made = as_html(page) if options else as_text(page)
-    sys.stdout.buffer.write(made.encode("utf-8", "replace"))
+    telling.put(made)
     return telling.DONE
 
 
