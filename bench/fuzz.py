@@ -353,6 +353,15 @@ def places_of(chance, command):
     return words
 
 
+def twice(chance, words):
+    """Has one of the names lead where another one does."""
+    places = [at for at, word in enumerate(words) if word in TEXTS or word in MADE]
+    if len(places) > 1:
+        one, other = chance.sample(places, 2)
+        links = [name for name, target in {**LINKS, **HARD}.items() if target == words[one]]
+        words[other] = chance.choice([words[one], "./" + words[one], "d/../" + words[one], *links])
+
+
 def draw_words(chance, commands):
     command = chance.choice(sorted(commands))
     words = places_of(chance, command)
@@ -361,6 +370,8 @@ def draw_words(chance, commands):
             parts = option(chance, name)
             at = chance.randrange(len(words) + 1)
             words[at:at] = parts
+    if chance.random() < 0.2:
+        twice(chance, words)
     words = [command] + words
     if chance.random() < 0.3:
         at = chance.randrange(len(words) + 1)
@@ -578,7 +589,8 @@ def try_words(chance, gmus, folder, commands):
         compare_names(asked, found, what, before, outputs, streams)
     finally:
         os.chdir(here)
-    return f"words, status {found[0]}" + (f", {found[2].split(': ', 2)[-1].strip()}" if found[0] == 6 and found[2] and " is " in found[2] else "")
+    why = (found[2] or "").split(": ", 2)[-1].strip()
+    return f"words, status {found[0]}" + (f", {why}" if found[0] == 6 and re.match("is |another run", why) else "")
 
 
 def wanted_of(words, asked, streams, locked):

@@ -120,8 +120,11 @@ class Room:
             output, errors = (files.enter_context(open(os.path.join(self.folder, name), how)) if name else subprocess.PIPE
                               for name in (out, err))
             words = words.split() if isinstance(words, str) else words
-            ended = subprocess.run([self.program, *words], cwd=self.folder, stdin=subprocess.DEVNULL, stdout=output, stderr=errors,
-                                   preexec_fn=prepare, check=False, **more)
+            try:
+                ended = subprocess.run([self.program, *words], cwd=self.folder, stdin=subprocess.DEVNULL, stdout=output, stderr=errors,
+                                       preexec_fn=prepare, timeout=60, check=False, **more)
+            except subprocess.TimeoutExpired:
+                raise Differs(f"{words}: it does not end") from None
         said = ended.stderr if err is None else self.held(err)
         return ended.returncode, ended.stdout, said.decode()
 
@@ -345,7 +348,7 @@ def where_memory_is_wanting(tries):
         tries.same(0, room.run("list f --evidence whole")[0])
         whole, ended = room.held("whole"), set()
         os.remove(room.at("whole"))
-        for kilobytes in range(4000, 60000, 400):
+        for kilobytes in range(4000, 60000, 100):
             for name in ("old", "new"):
                 room.put("old")
                 with contextlib.suppress(FileNotFoundError):
