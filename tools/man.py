@@ -13,8 +13,8 @@ from telling import WrongWords, run
 SEE = ("README.md says what a status of 0 promises, docs/TUTORIAL.md is a first hour, docs/FORMATS.md has the file, the report,"
        " the evidence and each refusal, and docs/REPORTING.md what to send with a fault.")
 EXAMPLES = (
-    ("From rules with names to a report with names:", ("tools/gcnf.py my.rules -o my.gcnf",
-                                                       "gmus list my.gcnf | tools/names.py my.gcnf")),
+    ("From rules to what clashes, why, and what to give up:", ("tools/clash.py my.rules",)),
+    ("Step by step, with names:", ("tools/gcnf.py my.rules -o my.gcnf", "gmus list my.gcnf | tools/names.py my.gcnf")),
     ("A first part of a long list, which a second call goes on from:", (
         "gmus list my.gcnf --limit 100 --evidence my.evidence > part.report",
         "gmus list my.gcnf --resume my.evidence --evidence my.evidence > my.report")),

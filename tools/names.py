@@ -32,15 +32,16 @@ import page
 import roles_report
 from focus import without_focus
 from report import decoded, named, number_of, origin_of
-from telling import DONE, Refused, WrongWords, bytes_of, is_for_a_person, put, run
+from telling import DONE, REFUSED, Refused, WrongWords, bytes_of, is_for_a_person, put, run, told
 
 CLASH = 3
 ON_A_TERMINAL, MOST = 20, 10 ** 18
 VERSION = 1
 
 
-def as_text(shown, first=None):
-    """The report as a text; of each list the first ones alone, if so many are asked for."""
+def as_text(shown, first=None, reasons=None):
+    """The report as a text; of each list the first ones alone, if so many are asked for. `reasons` are those of conflicts, as
+    why.by_groups gives them: each rule then has its lines below it."""
     lines = [shown.title, "=" * len(shown.title), "", shown.summary()]
     if shown.counts:
         lines += ["", "Rules", "-----", "", "  no.  conflicts  corrections  name"]
@@ -55,11 +56,21 @@ def as_text(shown, first=None):
         lines += ["", heading, "-" * len(heading), "", meaning]
         for at, members in enumerate(sets[:first], 1):
             told = [shown.name(group) for group in members] if len(members) > 1 else [alone.format(shown.name(members[0]))]
+            if sets is shown.conflicts and reasons:
+                told = with_lines(told, reasons.get(tuple(members), []))
             lines.append("")
             lines += [f"{f'{at}.' if not place else '':5} {line}" for place, line in enumerate(told)]
         lines += left_line(len(sets), first)
     lines += ["", shown.origin.made_of()] if shown.origin.made_of() else []
     return "".join(line + "\n" for line in lines)
+
+
+def with_lines(told, reasons):
+    """What is told of a conflict's rules, with the lines on which it rests below each of them; what always holds comes last."""
+    named = [(rule, lines) for rule, lines in reasons if rule is not None]
+    parts = [[head, *("    " + line for line in lines)] for head, (_, lines) in zip(told, named)] if len(named) == len(told) else []
+    always = [["always", *("    " + line for line in lines)] for rule, lines in reasons if rule is None]
+    return [line for part in (parts or [told]) + always for line in part]
 
 
 def left_line(count, first):
@@ -98,9 +109,15 @@ def reasons_of(file, held, evidence, focus):
         raise Refused("--why: tools/why.py, which finds reasons, is not there") from None
     problem = Problem(io.BytesIO(held), file, focus)
     with why.opened(evidence) as source:
-        return {tuple(reason.groups): [(problem.name(part.group) if part.group else None,
-                                        [f"{place}: {line}" for place, line in part.lines]) for part in reason.parts]
-                for reason in why.reasons(problem, Evidence(source, evidence, problem))}
+        return why.by_groups(problem, Evidence(source, evidence, problem))
+
+
+def number_behind(option, value):
+    """The number of an option, of any length: no list has as many as one of 19 digits says."""
+    if not (value.isascii() and value.isdecimal()):
+        raise WrongWords(f"{option} {value}: a number has to stand here")
+    digits = value.lstrip("0") or "0"
+    return int(digits) if len(digits) <= 18 else MOST
 
 
 class Words:
@@ -134,12 +151,8 @@ class Words:
             value = value if has_value else behind.pop(0)
             if option == "--why":
                 self.evidence = value
-            elif value.isascii() and value.isdecimal():
-                # No list has as many as a number of 19 digits says, and digits without end would be costly to read.
-                digits = value.lstrip("0") or "0"
-                self.first = int(digits) if len(digits) <= 18 else MOST
             else:
-                raise WrongWords(f"--first {value}: a number has to stand here")
+                self.first = number_behind(option, value)
         elif word == "--":
             self.files += behind
             behind.clear()
@@ -171,14 +184,14 @@ def main(words):
         else:
             text = as_text(shown, first)
     put(text)
-    return status_of(clashing) if asked.fails else DONE
+    return status_of("names.py", clashing) if asked.fails else DONE
 
 
-def status_of(report):
-    """The status where a clash has to fail."""
+def status_of(tool, report):
+    """The status where a clash has to fail; what was written stays."""
     clashes = report.has_clash()
     if clashes is None:
-        raise Refused(f"whether something clashes is not known: {report.UNCLEAR}")
+        return told(f"{tool}: whether something clashes is not known: {report.UNCLEAR}", REFUSED)
     return CLASH if clashes else DONE
 
 

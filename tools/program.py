@@ -13,6 +13,13 @@ def command():
     return os.environ.get("GMUS") or os.path.join(TOP, "gmus")
 
 
+def build():
+    """Has the program built where it is none that a variable names, and is not there yet; what is told of it is seen meanwhile."""
+    built = [os.path.join(TOP, *names) for names in (("bin", "gmus"), ("crates", "gmus", "out", "gmus"))]
+    if not os.environ.get("GMUS") and not any(map(os.path.exists, built)) and os.path.exists(command()):
+        subprocess.run([command(), "drill", "1", "1"], stdin=subprocess.DEVNULL, stdout=subprocess.DEVNULL, check=False)
+
+
 def call(words, **how):
     """Calls the program, and gives how it ended: its status, what it wrote to standard output, and to standard error."""
     try:

@@ -116,6 +116,18 @@ def is_for_a_person():
     return OUTPUT.name is None and sys.stdout.isatty()
 
 
+def refuse_places(read, written):
+    """Refuses names of files at which one would be lost, or could not be written."""
+    places = [*read, *written]
+    if len({os.path.realpath(name) for name in places}) < len(places):
+        raise Refused(f"{', '.join(places)}: two of these are one file")
+    for name in written:
+        if os.path.exists(name) and not os.path.isfile(name):
+            raise Refused(f"{name}: this is no plain file, and is left as it is")
+        if not os.path.isdir(os.path.dirname(os.path.realpath(name))):
+            raise Refused(f"{name}: its folder is not there")
+
+
 def write_whole(name, held):
     """Writes a file so that whoever reads it finds the whole of it, the one before or this one. What is no plain file, as
     /dev/null, is written to as it is."""

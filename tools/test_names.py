@@ -203,6 +203,10 @@ class Program(unittest.TestCase):
             file.write(held)
         return path
 
+    def held(self, path):
+        with open(path, encoding="utf-8") as file:
+            return file.read()
+
     def test_program_reads_a_file_or_standard_input(self):
         with open(LAPTOP_REPORT, "rb") as file:
             given = file.read()
@@ -266,6 +270,8 @@ class Program(unittest.TestCase):
             plain, failing = run(problem, given=given), run(problem, "--fail-on-conflict", given=given)
             self.assertEqual((plain[0], plain[2], failing[0], failing[2]), (0, "", status, said), sets)
             self.assertEqual(plain[1], failing[1], sets)
+            path = os.path.join(self.room, "out")
+            self.assertEqual((run(problem, "--fail-on-conflict", "-o", path, given=given)[0], plain[1]), (status, self.held(path)))
 
     def test_what_is_refused_is_told(self):
         other, folder = os.path.join(EXAMPLES, "first.report"), self.room

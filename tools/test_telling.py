@@ -2,8 +2,6 @@
 """Tests of telling.py: what all tools for users say of a file that is no text. What is wanted was worked out by hand."""
 import bz2
 import gzip
-import importlib
-import io
 import lzma
 import os
 import shutil
@@ -11,12 +9,12 @@ import subprocess
 import sys
 import tempfile
 import unittest
-from unittest import mock
 
 TOOLS = os.path.dirname(os.path.abspath(__file__))
 sys.path.insert(0, TOOLS)
 
-import telling  # noqa: E402
+import telling             # noqa: E402
+from trying import tried   # noqa: E402
 
 EXAMPLES = os.path.join(os.path.dirname(TOOLS), "examples")
 FIRST, EVIDENCE = (os.path.join(EXAMPLES, name) for name in ("first.gcnf", "first.evidence"))
@@ -85,18 +83,7 @@ class Outputs(unittest.TestCase):
         self.room = room.name
 
     def run_tool(self, tool, *words, given=""):
-        """How a tool ends in the room: its status, and what it writes to standard output and to standard error."""
-        streams = [io.TextIOWrapper(io.BytesIO(text.encode()), encoding="utf-8", write_through=True) for text in (given, "", "")]
-        main = importlib.import_module(tool[:-len(".py")])
-        before = os.getcwd()
-        os.chdir(self.room)
-        try:
-            with mock.patch.multiple(sys, argv=[tool, *words], stdin=streams[0], stdout=streams[1], stderr=streams[2]):
-                with self.assertRaises(SystemExit) as end:
-                    telling.run(tool, main.main, main.__doc__)
-        finally:
-            os.chdir(before)
-        return end.exception.code, streams[1].buffer.getvalue().decode(), streams[2].buffer.getvalue().decode()
+        return tried(tool, *words, given=given, room=self.room)
 
     def held(self):
         found = {}

@@ -4,7 +4,7 @@ import shlex
 import sys
 
 from focus import groups_in
-from telling import Refused, WrongWords
+from telling import WrongWords, refuse_places
 
 # The greatest limit that the program takes. If none is given, it is this one.
 MOST = 10 ** 9
@@ -48,20 +48,8 @@ class Words:
         if not (limit.isascii() and limit.isdecimal() and len(limit) <= 18 and 1 <= int(limit) <= MOST):
             raise WrongWords(f"--limit {limit}: a number from 1 to {MOST} has to stand here")
         self.last = int(limit)
-        self.refuse_places()
-
-    def refuse_places(self):
-        """Refuses names at which a file would be lost, or could not be written."""
-        read = [self.file] + ([] if self.journal is None else [self.journal])
-        written = ([self.evidence] if self.journal is None else []) + ([] if self.page is None else [self.page])
-        places = read + written
-        if len({os.path.realpath(name) for name in places}) < len(places):
-            raise Refused(f"{', '.join(places)}: two of these are one file")
-        for name in written:
-            if os.path.exists(name) and not os.path.isfile(name):
-                raise Refused(f"{name}: this is no plain file, and is left as it is")
-            if not os.path.isdir(os.path.dirname(os.path.realpath(name))):
-                raise Refused(f"{name}: its folder is not there")
+        kept = [self.evidence] if self.journal is None else []
+        refuse_places([self.file] + ([] if self.journal is None else [self.journal]), kept + ([] if self.page is None else [self.page]))
 
     def read_options(self, words):
         found = {}

@@ -44,6 +44,18 @@ def reasons(problem, evidence, number=None):
         yield Reason(at + 1, evidence.conflicts[at], [Part(group, list(parts[group])) for group in sorted(parts)])
 
 
+def by_groups(problem, evidence, wanted=None):
+    """The reason of each conflict, or of those of these sets of groups, by the tuple of its groups: pairs of a rule's name, or None
+    for the background, and its lines with where they stand."""
+    places = {groups: number for number, groups in enumerate(evidence.conflicts, 1)}
+    found = {}
+    for groups in places if wanted is None else map(tuple, wanted):
+        reason = next(reasons(problem, evidence, places[groups]))
+        found[groups] = [(problem.name(part.group) if part.group else None, [f"{place}: {line}" for place, line in part.lines])
+                         for part in reason.parts]
+    return found
+
+
 class Page:
     """The parts of a page, in words that the text and the HTML share."""
 
