@@ -31,7 +31,7 @@ import rule_text
 import rules as rule_language
 import telling
 from reasons import reason_of
-from report import Origin, Report, decoded, read_problem
+from report import Origin, Report, decoded, read_preferences, read_problem
 from roles_report import Roles as RolesReport
 from rules_after import Old
 from why_problem import Problem
@@ -133,7 +133,8 @@ CLASSES = {it.status: it for it in (BadWords, InputRefused, ReadFault, WriteFaul
 for each in CLASSES.values():
     each.reason = reason_of(each.status)
 # The options that are numbers, each with the least and the greatest that it may be.
-RANGES = {"jobs": (1, 64), "limit": (1, 10 ** 9), "conflicts": (0, 2 ** 64 - 1), "number": (1, 10 ** 9)}
+RANGES = {"jobs": (1, 64), "limit": (1, 10 ** 9), "conflicts": (0, 2 ** 64 - 1), "number": (1, 10 ** 9),
+          "weight": (1, rule_language.MOST_WEIGHT)}
 FILES = ("evidence", "resume", "journal")
 
 
@@ -143,11 +144,13 @@ class Result:
     `names` has the name of each group, in their order; no two are the same. `numbers` has the number of each name.
     `conflicts` and `corrections` are lists of sets of names, in the order of the report. `complete` says that no set is
     missing; if some may be, `why` says why. `notes` tells what may be a mistake in the rules. With a focus all this is of the
-    rules in focus.
+    rules in focus. `weights` has the weight of each name, and `kept` the names of rules that are never given up.
     """
 
-    def __init__(self, report, names, why, notes=()):
+    def __init__(self, report, names, why, notes=(), weights=(), kept=()):
         self.names = names
+        self.weights = {name: dict(weights).get(number, 1) for number, name in enumerate(names, 1)}
+        self.kept = {names[group - 1] for group in kept if group <= len(names)}
         self.numbers = {name: number for number, name in enumerate(names, 1)}
         self.conflicts = [{names[group - 1] for group in members} for members in report.conflicts]
         self.corrections = [{names[group - 1] for group in members} for members in report.corrections]
@@ -160,6 +163,14 @@ class Result:
         if self.conflicts or any(self.corrections):
             return True
         return False if self.corrections or self.complete else None
+
+    def weight(self, correction):
+        """What giving up these rules weighs."""
+        return sum(self.weights[name] for name in correction)
+
+    def lightest(self):
+        """The corrections that give up no rule which is kept, by their weight; of equal weight those of few rules first."""
+        return sorted((it for it in self.corrections if self.kept.isdisjoint(it)), key=lambda it: (self.weight(it), len(it)))
 
     def __repr__(self):
         kind = "complete" if self.complete else "partial"
@@ -177,27 +188,30 @@ class Roles:
         return f"<Roles: {len(self.every)} in every conflict, {len(self.some)} in some, {len(self.none)} in none>"
 
 
-def solve(rules, jobs=None, limit=None, conflicts=None, evidence=None, resume=None, journal=None, focus=None, timeout=None):
+def solve(rules, jobs=None, limit=None, conflicts=None, evidence=None, resume=None, journal=None, focus=None, timeout=None,
+          weights=None, keep=None):
     """The result for rules: their text, the name of a file that has it, or a mapping from names to lines.
 
     `jobs` is how many workers share the search, `limit` how many sets may be recorded, `conflicts` how many clauses may be
     learnt. `evidence` names a file to write evidence to, `resume` one to go on from, and `journal` one that keeps each set once
     it is found and from which to go on. `focus` lists the rules that the question is about, by names or numbers; others are
     left out. After `timeout` seconds the program is ended, and what it found is a partial result; before that, what is resumed is
-    checked, for which the time does not count. Raises a GmusError.
+    checked, for which the time does not count. `weights` is a mapping from names to whole numbers, and `keep` a list of names of
+    rules that are never given up, beside those that the rules say. Raises a GmusError.
     """
-    made, names = read_rules(rules)
+    made, names = read_rules(rules, weights, keep)
     with tempfile.TemporaryDirectory(prefix="gmus-") as folder:
         file = kept(folder, "problem.gcnf", made.gcnf())
         report, why = listed(folder, file, names, timeout, jobs=jobs, limit=limit, conflicts=conflicts, evidence=evidence, resume=resume,
                              journal=journal, focus=focus)
-    return Result(report, names, why, made.notes())
+    weighed = {number: weight for number, weight in enumerate(made.weights) if weight is not None}
+    return Result(report, names, why, made.notes(), weighed, [number for number, weight in enumerate(made.weights) if weight is None])
 
 
-def gcnf(rules, after=None):
-    """The GCNF file of rules, as a text; they are given as to `solve`. `after` is such a file of fewer rules, by its name or as a
-    text: what is made begins with all of it."""
-    made, _ = read_rules(rules)
+def gcnf(rules, after=None, weights=None, keep=None):
+    """The GCNF file of rules, as a text; they and their preferences are given as to `solve`. `after` is such a file of fewer rules,
+    by its name or as a text: what is made begins with all of it."""
+    made, _ = read_rules(rules, weights, keep)
     if after is None:
         return made.gcnf()
     try:
@@ -213,7 +227,7 @@ def list_gcnf(file, jobs=None, limit=None, conflicts=None, evidence=None, resume
         names = names_if_readable(name)
         report, why = listed(folder, name, names, timeout, jobs=jobs, limit=limit, conflicts=conflicts, evidence=evidence, resume=resume,
                              journal=journal, focus=focus)
-        return Result(report, names_in(name, report.groups), why)
+        return result_of(name, report, why)
 
 
 def check(file, evidence, focus=None):
@@ -222,7 +236,7 @@ def check(file, evidence, focus=None):
         name = file_of(folder, "problem.gcnf", file)
         words = options_of(names_if_readable(name), focus=focus)
         report, _ = asked(["check", name, file_of(folder, "evidence", evidence), *words])
-        return Result(report, names_in(name, report.groups), "the evidence is partial")
+        return result_of(name, report, "the evidence is partial")
 
 
 def roles(file, jobs=None, focus=None):
@@ -244,7 +258,7 @@ def carry(old, evidence, new, jobs=None, new_evidence=None):
     with tempfile.TemporaryDirectory(prefix="gmus-") as folder:
         names = [file_of(folder, kind, given) for kind, given in (("old.gcnf", old), ("evidence", evidence), ("new.gcnf", new))]
         report, why = asked(["carry", *names, *options_of((), jobs=jobs, evidence=new_evidence)])
-        return Result(report, names_in(names[2], report.groups), why)
+        return result_of(names[2], report, why)
 
 
 def export(file, evidence, number):
@@ -264,7 +278,13 @@ def read_journal(file, journal):
     with tempfile.TemporaryDirectory(prefix="gmus-") as folder:
         name = file_of(folder, "problem.gcnf", file)
         names = names_if_readable(name)
-        return Result(journal_report(journal, len(names)), names, "a journal does not say that no set is missing")
+        return result_of(name, journal_report(journal, len(names)), "a journal does not say that no set is missing")
+
+
+def result_of(file, report, why):
+    """The result for a file: what is found, with the names and the preferences that its comments have."""
+    weights, kept_groups = read_preferences(decoded(telling.bytes_of(file)))
+    return Result(report, names_in(file, report.groups), why, (), weights, kept_groups)
 
 
 def listed(folder, name, names, timeout, **options):
@@ -326,8 +346,8 @@ def fault(kind, on, error):
     return raised
 
 
-def read_rules(rules):
-    """The rules as they are read, and the names of their groups."""
+def read_rules(rules, weights=None, keep=None):
+    """The rules as they are read, with these preferences, and the names of their groups."""
     names = None
     want_text(rules, "rules", has_mapping=True)
     if isinstance(rules, collections.abc.Mapping):
@@ -340,7 +360,25 @@ def read_rules(rules):
         raise RulesRefused(str(why)) from None
     if names is not None and len(names) != len(made.names) - 1:
         raise RulesRefused(f"{source}: a line begins with '[', as only the first line of a rule does in a text")
-    return made, made.names[1:] if names is None else names
+    names = made.names[1:] if names is None else names
+    prefer(made, names, weights, keep)
+    return made, names
+
+
+def prefer(made, names, weights, keep):
+    """Gives rules the weights of a mapping, and has those of a list never given up."""
+    if not isinstance(weights, (collections.abc.Mapping, type(None))):
+        raise BadArgument(f"weights: a mapping from names of rules to whole numbers is wanted, and not {shown(weights)}")
+    if isinstance(keep, (str, bytes)) or not isinstance(keep, (collections.abc.Iterable, type(None))):
+        raise BadArgument(f"keep: a list of names of rules is wanted, and not {shown(keep)}")
+    numbers = {name: number for number, name in enumerate(names, 1)}
+    for what, pairs in (("weights", (weights or {}).items()), ("keep", [(name, None) for name in keep or ()])):
+        for name, weight in pairs:
+            if not isinstance(name, str) or name not in numbers:
+                raise BadWords(f"{what}: {shown(name)} is no name of a rule")
+            if what == "weights":
+                want_in_range("weight", weight)
+            made.weights[numbers[name]] = weight
 
 
 def want_text(given, what, has_mapping=False):

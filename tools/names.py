@@ -44,8 +44,9 @@ def as_text(shown, first=None, reasons=None):
     why.by_groups gives them: each rule then has its lines below it."""
     lines = [shown.title, "=" * len(shown.title), "", shown.summary()]
     if shown.counts:
-        lines += ["", "Rules", "-----", "", "  no.  conflicts  corrections  name"]
-        lines += [f"{group:5}  {conflicts:9}  {corrections:11}  {shown.name(group)}"
+        has_weights = bool(shown.origin.weights or shown.origin.kept)
+        lines += ["", "Rules", "-----", "", "  no.  conflicts  corrections  " + "    weight  " * has_weights + "name"]
+        lines += [f"{group:5}  {conflicts:9}  {corrections:11}  " + f"{shown.weight_of(group):>10}  " * has_weights + shown.name(group)
                   for group, (conflicts, corrections) in shown.counts[:first]]
         lines += left_line(len(shown.counts), first)
     if shown.others_line():
@@ -58,9 +59,12 @@ def as_text(shown, first=None, reasons=None):
             told = [shown.name(group) for group in members] if len(members) > 1 else [alone.format(shown.name(members[0]))]
             if sets is shown.conflicts and reasons:
                 told = with_lines(told, reasons.get(tuple(members), []))
+            if sets is shown.corrections and shown.origin.has_weights():
+                told.append(f"(weight {shown.origin.weight_of(members)})")
             lines.append("")
             lines += [f"{f'{at}.' if not place else '':5} {line}" for place, line in enumerate(told)]
         lines += left_line(len(sets), first)
+    lines += [line for told in shown.kept_lines() for line in ("", told)]
     lines += ["", shown.origin.made_of()] if shown.origin.made_of() else []
     return "".join(line + "\n" for line in lines)
 
@@ -84,11 +88,14 @@ def as_json(shown):
     """The whole report as JSON, one set a line."""
     origin = shown.origin
     head = {"version": VERSION, "file": origin.name, "sha256": origin.digest, "focus": origin.asked(), "complete": shown.report.is_complete, "groups": shown.report.groups,
-            "names": {str(group): name for group, name in sorted(origin.names.items())}}
+            "names": {str(group): name for group, name in sorted(origin.names.items())},
+            "weights": {str(group): weight for group, weight in origin.weights.items()}, "keep": sorted(origin.kept)}
     counts = [{"group": group, "conflicts": conflicts, "corrections": corrections}
               for group, (conflicts, corrections) in shown.counts]
     lines = [f'"{key}": {written(value)}' for key, value in head.items()]
     later = [{"line": line, "text": text, "groups": groups} for (line, text), groups in origin.later.items()]
+    sums = [origin.weight_of(members) for members in shown.corrections]
+    lines += [f'"left_out": {shown.unwanted}', f'"sums": {written(sums)}']
     for key, rows in (("later", later), ("counts", counts), ("conflicts", shown.conflicts), ("corrections", shown.corrections)):
         lines.append(f'"{key}": [' + ",".join("\n  " + written(row) for row in rows) + ("\n]" if rows else "]"))
     return "{\n" + ",\n".join(lines) + "\n}\n"

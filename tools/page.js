@@ -27,6 +27,7 @@ function tick(kind, group) {
     const box = make("input", {type: "checkbox", "data-kind": kind, "data-group": group,
                                "aria-label": `${WORDS[kind]}: ${name(group)}`});
     box.checked = chosen[kind].has(group);
+    box.disabled = fixed.has(group);
     return box;
 }
 
@@ -102,6 +103,7 @@ function correctionItem(at) {
     } else if (rest.length) {
         item.append(...listOf(rest, group => make("li", {}, name(group))));
     }
+    if (data.weights) item.append(make("div", {class: "pale"}, `Weight: ${weightOf(rest)}`));
     if (done.length) item.append(make("div", {class: "pale"}, `Given up already: ${listed(done.slice(0, AT_FIRST))}`
                                       + (done.length > AT_FIRST ? ` and ${done.length - AT_FIRST} more.` : ".")));
     if (rest.length) {
@@ -179,17 +181,17 @@ const others = new Listing("tbody", rowOf, AT_FIRST);
 const told = Object.fromEntries(["verdict", "fit", "conflictsHead", "correctionsHead"].map(id => [id, make("span", {id})]));
 const outcomePart = make("div", {id: "outcome", role: "status", tabindex: "-1"}, make("p", {}, told.verdict, " ", told.fit));
 const chosenParts = {give: make("div", {class: "chosen"}), keep: make("div", {class: "chosen"})};
-const startAgain = button("Start again", "start again", () => { chosen.give.clear(); chosen.keep.clear(); show(); });
+const startAgain = button("Start again", "start again", () => { startOver(); show(); });
 startAgain.className = "again";
 
 function drawChosen() {
     const heads = [["give", "Given up:", "give up no longer"], ["keep", "To be kept:", "keep no longer"]];
     for (const [kind, text, label] of heads) {
-        chosenParts[kind].replaceChildren(text, ...Array.from(chosen[kind], group => button(
+        chosenParts[kind].replaceChildren(text, ...Array.from(chosen[kind], group => fixed.has(group) ? make("span", {}, name(group)) : button(
             `${name(group)} \u00d7`, `${label}: ${name(group)}`, () => { choose(kind, group, false); show(); })));
         chosenParts[kind].hidden = !chosen[kind].size;
     }
-    startAgain.hidden = !chosen.give.size && !chosen.keep.size;
+    startAgain.hidden = !isChosen();
 }
 
 /** Shows what the choices leave. The keyboard's place goes to the verdict where what had it is gone. */
@@ -253,7 +255,8 @@ function layOut() {
              ...conflicts.parts),
         make("section", {class: "screen sets"}, make("h2", {}, told.correctionsHead),
              make("p", {}, "Give up the rules of one correction, and all others fit together. A correction fits if none of "
-                  + "its rules is to be kept. The first ones have the fewest rules that are still to be given up."),
+                  + `its rules is to be kept. The first ones have the ${data.weights ? "least weight" : "fewest rules"} that `
+                  + `${data.weights ? "is" : "are"} still to be given up.`),
              ...corrections.parts));
 }
 

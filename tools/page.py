@@ -42,7 +42,7 @@ def as_html(shown, reasons=None):
         '<meta name="viewport" content="width=device-width, initial-scale=1">',
         f"<title>{text(shown.title)}</title>", f"<style>\n{part('page.css')}</style>", *begin, "</head>",
         "<body>", f"<h1>{text(shown.title)}</h1>", f"<p>{text(shown.summary())}</p>",
-        *notes_parts(shown.origin),
+        *notes_parts(shown.origin), *(f"<p>{text(line)}</p>" for line in shown.kept_lines()),
         '<div id="plain">', *plain_parts(shown, reasons), "</div>",
     ]
     if shown.has_choice():
@@ -75,11 +75,13 @@ def plain_parts(shown, reasons):
         yield plain_reasons(reasons[shown.conflicts.index([])])
     if shown.counts:
         yield "<h2>Rules</h2>"
+        has_weights = bool(shown.origin.weights or shown.origin.kept)
         yield ('<table>\n<tr class="head"><th class="n">no.</th><th>rule</th><th class="n">conflicts</th>'
-               '<th class="n">corrections</th></tr>')
+               '<th class="n">corrections</th>' + '<th class="n">weight</th>' * has_weights + "</tr>")
         for group, (conflicts, corrections) in shown.counts:
             yield (f'<tr id="g{group}"><td class="n">{group}</td><td>{text(shown.name(group))}</td>'
-                   f'<td class="n">{conflicts}</td><td class="n">{corrections}</td></tr>')
+                   f'<td class="n">{conflicts}</td><td class="n">{corrections}</td>'
+                   + f'<td class="n">{shown.weight_of(group)}</td>' * has_weights + "</tr>")
         yield "</table>"
     if shown.others_line():
         yield f"<p>{text(shown.others_line())}</p>"
@@ -92,7 +94,8 @@ def plain_parts(shown, reasons):
         for at, members in enumerate(sets):
             told = alone.format(names[members[0]]) if len(members) == 1 else listed([names[group] for group in members])
             why = plain_reasons(reasons[at]) if sets is shown.conflicts and not is_long else ""
-            yield f"<li>{told}{why}</li>"
+            weight = f" (weight {shown.origin.weight_of(members)})" if sets is shown.corrections and shown.origin.has_weights() else ""
+            yield f"<li>{told}{weight}{why}</li>"
         yield "</ol>"
 
 
@@ -129,6 +132,8 @@ def data(shown, reasons):
         "names": [shown.name(group) for group, _ in shown.counts],
         "conflicts": shown.conflicts,
         "corrections": shown.corrections,
+        "weights": [shown.origin.weight_of([group]) for group, _ in shown.counts] if shown.origin.has_weights() else None,
+        "kept": [group for group, _ in shown.counts if group in shown.origin.kept],
         "others": shown.others_line(),
         "lines": list(lines),
         "reasons": told if any(told) else [],

@@ -7,7 +7,9 @@
 const LONG = 120;
 const data = JSON.parse(document.getElementById("data").textContent);
 const names = new Map(data.rules.map((group, at) => [group, data.names[at]]));
-const chosen = {give: new Set(), keep: new Set()};
+// Rules that are never given up are kept from the beginning, whatever else is chosen.
+const fixed = new Set(data.kept), weights = new Map(data.rules.map((group, at) => [group, data.weights ? data.weights[at] : 1]));
+const chosen = {give: new Set(), keep: new Set(fixed)};
 
 const isGiven = group => chosen.give.has(group);
 const isKept = group => chosen.keep.has(group);
@@ -18,7 +20,17 @@ const listed = groups => groups.map(name).join("; ");
 const counted = (count, one, many) => `${count} ${count === 1 ? one : many}`;
 const placesOf = sets => Array.from(sets, (_, at) => at);
 
+const weightOf = groups => groups.reduce((sum, group) => sum + weights.get(group), 0);
+
+function startOver() {
+    chosen.give.clear();
+    chosen.keep = new Set(fixed);
+}
+
+const isChosen = () => chosen.give.size > 0 || chosen.keep.size > fixed.size;
+
 function choose(kind, group, isOn) {
+    if (fixed.has(group)) return;
     chosen[kind][isOn ? "add" : "delete"](group);
     if (isOn) chosen[kind === "give" ? "keep" : "give"].delete(group);
 }
@@ -27,12 +39,13 @@ function choose(kind, group, isOn) {
 
 function outcome() {
     const remaining = placesOf(data.conflicts).filter(at => !data.conflicts[at].some(isGiven));
-    const left = data.corrections.map(correction => correction.filter(group => !isGiven(group)).length);
+    const rests = data.corrections.map(correction => correction.filter(group => !isGiven(group)));
+    const left = rests.map(rest => rest.length), weight = rests.map(weightOf);
     const givenUp = placesOf(data.corrections).filter(at => !left[at]);
     const fitting = placesOf(data.corrections).filter(at => !data.corrections[at].some(isKept));
-    fitting.sort((one, other) => left[one] - left[other] || one - other);
+    fitting.sort((one, other) => weight[one] - weight[other] || left[one] - left[other] || one - other);
     const keptClash = remaining.find(at => data.conflicts[at].every(isKept));
-    return {remaining, givenUp, fitting, keptClash, isClean: givenUp.length > 0, least: left[fitting[0]]};
+    return {remaining, givenUp, fitting, keptClash, isClean: givenUp.length > 0, least: left[fitting[0]], lightest: weight[fitting[0]]};
 }
 
 function verdict(now) {
@@ -51,7 +64,8 @@ function fitLine(now) {
         return spare ? `You give up ${counted(spare, "rule", "rules")} more than correction ${smallest + 1} does.` : "";
     }
     if (now.fitting.length) {
-        return counted(now.fitting.length, "correction fits.", "corrections fit.") + " The smallest gives up "
+        return counted(now.fitting.length, "correction fits.", "corrections fit.")
+            + (data.weights ? ` The one of the least weight, ${now.lightest}, gives up ` : " The smallest gives up ")
             + counted(now.least, "rule", "rules") + (chosen.give.size ? " more." : ".");
     }
     return data.complete || now.keptClash !== undefined ? "No correction fits." : "No correction that was found fits.";
@@ -59,12 +73,11 @@ function fitLine(now) {
 
 // The choices stand in the page's address, so that a link has them: #give=3,5&keep=1.
 
-const address = () => Object.entries(chosen).filter(([, groups]) => groups.size)
-    .map(([kind, groups]) => `${kind}=${Array.from(groups).join(",")}`).join("&");
+const address = () => Object.entries(chosen).map(([kind, groups]) => [kind, Array.from(groups).filter(group => !fixed.has(group))])
+    .filter(([, groups]) => groups.length).map(([kind, groups]) => `${kind}=${groups.join(",")}`).join("&");
 
 function readAddress() {
-    chosen.give.clear();
-    chosen.keep.clear();
+    startOver();
     for (const part of location.hash.slice(1).split("&")) {
         const [kind, words] = part.split("=");
         if (kind !== "give" && kind !== "keep") continue;

@@ -13,6 +13,8 @@ LINE = re.compile(r"[^\n]+")
 NAMING = re.compile(r"^[ \t]*c[ \t]+group[ \t]+0*([0-9]{1,18})[ \t]+(\S[^\n]*)", re.MULTILINE)
 # what came to [always] later, and stands in the groups of rules (docs/FORMATS.md)
 LATER = re.compile(r"^c always ([0-9]{1,9}) (.*)|^\{([0-9]{1,9})\}", re.MULTILINE)
+# what giving up a rule weighs, and which ones are never given up
+PREFERENCE = re.compile(r"^[ \t]*c[ \t]+(?:weight[ \t]+0*([0-9]{1,18})[ \t]+0*([1-9][0-9]{0,9})|keep[ \t]+0*([0-9]{1,18}))[ \t\r]*$", re.MULTILINE)
 HEADER = re.compile(r"p gcnf [0-9]+ [0-9]+ 0*([0-9]{1,18})|p cnf [0-9]+ 0*([0-9]{1,18})( .*)?")
 HEAD = re.compile(r"p gmus ([0-9]{1,18})")
 SET = re.compile(r"(u|m)((?: [1-9][0-9]{0,17})*) 0")
@@ -67,6 +69,17 @@ def read_later(text):
     return {line: list(groups) for line, groups in found.items()}
 
 
+def read_preferences(text):
+    """The weights of groups that have one which is not 1, and the groups that are never given up."""
+    weights, kept = {}, set()
+    for found in PREFERENCE.finditer(text):
+        if found.group(3):
+            kept.add(int(found.group(3)))
+        elif found.group(2) != "1":
+            weights[int(found.group(1))] = int(found.group(2))
+    return {group: weight for group, weight in sorted(weights.items()) if group not in kept}, kept
+
+
 class Origin:
     """What a report is of: a file, by its name and the first digits of its SHA-256, with what its comments say; and the groups
     that the question is about, if it isn't about all."""
@@ -77,7 +90,15 @@ class Origin:
         self.digest = digest
         self.names, self.groups = read_problem(text)
         self.later = read_later(text) if "\nc always " in text else {}
+        self.weights, self.kept = read_preferences(text)
         self.focus = focus
+
+    def has_weights(self):
+        return bool(self.weights)
+
+    def weight_of(self, groups):
+        """What giving up these groups weighs."""
+        return sum(self.weights.get(group, 1) for group in groups)
 
     def is_asked(self, group):
         """Whether the question is about this group."""
@@ -192,11 +213,13 @@ CONFLICTS = ("Conflicts", "Not all rules of a conflict can be kept. Without any 
              "{} can't be kept, whatever else is given up.")
 CORRECTIONS = ("Corrections", "Give up the rules of one correction, and all others fit together. No part of it is enough.",
                "Giving up {} alone mends all.")
+LIGHT = " The one of the least weight comes first."
 
 
 class Named:
     """A report with the names of its groups, in the order in which a person reads it: first the rules in most conflicts,
-    then those in most corrections; and the sets of few rules before larger ones, since they tell most."""
+    then those in most corrections; and the sets of few rules before larger ones, since they tell most. Corrections come by their
+    weight, and those that give up a rule which is kept are left out and counted."""
 
     def __init__(self, report, origin):
         self.report = report
@@ -204,24 +227,30 @@ class Named:
         self.title = f"What clashes in {origin.name}"
         self.counts = report.counts()
         self.conflicts = sorted(report.conflicts, key=len)
-        self.corrections = sorted(report.corrections, key=len)
+        self.corrections = sorted((members for members in report.corrections if origin.kept.isdisjoint(members)),
+                                  key=lambda members: (origin.weight_of(members), len(members)))
+        self.unwanted = len(report.corrections) - len(self.corrections)
         involved = {group for group, _ in self.counts}
         self.others = [group for group in range(1, report.groups + 1) if group not in involved and origin.is_asked(group)]
 
     def name(self, group):
         return self.origin.name_of(group)
 
+    def weight_of(self, group):
+        """What is told of a rule's weight: that it is kept, or how much giving it up weighs."""
+        return "keep" if group in self.origin.kept else self.origin.weight_of([group])
+
     def has_choice(self):
         """Whether there is a set with rules in it, of which some can be given up."""
         return bool(self.counts) and [] not in self.conflicts
 
     def summary(self):
-        if [] in self.corrections:
+        if [] in self.report.corrections:
             return "Nothing clashes: all rules fit together."
         if [] in self.conflicts:
             return "The background clashes with itself, whatever is given up: there is no correction."
         found = (number_of(len(self.conflicts), "conflict", "conflicts") + " and "
-                 + number_of(len(self.corrections), "correction", "corrections"))
+                 + number_of(len(self.report.corrections), "correction", "corrections"))
         if self.report.is_complete:
             return found + ". The report is complete: there are no others."
         return found + " were found. The report is partial: there may be others."
@@ -229,12 +258,26 @@ class Named:
     def sections(self):
         """The two lists of sets, each behind its heading, what it means, and what is said of a set of one rule; without
         those that are empty."""
-        both = ((*CONFLICTS, self.conflicts), (*CORRECTIONS, self.corrections))
+        heading, meaning, alone = CORRECTIONS
+        both = ((*CONFLICTS, self.conflicts), (heading, meaning + LIGHT * self.origin.has_weights(), alone, self.corrections))
         return [section for section in both if section[-1] and [] not in section[-1]]
+
+    def kept_lines(self):
+        """What is said of rules that are never given up: which conflicts are of them alone, and how many corrections give one up."""
+        kept = self.origin.kept
+        alone = [at for at, members in enumerate(self.conflicts, 1) if members and kept.issuperset(members)]
+        if alone:
+            shown = ", ".join(map(str, alone[:FEW])) + (f" and {len(alone) - FEW} more" if len(alone) > FEW else "")
+            these, it = ("conflict", "it") if len(alone) == 1 else ("the conflicts", "these")
+            yield f"All rules of {these} {shown} are to be kept, so nothing mends {it}."
+        if self.unwanted:
+            gives = "1 correction is left out: it gives up a rule that is to be kept." if self.unwanted == 1 else (
+                f"{self.unwanted} corrections are left out: each gives up a rule that is to be kept.")
+            yield gives + ("" if self.corrections or not self.report.is_complete else " There is no other.")
 
     def others_line(self):
         """What is said of the groups in no set, as names if they are few."""
-        if not self.others or [] in self.conflicts + self.corrections:
+        if not self.others or [] in self.conflicts + self.report.corrections:
             return ""
         so_far = "" if self.report.is_complete else " so far"
         if len(self.others) > 20:

@@ -83,7 +83,7 @@ def name_of_rule(name):
 def may_be_rule(name):
     """Whether a line [NAME] begins a rule of this name."""
     try:
-        return name != "" and rules.head_of(f"[{name}]") == name and name.lower() not in rules.RESERVED
+        return name != "" and rules.head_of(f"[{name}]") == (name, 1) and name.lower() not in rules.RESERVED
     except Mistake:
         return False
 

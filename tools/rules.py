@@ -7,6 +7,7 @@
     made.variables    the number of each name
     made.notes()      what may be a mistake, a line of text each
     made.declared     the names that stand under [names], as keys
+    made.weights      of each group its weight, or None if it is never given up
 
 docs/RULES.md has the language, docs/FORMATS.md the comments in the file. For those who write rules by a program,
 `rules.written(name)` is the name as formulas have it, with quotes if it needs them, and `rules.heading(name)` the line with
@@ -21,6 +22,7 @@ import limits
 from rules_alike import alike, looks, mixed, why_alike
 from rules_clauses import Clauses
 from rules_formula import DEPTH, formula_of, signs_in
+from rules_hints import near_to
 from rules_near import near_names
 from rules_words import Mistake, words_of, written
 from telling import Refused, plain
@@ -32,6 +34,9 @@ RESERVED = ALWAYS, NAMES      # in any case these begin no rule
 # Defined variables are counted from here until all names are known. Then they are numbered behind the names.
 DEFINED = 1 << 40
 POSITIVE, NEGATIVE = 1, 2
+MOST_WEIGHT = 1_000_000_000
+LONE_SHARP = re.compile(r"(?:^|(?<=\s)|(?<=\[))#(?=\s|$)")
+PREFERENCE = re.compile(r"\s+(?:weight|keep)(?:\s|$)", re.IGNORECASE)
 FRAMES = 40       # how many calls deep one pair of brackets is read, and turned into clauses, at most
 MOST_TOLD = 20    # undeclared names
 IN_NONE = ": no clause with {} is in any conflict"
@@ -61,6 +66,7 @@ class Rules:
         self.lines = [[]]           # of each group
         self.heads = [0]            # the numbers of the lines in which the rules begin
         self.groups = {}            # by name
+        self.weights = [1]          # of each group; None is that of a rule which is never given up
         self.defined = self.clauses = self.literals = 0
         self.signs = {}             # of each name, by its number
         self.first_places = []      # where each name stands first: its line, and the place in it
@@ -72,12 +78,17 @@ class Rules:
         parts = [f"c variable {number} {plain(name)}" for name, number in self.variables.items()]
         parts.append(f"p gcnf {len(self.variables) + self.defined} {self.clauses} {len(self.names) - 1}")
         for group, (name, lines) in enumerate(zip(self.names, self.lines)):
-            if group:
-                parts.append(f"c group {group} {plain(name)}")
+            parts += self.group_comments(group, group, name) if group else []
             for line in lines:
                 parts += comments_on("rule", line)
                 parts += ["{%d} %s" % (group, " ".join(map(self.numbered, [*clause, 0]))) for clause in line.clauses]
         return "\n".join(parts) + "\n"
+
+    def group_comments(self, number, at, name):
+        """The comments in the file before the clauses of a rule, whose group has this number there."""
+        weight = self.weights[at]
+        preference = [f"c keep {number}"] if weight is None else [f"c weight {number} {weight}"] if weight != 1 else []
+        return [f"c group {number} {plain(name)}", *preference]
 
     def numbered(self, literal):
         if -DEFINED < literal < DEFINED:
@@ -174,33 +185,52 @@ def room_for_brackets():
 
 
 def head_of(line):
-    """The name of the rule that begins in this line, or None. A `#` alone begins a comment, also in a name."""
+    """The name of the rule that begins in this line, its weight, or None if it is never given up; or None if no rule begins here.
+    A `#` alone begins a comment, also in a name."""
     text = line.strip()
     if not text.startswith("["):
         return None
-    bare = text.partition("#")[0].rstrip()
-    if not bare.endswith("]"):
-        bare = re.split(r"(?:^|(?<=\s)|(?<=\[))#(?=\s|$)", text)[0].rstrip()
-    if len(bare) < 2 or not bare.endswith("]"):
+    for bare in (text.partition("#")[0].rstrip(), LONE_SHARP.split(text)[0].rstrip()):
         end = bare.rfind("]")
-        begin = line.index("[")
-        if end < 0:
-            raise Mistake("no rule begins here: its ']' is missing", begin + len(bare), "a rule begins with [NAME]")
-        raise Mistake("behind ']' stands nothing but a comment", begin + end + 1,
-                      "the lines of a rule stand below its [NAME]")
-    return " ".join(bare[1:-1].split())
+        if end > 0 and (end == len(bare) - 1 or PREFERENCE.match(bare, end + 1)):
+            return " ".join(bare[1:end].split()), preference_of(bare, end + 1, line.index("["))
+    begin = line.index("[")
+    if end < 1:
+        raise Mistake("no rule begins here: its ']' is missing", begin + len(bare), "a rule begins with [NAME]")
+    near = near_to(bare[end + 1:].split()[0].lower(), ("weight", "keep"))
+    raise Mistake("behind ']' stands nothing but a weight, 'keep' or a comment" + (f". Is '{near}' meant?" if near else ""), begin + end + 1,
+                  "the lines of a rule stand below its [NAME], as in: [NAME] weight 3")
 
 
-def heading(name):
-    """The line with which the rule of this name begins. Blanks in a row, and line ends, count as one blank."""
+def preference_of(bare, at, begin):
+    """The weight that stands from this place on, 1 if nothing does, or None for a rule that is kept."""
+    words = bare[at:].split()
+    if not words:
+        return 1
+    if words[0].lower() == "keep":
+        if words[1:]:
+            raise Mistake("a rule that is kept is never given up, so nothing stands behind 'keep'", begin + bare.index(words[1], at),
+                          "a heading is [NAME], [NAME] weight 3 or [NAME] keep")
+        return None
+    number = words[1] if words[1:] else ""
+    if len(words) > 2 or not (number.isascii() and number.isdecimal()) or len(number) > 10 or not 1 <= int(number) <= MOST_WEIGHT:
+        place = bare.index(words[1], at) if words[1:] else len(bare)
+        raise Mistake(f"a weight is a whole number from 1 to {MOST_WEIGHT:,}".replace(",", "") + (
+            ", and nothing stands behind it" if len(words) > 2 else ""), begin + place, "a heading is [NAME], [NAME] weight 3 or [NAME] keep")
+    return int(number)
+
+
+def heading(name, weight=1):
+    """The line with which the rule of this name begins; a weight of None is that of a rule which is never given up. Blanks in a
+    row, and line ends, count as one blank."""
     name = " ".join(name.split())
-    line = f"[{name}]"
+    line = f"[{name}]" + (" keep" if weight is None else f" weight {weight}" if weight != 1 else "")
     try:
-        is_read_back = head_of(line) == name
+        is_read_back = head_of(line) == (name, weight)
     except Mistake:
         is_read_back = False
     if not name or not is_read_back or name.lower() in RESERVED:
-        raise Refused(f"no rule can have the name '{plain(name)}'")
+        raise Refused(f"no rule can have the name '{plain(name)}'" + ("" if weight in (1, None) else f" and the weight {weight}"))
     return line
 
 
@@ -229,9 +259,9 @@ class Reader:
             self.origin = (found.group(1), int(found.group(2))) if found else None
         if not bare or bare.startswith("#"):
             return
-        name = head_of(line)
-        if name is not None:
-            self.begin(name, line)
+        head = head_of(line)
+        if head is not None:
+            self.begin(*head, line)
         elif self.is_in_names:
             self.declare(line)
         elif self.group is None:
@@ -241,12 +271,14 @@ class Reader:
         else:
             self.add(line)
 
-    def begin(self, name, line):
+    def begin(self, name, weight, line):
         rules, at = self.rules, line.index("[")
         self.end_rule()
         self.origin = None
         self.is_in_names = name.lower() == NAMES
         if name.lower() in RESERVED:
+            if weight != 1:
+                raise Mistake(f"[{name.lower()}] can't be given up, so it has no weight and no 'keep'", line.index("]") + 1, "it stands alone")
             self.group = None if self.is_in_names else 0
             return
         if not name:
@@ -258,6 +290,7 @@ class Reader:
             raise Mistake(f"more than {limits.GROUPS:,} rules", at, IN_FORMATS)
         self.group = rules.groups[name] = len(rules.names)
         rules.names.append(name)
+        rules.weights.append(weight)
         rules.lines.append([])
         rules.heads.append(self.number)
 

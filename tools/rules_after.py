@@ -19,6 +19,7 @@ HEADER = re.compile(r"p gcnf ([0-9]{1,9}) ([0-9]{1,9}) ([0-9]{1,9})")
 NAMING = re.compile(r"c (variable|group) ([1-9][0-9]{0,8}) (.*)")
 CLAUSE = re.compile(r"\{([0-9]{1,9})\} ((?:-?[1-9][0-9]{0,8} )*)0")
 OWN, LATER, FROM = "c rule ", "c always ", "c from "
+PREFERENCE = re.compile(r"c (?:weight ([1-9][0-9]{0,8}) [1-9][0-9]{0,9}|keep ([1-9][0-9]{0,8}))")
 
 
 class Old:
@@ -63,6 +64,10 @@ class Old:
             return self.take_clause(number, int(clause.group(1)), [int(word) for word in clause.group(2).split()])
         if line.startswith(FROM):
             return True
+        preference = PREFERENCE.fullmatch(line)
+        if preference:
+            # which may change from file to file
+            return int(preference.group(1) or preference.group(2)) == len(self.names) - 1
         if line.startswith(LATER):
             self.beside[-1].append([])
             return len(self.names) > 1
@@ -139,7 +144,7 @@ class Longer:
     def text(self):
         made, parts = self.made, []
         for group, at in enumerate(self.at + self.new):
-            parts += [f"c group {group} {plain(made.names[at])}"] if group else []
+            parts += made.group_comments(group, at, made.names[at]) if group else []
             for kind, line, clauses in self.old_parts(group) if group < len(self.at) else self.new_parts(at):
                 parts += comments_on(kind, line)
                 parts += ["{%d} %s" % (group, " ".join(map(str, [*clause, 0]))) for clause in clauses]

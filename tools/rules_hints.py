@@ -27,7 +27,7 @@ UNEQUAL = ("!=", "≠", "<>")
 EXCLUDES = ("excludes", "exclude", "forbids", "prevents", "contradicts", "conflicts", "clashes")
 EXCLUSIVE = ("mutually", "exclusive", "exclusively")
 TOGETHER = ": 'at most one of a, b' says that they exclude each other"
-NO_ARITHMETIC = "there is no arithmetic"
+NO_ARITHMETIC = "there is no arithmetic but the weights of rules"
 NUMBER = re.compile(r"[0-9]+(?:[.,][0-9]+)*")
 
 

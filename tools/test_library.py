@@ -227,6 +227,27 @@ class Library(unittest.TestCase):
         self.assertEqual(re.findall("c group .*", named), ["c group 1 rule 1'", "c group 2 rule 1", "c group 3 c"])
         self.assertEqual(gmus_tools.written("a b"), '"a b"')
 
+    def test_weights_and_rules_that_are_kept(self):
+        report = "p gmus 3\ns COMPLETE\nu 1 2 0\nu 2 3 0\nm 1 3 0\nm 2 0\ne 2 2\n"
+        text = "[a] weight 2\nx\n[b] weight 5\nnot x\n[c]\nx\n"
+        with AsIf(0, report) as program:
+            for rules, options in ((text, {}), ({"a": "x", "b": "not x", "c": "x"}, {"weights": {"a": 2, "b": 5}})):
+                found = gmus_tools.solve(rules, **options)
+                self.assertEqual((found.weights, found.kept), ({"a": 2, "b": 5, "c": 1}, set()))
+                self.assertEqual((found.corrections, found.lightest()), ([{"a", "c"}, {"b"}], [{"a", "c"}, {"b"}]))
+                self.assertEqual([found.weight(it) for it in found.lightest()], [3, 5])
+                self.assertIn("\nc weight 2 5\n", program.called_with())
+            found = gmus_tools.solve(text, weights={"b": 3}, keep=["c"])
+            self.assertEqual((found.weights["b"], found.kept, found.lightest()), (3, {"c"}, [{"b"}]))
+            found = gmus_tools.list_gcnf(gmus_tools.gcnf(text, keep=("b",)))
+            self.assertEqual((found.kept, found.lightest(), found.corrections), ({"b"}, [{"a", "c"}], [{"a", "c"}, {"b"}]))
+            for options, kind, told in (({"weights": {"d": 2}}, "BadWords", "weights: 'd' is no name of a rule"),
+                                        ({"weights": {"a": 0}}, "BadWords", "weight=0: a whole number from 1 to 1000000000 is wanted"),
+                                        ({"weights": [1]}, "BadArgument", "weights: a mapping from names of rules to whole numbers is wanted, and not [1]"),
+                                        ({"keep": "a"}, "BadArgument", "keep: a list of names of rules is wanted, and not 'a'"),
+                                        ({"keep": [1]}, "BadWords", "keep: 1 is no name of a rule")):
+                self.assertEqual(caught(gmus_tools.solve, text, **options)[:2], (kind, told))
+
     def test_rules_that_cannot_be_read_are_told_without_the_program(self):
         for given, wanted in (
                 ("[a]\nx or\n", "rules: line 2: a formula is due at the line's end"),

@@ -148,7 +148,7 @@ class Texts(unittest.TestCase):
         made = names.as_json(shown("p gmus 3\ns PARTIAL\nu 1 2 0\nu 3 0\nm 1 3 0\ne 2 1\n", "c group 1 \"ä\\b\"\nc group 0 all\n", "/a/b.gcnf"))
         self.assertEqual(json.loads(made, object_pairs_hook=lambda pairs: [list(pair) for pair in pairs]), [
             ["version", 1], ["file", "b.gcnf"], ["sha256", ""], ["focus", None], ["complete", False], ["groups", 3], ["names", [["0", "all"], ["1", "\"ä\\b\""]]],
-            ["later", []], ["counts", [[["group", 1], ["conflicts", 1], ["corrections", 1]], [["group", 3], ["conflicts", 1], ["corrections", 1]],
+            ["weights", []], ["keep", []], ["left_out", 0], ["sums", [2]], ["later", []], ["counts", [[["group", 1], ["conflicts", 1], ["corrections", 1]], [["group", 3], ["conflicts", 1], ["corrections", 1]],
                         [["group", 2], ["conflicts", 1], ["corrections", 0]]]],
             ["conflicts", [[3], [1, 2]]], ["corrections", [[1, 3]]]])
 
@@ -157,6 +157,36 @@ class Texts(unittest.TestCase):
             wanted = file.read().partition("### The report as JSON")[2].partition("```text\n")[2].partition("```")[0]
         first = os.path.join(EXAMPLES, "first")
         self.assertEqual(run(first + ".gcnf", first + ".report", "--json"), (0, wanted, ""))
+
+    def test_corrections_come_by_weight_and_what_is_kept_is_never_given_up(self):
+        problem = "c group 1 a\nc weight 1 5\nc group 2 b\nc keep 2\nc weight 3 03\nc weight 4 1\np gcnf 1 1 4\n"
+        found = shown("p gmus 4\ns COMPLETE\nu 1 2 0\nu 3 4 0\nm 1 3 0\nm 1 4 0\nm 2 3 0\nm 2 4 0\ne 2 4\n", problem)
+        made = names.as_text(found)
+        for wanted in ("2 conflicts and 4 corrections. The report is complete", "  no.  conflicts  corrections      weight  name\n    1          1            2           5  a\n"
+                       "    2          1            2        keep  b\n", "No part of it is enough. The one of the least weight comes first.\n\n1.    a\n      group 4\n"
+                       "      (weight 6)\n\n2.    a\n      group 3\n      (weight 8)\n\n2 corrections are left out: each gives up a rule that is to be kept.\n"):
+            self.assertIn(wanted, made)
+        data = json.loads(names.as_json(found))
+        self.assertEqual([data[key] for key in ("weights", "keep", "left_out", "sums", "corrections")],
+                         [{"1": 5, "3": 3}, [2], 2, [6, 8], [[1, 4], [1, 3]]])
+        # Ones of equal weight come as they do without weights: those of few rules first.
+        even = shown("p gmus 4\ns COMPLETE\nu 1 2 0\nu 1 3 0\nm 1 0\nm 2 3 0\ne 2 2\n", "c weight 1 2\np gcnf 1 1 4\n")
+        self.assertEqual(even.corrections, [[1], [2, 3]])
+        self.assertIn("1.    Giving up group 1 alone mends all.\n      (weight 2)\n\n2.    group 2\n      group 3\n      (weight 2)\n", names.as_text(even))
+
+    def test_where_all_of_a_conflict_is_kept_nothing_mends_it(self):
+        both = "c keep 1\nc keep 2\np gcnf 1 1 3\n"
+        for text, told in (
+                ("COMPLETE\nu 1 2 0\nm 1 0\nm 2 0\ne 1 2", ["All rules of conflict 1 are to be kept, so nothing mends it.",
+                                                         "2 corrections are left out: each gives up a rule that is to be kept. There is no other."]),
+                ("PARTIAL\nu 1 0\nu 2 0\nm 1 2 0\ne 2 1", ["All rules of the conflicts 1, 2 are to be kept, so nothing mends these.",
+                                                       "1 correction is left out: it gives up a rule that is to be kept."]),
+                ("PARTIAL\nu 1 3 0\ne 1 0", []), ("COMPLETE\nm 0\ne 0 1", []), ("COMPLETE\nu 0\ne 1 0", [])):
+            found = shown(f"p gmus 3\ns {text}\n", both)
+            self.assertEqual(list(found.kept_lines()), told)
+            made = names.as_text(found)
+            self.assertEqual([line for line in told if "\n\n" + line + "\n" not in made], [])
+            self.assertNotIn("(weight", made)
 
     def test_what_is_left_out_by_a_focus_is_told_so(self):
         problem = "c group 2 a pen\nc group 4 ink\np gcnf 1 2 5\n"

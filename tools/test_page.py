@@ -115,6 +115,58 @@ class Text(unittest.TestCase):
             self.assertNotIn("<script", made)
 
 
+def weighed():
+    """A report with weights and a rule that is kept: 1 weighs 5, 3 weighs 3, and 2 is kept."""
+    return shown("p gmus 4\ns COMPLETE\nu 1 2 0\nu 3 4 0\nm 1 3 0\nm 1 4 0\nm 2 3 0\nm 2 4 0\ne 2 4\n",
+                 "c group 1 a\nc weight 1 5\nc group 2 b\nc keep 2\nc weight 3 3\np gcnf 1 1 4\n")
+
+
+class Preferences(unittest.TestCase):
+    def test_corrections_come_by_weight_and_those_that_give_up_what_is_kept_are_left_out(self):
+        found = Elements(page.as_html(weighed()))
+        data = json.loads(found.data)
+        self.assertEqual([data[key] for key in ("rules", "weights", "kept", "corrections")],
+                         [[1, 2, 3, 4], [5, 1, 3, 1], [2], [[1, 4], [1, 3]]])
+        made = page.as_html(weighed())
+        for wanted in ('<th class="n">weight</th>', '<td class="n">2</td><td class="n">keep</td></tr>', '<td class="n">2</td><td class="n">5</td></tr>',
+                       "<p>2 corrections are left out: each gives up a rule that is to be kept.</p>", "</ul> (weight 6)</li>", "</ul> (weight 8)</li>",
+                       "The one of the least weight comes first."):
+            self.assertEqual(made.count(wanted), 1, wanted)
+        self.assertEqual([json.loads(Elements(page.as_html(laptop())).data)[key] for key in ("weights", "kept")], [None, []])
+        self.assertNotIn("weight</th>", page.as_html(laptop()))
+
+
+@unittest.skipUnless(shutil.which("node"), "no Node is there to try the choices of the page with")
+class Choices(unittest.TestCase):
+    """What page_choices.js says, without a page."""
+
+    def told(self, made, steps):
+        """What is told after each of these steps, which are lines of script."""
+        begin = ("const document = {getElementById: () => ({textContent: %s})}, location = {hash: ''}, history = {replaceState() {}};\n"
+                 % json.dumps(json.dumps(page.data(made, [[] for _ in made.conflicts]))))
+        asked = "; ".join(f"{step}; told.push([outcome().fitting.map(at => at + 1), verdict(outcome())[1], fitLine(outcome()), address()])" for step in steps)
+        text = begin + page.part("page_choices.js") + f"\nconst told = []; {asked}; console.log(JSON.stringify(told));"
+        return json.loads(subprocess.run(["node", "-e", text], stdout=subprocess.PIPE, check=True).stdout)
+
+    def test_what_is_kept_stays_so_and_the_lightest_comes_first(self):
+        self.assertEqual(self.told(weighed(), ["readAddress()", "choose('give', 2, true)", "choose('keep', 2, false)", "choose('give', 4, true)",
+                                               "choose('give', 1, true)", "startOver()", "choose('keep', 1, true)",
+                                               "location.hash = '#give=2,3'; readAddress()"]), [
+            [[1, 2], "2 conflicts remain.", "2 corrections fit. The one of the least weight, 6, gives up 2 rules.", ""],
+            [[1, 2], "2 conflicts remain.", "2 corrections fit. The one of the least weight, 6, gives up 2 rules.", ""],
+            [[1, 2], "2 conflicts remain.", "2 corrections fit. The one of the least weight, 6, gives up 2 rules.", ""],
+            [[1, 2], "1 conflict remains.", "2 corrections fit. The one of the least weight, 5, gives up 1 rule more.", "give=4"],
+            [[1, 2], "Nothing clashes any more: all other rules fit together.", "", "give=4,1"],
+            [[1, 2], "2 conflicts remain.", "2 corrections fit. The one of the least weight, 6, gives up 2 rules.", ""],
+            [[], "All rules of conflict 1 are to be kept. One of them has to be given up.", "No correction fits.", "keep=1"],
+            [[2, 1], "1 conflict remains.", "2 corrections fit. The one of the least weight, 5, gives up 1 rule more.", "give=3"]])
+
+    def test_without_weights_the_smallest_comes_first(self):
+        self.assertEqual(self.told(laptop(), ["readAddress()", "choose('keep', 3, true)"]), [
+            [[1, 2, 3, 4, 5, 6], "5 conflicts remain.", "6 corrections fit. The smallest gives up 3 rules.", ""],
+            [[5, 6], "5 conflicts remain.", "2 corrections fit. The smallest gives up 4 rules.", "keep=3"]])
+
+
 # It clicks in each frame as its row says, and writes what each then shows.
 HARNESS = """<!DOCTYPE html><meta charset="utf-8"><body>%s<pre id="told"></pre><script>
 addEventListener("load", async () => {

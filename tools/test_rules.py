@@ -23,7 +23,9 @@ COUNT = "here may come ',' or the list's end; a list that is part of a formula s
 HEAD = "a rule begins with [NAME]"
 SCREEN = "'screen' can't come here: a name with a blank in it stands in quotes, \"touch screen\""
 TOGETHER = "'at most one of a, b' says that they exclude each other"
-COMPARED = "there is no arithmetic. What is compared has a name of its own, such as "
+NO_ARITHMETIC = "there is no arithmetic but the weights of rules"
+COMPARED = NO_ARITHMETIC + ". What is compared has a name of its own, such as "
+WEIGHT, PREFERENCE = "a weight is a whole number from 1 to 1000000000", "a heading is [NAME], [NAME] weight 3 or [NAME] keep"
 QUOTES = 'a name in quotes is "any text"'
 # A line with | before the place, what is told of it, and what may come there.
 MISTAKES = (
@@ -51,10 +53,10 @@ MISTAKES = (
     ("x and price |≥ 3", "'≥' can't come here: " + COMPARED + "price_from_3", OPERATOR),
     ("price |= 1.5", "'=' can't come here: " + COMPARED + "price_is_1.5", OPERATOR),
     ("a |+ b + c <= 2", "'+' can't come here: 'at most 2 of a, b, c' says this", OPERATOR),
-    ("2 |* a + b > 3", "'*' can't come here: there is no arithmetic. What is compared has a name of its own", OPERATOR),
-    ("a |< b", "'<' can't come here: there is no arithmetic", OPERATOR),
+    ("2 |* a + b > 3", "'*' can't come here: " + NO_ARITHMETIC + ". What is compared has a name of its own", OPERATOR),
+    ("a |< b", "'<' can't come here: " + NO_ARITHMETIC, OPERATOR),
     ("a |!= b", "'!=' can't come here: 'exactly one of (a, b)' says that one holds and the other doesn't", OPERATOR),
-    ("price |1.5", "'1.5' can't come here: a name with a blank in it stands in quotes, \"price 1.5\", and there is no arithmetic",
+    ("price |1.5", "'1.5' can't come here: a name with a blank in it stands in quotes, \"price 1.5\", and " + NO_ARITHMETIC,
      OPERATOR),
     ("at most |1.5 of a, b", "a number is due in place of '1.5': what is counted is whole", "here may come 'one', or a number as 2"),
     ("nver |a and b", "'a' can't come here. Is 'never' meant in place of 'nver'?", OPERATOR),
@@ -89,7 +91,15 @@ MISTAKES = (
     ("日本語 or (日本|; x)", "a name has no ';' without quotes", NAMES),
     ("touch |screen implies a!", SCREEN, OPERATOR),
     ("[x|", "no rule begins here: its ']' is missing", HEAD),
-    ("[x]| a", "behind ']' stands nothing but a comment", "the lines of a rule stand below its [NAME]"),
+    ("[x]| a", "behind ']' stands nothing but a weight, 'keep' or a comment", "the lines of a rule stand below its [NAME], as in: [NAME] weight 3"),
+    ("[x]| wieght 3", "behind ']' stands nothing but a weight, 'keep' or a comment. Is 'weight' meant?",
+     "the lines of a rule stand below its [NAME], as in: [NAME] weight 3"),
+    *((f"[x] weight |{number}", WEIGHT, PREFERENCE) for number in ("0", "1.5", "-1", "x", "1000000001", "9" * 30, "\u0663")),
+    ("[x] weight|", WEIGHT, PREFERENCE),
+    ("[x] weight |3 4", WEIGHT + ", and nothing stands behind it", PREFERENCE),
+    ("[x] keep |weight 3", "a rule that is kept is never given up, so nothing stands behind 'keep'", PREFERENCE),
+    ("[always]| weight 3", "[always] can't be given up, so it has no weight and no 'keep'", "it stands alone"),
+    ("[Names]| keep", "[names] can't be given up, so it has no weight and no 'keep'", "it stands alone"),
     ("[| ]", "a rule without a name", HEAD),
     ("|[r]", "a rule 'r' stood before, in line 1", "each rule has a name of its own"),
 )
@@ -193,6 +203,21 @@ class Clauses(unittest.TestCase):
             else:
                 with self.assertRaisesRegex(telling.Refused, "no rule can have the name", msg=name):
                     rules.heading(name)
+
+    def test_weights_and_rules_that_are_kept(self):
+        text = "[a] weight 3  # dear\nx\n[b] KEEP\nnot x\n[c]\nx\n[C# or #2] Weight 1000000000\nx\n[d] weight 3]\nx\n[e] weight 1#\nx\n"
+        made = rules.read(text, "r")
+        self.assertEqual((made.names[1:], made.weights[1:]), (["a", "b", "c", "C# or #2", "d] weight 3", "e"], [3, None, 1, 10 ** 9, 1, 1]))
+        plain = rules.read(text.replace(" weight 3  #", " #").replace(" KEEP", "").replace(" Weight 1000000000", "").replace(" weight 1#", "#"), "r")
+        self.assertEqual([line for line in made.gcnf().split("\n") if not line.startswith(("c weight", "c keep"))], plain.gcnf().split("\n"))
+        self.assertEqual([line for line in made.gcnf().split("\n") if line.startswith(("c group", "c weight", "c keep"))], [
+            "c group 1 a", "c weight 1 3", "c group 2 b", "c keep 2", "c group 3 c", "c group 4 C# or #2", "c weight 4 1000000000",
+            "c group 5 d] weight 3", "c group 6 e"])
+        for name, weight, wanted in (("a", 3, "[a] weight 3"), ("a b", None, "[a b] keep"), ("a", 1, "[a]")):
+            self.assertEqual(rules.heading(name, weight), wanted)
+        for weight in (0, 10 ** 10, 1.5, "x"):
+            with self.assertRaisesRegex(telling.Refused, "no rule can have the name 'a' and the weight"):
+                rules.heading("a", weight)
 
     def test_variables_are_numbered_as_they_come_and_keep_their_numbers(self):
         self.assertEqual(clauses("b or a", "never a and c"), [[1, 2], [-2, -3]])

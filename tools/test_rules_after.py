@@ -105,6 +105,16 @@ class Longer(unittest.TestCase):
         text = "# why\n[one]   # more\n" + old.split("\n")[1].replace("   ", " ") + "  # it\n" + old.split("\n")[2] + "\n[two]\na\n"
         self.assertIn("\nc rule 3 a implies b\n", longer(old, text))
 
+    def test_weights_are_those_of_the_new_rules(self):
+        old = "[one] weight 3\na\n[two] keep\nb\n"
+        file = longer(old, "[one] keep\na\n[two]\nb\n[three] weight 7\nc\n")
+        self.assertEqual([line for line in file.split("\n") if line.startswith(("c group", "c keep", "c weight"))],
+                         ["c group 1 one", "c keep 1", "c group 2 two", "c group 3 three", "c weight 3 7"])
+        self.assertIn("c weight 1 2\n", longer(file, "[one] weight 2\na\n[two]\nb\n[three]\nc\n"))
+        for wrong in ("c weight 2 3", "c keep 0", "c weight 1 x", "c weight 1 0"):
+            with self.assertRaises(Refused, msg=wrong):
+                longer(file.replace("c keep 1", wrong), old)
+
     def test_where_lines_come_from_is_kept(self):
         old = "[always]\n#: p:3\na\n[one]\n#: p:4\nb\n"
         file = longer(old, old + "[two]\n#: p:7\nc\n")

@@ -41,7 +41,7 @@ class Tutorial(unittest.TestCase):
 
     @unittest.skipUnless(PROGRAMS, "no built program: the commands of the first page and the tutorial are not replayed")
     def test_each_command_prints_what_the_page_says(self):
-        for page, count in (("README.md", 3), ("docs/TUTORIAL.md", 20)):
+        for page, count in (("README.md", 3), ("docs/TUTORIAL.md", 22)):
             files, commands = steps_in(text_of(page))
             self.assertEqual(len(commands), count, page)
             with tempfile.TemporaryDirectory() as room:

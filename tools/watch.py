@@ -204,7 +204,7 @@ class Watch:
         clear()
         print(f"up to {limit} sets, after {self.seconds()}: {shown.summary()}")
         before, self.known = self.known, set()
-        for kind, word, sets in (("u", "conflict", shown.conflicts), ("m", "correction", shown.corrections)):
+        for kind, word, sets in (("u", "conflict", shown.conflicts), ("m", "correction", shown.report.corrections)):
             lines = [" ".join(map(str, [kind, *members, 0])) for members in sets]
             new = [members for line, members in zip(lines, sets) if line not in before and members]
             for members in new[:NEWEST]:

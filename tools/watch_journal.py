@@ -151,7 +151,7 @@ class JournalWatch:
 
     def show(self, shown, new):
         found = f"{number_of(len(shown.conflicts), 'conflict', 'conflicts')} and " \
-                f"{number_of(len(shown.corrections), 'correction', 'corrections')}"
+                f"{number_of(len(shown.report.corrections), 'correction', 'corrections')}"
         if self.at_first is None:
             print(f"{found} are there")
         else:
