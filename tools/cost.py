@@ -4,6 +4,9 @@
     tools/cost.py                runs the gate from nothing at the top of the repository, and prints the table
     tools/cost.py WORDS          runs `rt ci WORDS`, as tools/cost.py --anew propagate
     tools/cost.py --edits ..     also a line for each wrong body, the dearest first
+    tools/cost.py --functions NAME ..
+                                 proves these crates from nothing, on a copy, and prints what each function took, the dearest
+                                 first
 
 `rt ci` tells no times, so its processes are looked at ten times a second, and what each had used when it was last seen
 is counted: some hundredths of each are missed, and less than a tenth of a second at its end. The last line says how much
@@ -15,6 +18,10 @@ the libraries below, and the tries for their crate's library and tests. Kits dif
 first, and each try waits for it alone. Another tries a crate's wrong bodies in turn, each over the work of those before
 it, and at the end the crate without any: there a base is what the first try takes above the others' median, and that end.
 The longest chain is the one whose pieces take most, each as if it had one processor.
+
+A check tells of each function as it ends with it, so at one job a function is what the check used since it told of the one
+before. What the first one is told to take has the check's start in it. What a check does behind the last one is the last
+line.
 """
 import os
 import re
@@ -22,13 +29,16 @@ import resource
 import statistics
 import subprocess
 import sys
+import tempfile
 import time
 
-from crates import TOP, below_in, text_of
-from telling import run
+from crates import TOP, below_in, copied, text_of
+from telling import WrongWords, run
 
 TICKS = os.sysconf("SC_CLK_TCK")
 EVERY = 0.1
+PROVED = re.compile(r"checked (\S.*), \d+ of \d+$")
+REST = "(what is left behind the last one)"
 
 
 def piece_of(words, folder):
@@ -224,7 +234,56 @@ def from_nothing():
     return ["--anew"] if "--anew" in told.stdout else []
 
 
+def times_in(lines, used):
+    """What each function took that these lines of a check tell of, by what was used when each came."""
+    found, before = [], used()
+    for line in lines:
+        told = PROVED.search(line.rstrip())
+        if told:
+            now = used()
+            found.append((now - before, told[1]))
+            before = now
+    return found + [(used() - before, REST)]
+
+
+def times_of(crate, room):
+    """The same, of a check of a crate in a copy. One that begins with what another check kept tells of what is new alone, so a
+    comment makes the text another one than all that were checked."""
+    folder = os.path.join(room, "crates", crate)
+    os.makedirs(os.path.join(folder, "out", "incremental"))
+    root = next(name for name in ("lib.rt", "main.rt") if os.path.isfile(os.path.join(folder, "src", name)))
+    with open(os.path.join(folder, "src", root), "a", encoding="utf-8") as file:
+        file.write(f"// timed at {time.time_ns()}\n")
+    checked = subprocess.Popen(["rt", "check", "--jobs", "1"], cwd=folder, stdin=subprocess.DEVNULL, stdout=subprocess.PIPE,
+                               stderr=sys.stderr, universal_newlines=True)
+    watch = Watch(checked.pid)
+
+    def used():
+        watch.look()
+        return watch.pieces().get((crate, "library"), 0)
+
+    return times_in(checked.stdout, used), checked.wait()
+
+
+def functions(names):
+    """Prints what the functions of these crates took."""
+    every, status = [], 0
+    if not names or not set(names) <= set(below_in(text_of("crates.txt"))):
+        raise WrongWords("--functions takes names of crates, as crates.txt has them")
+    with tempfile.TemporaryDirectory(prefix="cost-") as room:
+        copied(os.path.join(room, "repository"))
+        for crate in names:
+            times, ended = times_of(crate, os.path.join(room, "repository"))
+            every += [(took, name if name.startswith(crate) else f"{crate} {name}") for took, name in times]
+            status = status or ended
+    for took, name in sorted(every, reverse=True):
+        print(f"{took:7.1f} {name}")
+    return status
+
+
 def main(words):
+    if words[:1] == ["--functions"]:
+        return functions(words[1:])
     with_edits = "--edits" in words
     words = [word for word in words if word != "--edits"] or from_nothing()
     began = time.monotonic()

@@ -1,6 +1,7 @@
 """The crates of the repository, as crates.txt has them: their areas, and what each stands on."""
 import os
 import re
+import shutil
 
 TOP = os.path.dirname(os.path.dirname(os.path.abspath(__file__)))
 
@@ -55,3 +56,16 @@ def above(below, crates):
         found |= {crate for crate, libraries in below.items() if found & set(libraries)}
     every = [it for crate in below for it in lowest_first(below, crate)]
     return [crate for crate in dict.fromkeys(every) if crate in found]
+
+
+def copied(to):
+    """Copies what the toolchain reads of the repository to a new folder: no wrong bodies, and nothing that checks keep."""
+    top = os.path.join(TOP, "crates")
+
+    def left(at, _):
+        return ["out", "must-fail"] if os.path.dirname(at) == top else []
+
+    os.makedirs(to)
+    shutil.copytree(top, os.path.join(to, "crates"), ignore=left)
+    for name in ("crates.txt", "HANDLES"):
+        shutil.copyfile(os.path.join(TOP, name), os.path.join(to, name))

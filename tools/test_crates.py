@@ -73,6 +73,11 @@ class Pieces(unittest.TestCase):
         self.assertEqual(rows[2:], ["| b | 2 | 0 | 0 | 1 | 3 | 3 | 5 |", "| a | 1 | 0 | 0 | 0 | 0 | 0 | 1 |",
                                     "| all | 3 | 0 | 0 | 1 | 3 | | 6 |"])
 
+    def test_a_function_takes_what_was_used_since_the_one_before(self):
+        lines = ["ahead of the check: low::b: no proof\n", "checked low::a, 1 of 2\n", "so far: checked low::<T>::b, 2 of 2\n", "fn low::a: proved\n"]
+        used = iter([1, 5, 5.5, 9])
+        self.assertEqual(cost.times_in(lines, lambda: next(used)), [(4, "low::a"), (0.5, "low::<T>::b"), (3.5, cost.REST)])
+
 
 class Quick(unittest.TestCase):
     def test_a_crate_differs_by_its_sources(self):
