@@ -11,6 +11,7 @@ import cost
 import crates
 import quick
 import read_of
+import test_wrong
 
 TEXT = """# NAME: libraries
 
@@ -84,6 +85,15 @@ class Quick(unittest.TestCase):
         files = ["crates/b/src/lib.rt", "crates/c/must-fail/x.edit", "crates/d/data/cases", "README.md", "crates/b/proofs/x/Lib.antt"]
         self.assertEqual(quick.changed_crates(files, BELOW), ["b"])
         self.assertEqual(quick.changed_crates(files, BELOW, ("data", "stdout")), ["d"])
+
+    def test_a_stamp_that_is_due_is_told_from_what_fails(self):
+        line = "=" * 70
+        for said, wanted in (
+                (f"..F\n{line}\nFAIL: {quick.STAMPS} (test_wrong.Places.{quick.STAMPS})\n{line}\n", {quick.STAMPS}),
+                (f"E.F\n{line}\nERROR: test_x (test_y.Z.test_x)\n{line}\nFAIL: {quick.STAMPS} (test_wrong.Places)\n", {"test_x", quick.STAMPS}),
+                ("...\nRan 3 tests\n\nOK\n", set())):
+            self.assertEqual(quick.failing_in(said), wanted, said)
+        self.assertTrue(hasattr(test_wrong.Places, quick.STAMPS))
 
     def proved_by(self, ends, noted, crates_given=("a", "b", "c", "d")):
         """What `prove` gives if the checks end so, and these crates were proved before; and what is noted then."""

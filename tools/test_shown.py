@@ -223,9 +223,10 @@ class Shown(unittest.TestCase):
 
     def test_each_source_of_the_repository_is_read(self):
         with unittest.mock.patch.object(shown, "TOP", os.path.dirname(os.path.dirname(os.path.abspath(shown.__file__)))):
-            for crate in ("gm_tool", "turn_lock"):
+            for crate in ("gm_io", "gm_tool", "turn_lock"):
                 names = {need for item in shown.shown_by(crate) for need in item.needs}
-                self.assertLessEqual({"gm_tool": {"run", "Finish", "Rattle.gm_tool.specs.Listing.IsListing"},
+                self.assertLessEqual({"gm_io": {"begin", "Finish"},
+                                      "gm_tool": {"run", "Rattle.gm_tool.specs.Listing.IsListing"},
                                       "turn_lock": {"turn", "TurnLock", "Book"}}[crate], names)
         shown.shown_by.cache_clear()
 

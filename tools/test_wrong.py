@@ -1,6 +1,6 @@
 #!/usr/bin/env python3
-"""Tests of the wrong bodies that the gate leaves out: what a stamp holds for, and what the toolchain's words on a try are
-taken for."""
+"""Tests of the wrong bodies: how many stand where, that those outside the gate were refused on the tree as it is, and what
+the toolchain's words on a try are taken for."""
 import os
 import shutil
 import tempfile
@@ -8,6 +8,41 @@ import unittest
 import unittest.mock
 
 import wrong
+from crates import TOP, below_in, lowest_first, text_of
+
+BELOW = below_in(text_of("crates.txt"))
+GATE = os.path.join(TOP, "crates")
+# The most that the gate tries of a crate of which others stand in wrong/, and of all crates; both only fall.
+MOST_OF_A_CRATE, MOST = 10, 294
+
+
+def in_gate(crate):
+    folder = os.path.join(GATE, crate, "must-fail")
+    return sorted(name[:-len(".edit")] for name in os.listdir(folder)) if os.path.isdir(folder) else []
+
+
+class Places(unittest.TestCase):
+    def test_the_gate_tries_so_many_and_some_of_each_crate(self):
+        counts = {crate: len(in_gate(crate)) for crate in BELOW}
+        self.assertEqual({crate: counts[crate] for crate in wrong.crates_with() if counts[crate] > MOST_OF_A_CRATE}, {})
+        self.assertLessEqual(sum(counts.values()), MOST)
+        self.assertEqual([crate for crate in lowest_first(BELOW, "gmus") if not counts[crate]], [])
+
+    def test_the_birds_eye_view_counts_them(self):
+        gate = sum(len(in_gate(crate)) for crate in BELOW)
+        every = gate + sum(len(wrong.edits_of(crate)) for crate in wrong.crates_with())
+        self.assertIn(f"{every} wrong bodies, of which the gate has to refuse {gate},", text_of("docs/ARCHITECTURE.md"))
+
+    def test_no_wrong_body_stands_twice_or_beside_no_crate(self):
+        self.assertLessEqual(set(os.listdir(wrong.WRONG)), set(BELOW))
+        for crate in wrong.crates_with():
+            self.assertEqual(set(wrong.edits_of(crate)) & set(in_gate(crate)), set(), crate)
+            others = [name for name in os.listdir(os.path.join(wrong.WRONG, crate)) if not name.endswith(".edit")]
+            self.assertLessEqual(set(others), {wrong.STAMP}, crate)
+
+    def test_stamps_are_of_the_tree(self):
+        told = [it for it in (wrong.due(crate, BELOW) for crate in wrong.crates_with()) if it]
+        self.assertEqual(told, [], "\n" + "\n".join(told))
 
 
 class Verdicts(unittest.TestCase):
