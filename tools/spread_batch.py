@@ -1,0 +1,72 @@
+"""Batches: the records that a task gives back, as evidence that can be judged by itself.
+
+In a journal each refutation stands in full, for each group of each correction. In a batch a group names a conflict that
+refutes it, wherever there is one: of the batch, or of those that the task was told, of which the batch then has the record too.
+"""
+from spread_conflicts import Conflicts
+from spread_records import CONFLICT, Reference, Refutation, evidence_of, record_of
+
+
+class Known:
+    """The conflicts that a task was told, with the texts of their records, which stay as they are. If the records of the batch
+    are under other numbers, `groups` has those of the groups."""
+
+    def __init__(self, texts=(), groups=None):
+        self.texts, self.conflicts = [text for text in texts if text[:1] == CONFLICT], Conflicts()
+        for text in self.texts:
+            members = map(int, text[:text.index(b"\n")].split()[1:-1])
+            self.conflicts.add(map(groups.__getitem__, members) if groups else members)
+
+    def serving(self, correction):
+        return [None if at is None else self.texts[at] for at in self.conflicts.serving(correction)]
+
+
+class Batch:
+    """The conflicts of a batch, the known ones that are needed behind them, and then the corrections."""
+
+    def __init__(self, records, known, back):
+        self.known, self.back, self.conflicts, self.numbers = known, back, Conflicts(), {}
+        self.texts = []
+        for record in records:
+            if record.kind == CONFLICT:
+                self.conflicts.add(record.groups)
+                self.texts.append(back(record).text())
+        self.behind = [back(self.named(record)).text() for record in records if record.kind != CONFLICT]
+
+    def named(self, record):
+        """The correction with references in the place of refutations, wherever a conflict serves."""
+        served = zip(record.refutations, self.conflicts.serving(record.groups), self.known.serving(record.groups))
+        return record._replace(refutations=[self.one_named(*each) for each in served])
+
+    def one_named(self, refutation, own, told):
+        if own is not None:
+            return Reference(refutation.group, own + 1)
+        return refutation if told is None else Reference(refutation.group, self.number(told))
+
+    def number(self, told):
+        """The number of a known conflict in the batch."""
+        if told not in self.numbers:
+            self.texts.append(told)
+            self.numbers[told] = len(self.texts)
+        return self.numbers[told]
+
+
+def batch_of(sizes, records, known, back=lambda record: record):
+    """The text of a batch with these records, each led `back` to the numbers of the problem. A reference among them is to what
+    stands in the batch or is known."""
+    batch = Batch(records, known, back)
+    return evidence_of(sizes, batch.texts + batch.behind)
+
+
+def in_full(texts):
+    """Records as a journal has them: in the place of each reference to an earlier conflict stands its refutation."""
+    refuted, found = {}, []
+    for number, text in enumerate(texts, 1):
+        record = record_of(text)
+        if record.kind == CONFLICT:
+            refuted[number] = record.refutations[0]
+        else:
+            record = record._replace(refutations=[
+                Refutation(it.group, *refuted[it.number][1:]) if isinstance(it, Reference) else it for it in record.refutations])
+        found.append(record.text())
+    return found
