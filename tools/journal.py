@@ -52,8 +52,8 @@ def is_open(held, gate):
 def texts_in(held):
     """The texts of the whole frames behind open gates, and the place of the first gate that is closed or has none."""
     texts, gate = [], 0
-    while is_open(held, gate) and frame_at(held, gate):
-        text, gate = frame_at(held, gate)
+    while is_open(held, gate) and (frame := frame_at(held, gate)):
+        text, gate = frame
         texts.append(text)
     return texts, gate
 

@@ -4,7 +4,7 @@ In a journal each refutation stands in full, for each group of each correction. 
 refutes it, wherever there is one: of the batch, or of those that the task was told, of which the batch then has the record too.
 """
 from spread_conflicts import Conflicts
-from spread_records import CONFLICT, Reference, Refutation, evidence_of, record_of
+from spread_records import CONFLICT, Reference, Refutation, evidence_of, head_of, record_of, referring
 
 
 class Known:
@@ -14,7 +14,7 @@ class Known:
     def __init__(self, texts=(), groups=None):
         self.texts, self.conflicts = [text for text in texts if text[:1] == CONFLICT], Conflicts()
         for text in self.texts:
-            members = map(int, text[:text.index(b"\n")].split()[1:-1])
+            members = head_of(text)[1]
             self.conflicts.add(map(groups.__getitem__, members) if groups else members)
 
     def serving(self, correction):
@@ -24,24 +24,18 @@ class Known:
 class Batch:
     """The conflicts of a batch, the known ones that are needed behind them, and then the corrections."""
 
-    def __init__(self, records, known, back):
-        self.known, self.back, self.conflicts, self.numbers = known, back, Conflicts(), {}
-        self.texts = []
-        for record in records:
-            if record.kind == CONFLICT:
-                self.conflicts.add(record.groups)
-                self.texts.append(back(record).text())
-        self.behind = [back(self.named(record)).text() for record in records if record.kind != CONFLICT]
+    def __init__(self, texts, known, back):
+        self.known, self.conflicts, self.numbers, self.texts = known, Conflicts(), {}, []
+        for text in texts:
+            if text[:1] == CONFLICT:
+                self.conflicts.add(head_of(text)[1])
+                self.texts.append(back(record_of(text)).text())
+        self.behind = [back(referring(text, self.serving(head_of(text)[1]))).text() for text in texts if text[:1] != CONFLICT]
 
-    def named(self, record):
-        """The correction with references in the place of refutations, wherever a conflict serves."""
-        served = zip(record.refutations, self.conflicts.serving(record.groups), self.known.serving(record.groups))
-        return record._replace(refutations=[self.one_named(*each) for each in served])
-
-    def one_named(self, refutation, own, told):
-        if own is not None:
-            return Reference(refutation.group, own + 1)
-        return refutation if told is None else Reference(refutation.group, self.number(told))
+    def serving(self, correction):
+        """For each group of a correction, the number in the batch of a conflict that refutes it, or None."""
+        both = zip(self.conflicts.serving(correction), self.known.serving(correction))
+        return [own + 1 if own is not None else None if told is None else self.number(told) for own, told in both]
 
     def number(self, told):
         """The number of a known conflict in the batch."""
@@ -51,10 +45,10 @@ class Batch:
         return self.numbers[told]
 
 
-def batch_of(sizes, records, known, back=lambda record: record):
+def batch_of(sizes, texts, known, back=lambda record: record):
     """The text of a batch with these records, each led `back` to the numbers of the problem. A reference among them is to what
     stands in the batch or is known."""
-    batch = Batch(records, known, back)
+    batch = Batch(texts, known, back)
     return evidence_of(sizes, batch.texts + batch.behind)
 
 

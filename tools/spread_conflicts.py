@@ -19,15 +19,10 @@ class Conflicts:
 
     def serving(self, correction):
         """For each group of a correction, the least place of a conflict that refutes it, or None."""
-        once = more = 0
-        for group in correction:
-            having = self.having.get(group, 0)
+        all_having, once, more = [self.having.get(group, 0) for group in correction], 0, 0
+        for having in all_having:
             more |= once & having
             once |= having
         alone = once & ~more
-        return [least(alone & self.having.get(group, 0)) for group in correction]
-
-
-def least(bits):
-    """The place of the lowest bit that is set."""
-    return (bits & -bits).bit_length() - 1 if bits else None
+        # the place of the lowest bit that is set
+        return [(bits & -bits).bit_length() - 1 if (bits := alone & having) else None for having in all_having]

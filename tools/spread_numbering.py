@@ -77,12 +77,25 @@ def turned(items):
     return found
 
 
+class Kept(dict):
+    """What was found for a text. Many records of one run have the same steps and the same witnesses."""
+
+    def __init__(self, find):
+        super().__init__()
+        self.find = find
+
+    def __missing__(self, text):
+        found = self[text] = self.find(text)
+        return found
+
+
 class Way:
     """One way of a numbering: what stands for a variable, a group, a clause, and for the word of a literal or of a clause."""
 
     def __init__(self, sizes, variables, groups, clauses):
         self.sizes, self.variables, self.groups, self.clauses = sizes, variables, groups, clauses
         self.lit, self.clause, self.written = {}, {}, []
+        self.lits, self.hints, self.trues = Kept(self.map_lits), Kept(self.map_hints), Kept(self.map_trues)
 
     def words(self):
         """Finds what stands for each word."""
@@ -92,25 +105,37 @@ class Way:
             self.lit[self.written[at]], self.lit[b"-%d" % at] = self.written[found], b"-%d" % found
         self.clause.update((self.written[at], self.written[found]) for at, found in enumerate(self.clauses))
 
-    def step(self, line):
-        lits, hints, _ = line.split(b" 0")
-        head, number, *lits = lits.split(b" ")
-        hints = hints.split()
+    def map_lits(self, text):
+        return b" ".join(map(self.lit.__getitem__, text.split(b" ")))
+
+    def map_hints(self, text):
         # what is no clause of the problem is a step
-        return b" ".join([head, number, *map(self.lit.__getitem__, lits), b"0", *map(self.clause.get, hints, hints), b"0"])
+        hints = text.split(b" ")
+        return b" ".join(map(self.clause.get, hints, hints))
+
+    def map_trues(self, text):
+        """The variables of a witness, ascending, with the 0 behind them."""
+        trues = sorted(map(self.variables.__getitem__, map(int, text.split(b" ")[:-1])))
+        return b" ".join([*map(self.written.__getitem__, trues), b"0"])
+
+    def step(self, line):
+        first, hints, _ = line.split(b" 0")
+        head, number, *lits = first.split(b" ", 2)
+        mapped = [head, number, *map(self.lits.__getitem__, lits), b"0"]
+        return b" ".join([*mapped, self.hints[hints[1:]], b"0"] if hints else [*mapped, b"0"])
 
     def witness(self, line):
         """The group of a witness, and its line."""
-        _, group, *trues, _ = line.split(b" ")
+        _, group, trues = line.split(b" ", 2)
         group = self.groups[int(group)]
-        trues = sorted(map(self.variables.__getitem__, map(int, trues)))
-        return group, b" ".join([b"w", self.written[group], *map(self.written.__getitem__, trues), b"0"])
+        return group, b" ".join([b"w", self.written[group], self.trues[trues]])
 
     def refutation(self, it):
         group = self.groups[it.group]
         if isinstance(it, Reference):
             return Reference(group, it.number)
-        return Refutation(group, [self.step(line) for line in it.steps], self.clause.get(it.goal, it.goal))
+        steps = b"\n".join(map(self.step, it.steps.split(b"\n"))) if it.steps else b""
+        return Refutation(group, steps, self.clause.get(it.goal, it.goal))
 
     def record(self, it):
         """A record of one problem as it is of the other. A reference keeps its number."""

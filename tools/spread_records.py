@@ -10,7 +10,8 @@ HEAD = re.compile(rb"p gmev ([12]) [0-9]+ [0-9]+ [0-9]+\n")
 ENDS = (b"e partial\n", b"e complete\n")
 CONFLICT, CORRECTION = b"u", b"m"
 
-# What refutes one group of a correction, or a conflict, whose group is 0: lines of steps, and the id of what was to be derived.
+# What refutes one group of a correction, or a conflict, whose group is 0: the lines of its steps as one text without its last end,
+# and the id of what was to be derived.
 Refutation = namedtuple("Refutation", "group steps goal")
 # What names an earlier record in place of that.
 Reference = namedtuple("Reference", "group number")
@@ -39,31 +40,66 @@ def line_of(first, *numbers):
 
 def lines_of(refuted):
     if isinstance(refuted, Reference):
-        return [line_of(b"t", refuted.group, refuted.number)]
-    return [*refuted.steps, b"r %d %s" % (refuted.group, refuted.goal)]
+        return [b"t %d %d" % refuted]
+    return [*([refuted.steps] if refuted.steps else []), b"r %d %s" % (refuted.group, refuted.goal)]
+
+
+def head_of(text):
+    """The kind of a record and its groups."""
+    kind, *groups, _ = name_in(text).split(b" ")
+    if kind not in (CONFLICT, CORRECTION):
+        raise NoReading("this is no record: " + text[:40].decode("latin-1").split("\n")[0])
+    return kind, tuple(map(int, groups))
 
 
 def record_of(text):
-    """The record of its lines."""
-    head, *lines = text.split(b"\n")[:-1]
-    kind, *groups, _ = head.split(b" ")
-    if kind not in (CONFLICT, CORRECTION):
-        raise NoReading("this is no record: " + head[:40].decode("latin-1"))
-    witnesses, refutations, steps = [], [], []
-    for line in lines:
-        first = line[:1]
-        if first == b"d":
-            steps.append(line)
-        elif first == b"w":
-            witnesses.append(line)
-        elif first == b"r":
-            _, group, goal = line.split(b" ")
-            refutations.append(Refutation(int(group), steps, goal))
-            steps = []
-        else:
-            _, group, number = line.split(b" ")
-            refutations.append(Reference(int(group), int(number)))
-    return Record(kind, tuple(map(int, groups)), witnesses, refutations)
+    """The record of its lines. Steps are not looked at: there may be very many."""
+    kind, groups = head_of(text)
+    _, rest = text.split(b"\n", 1)
+    if kind == CONFLICT:
+        steps, _, behind = (b"\n" + rest).partition(b"\nr 0 ")
+        goal, *witnesses = behind.split(b"\n")[:-1]
+        return Record(kind, groups, witnesses, [Refutation(0, steps[1:], goal)])
+    witness, rest = rest.split(b"\n", 1)
+    return Record(kind, groups, [witness], list(refutations_in(b"\n" + rest)))
+
+
+def referring(text, numbers):
+    """The record of a correction with references in the place of refutations, for each group for which a number is there."""
+    if None in numbers:
+        record = record_of(text)
+        return record._replace(refutations=[it if number is None else Reference(it.group, number)
+                                            for it, number in zip(record.refutations, numbers)])
+    kind, groups = head_of(text)
+    return Record(kind, groups, [text.split(b"\n", 2)[1]], list(map(Reference, groups, numbers)))
+
+
+def with_references(text, groups, numbers):
+    """The text of such a record."""
+    if None in numbers:
+        return referring(text, numbers).text()
+    head, witness, _ = text.split(b"\n", 2)
+    return b"\n".join([head, witness, *[b"t %d %d" % named for named in zip(groups, numbers)], b""])
+
+
+def refutations_in(text):
+    """What refutes the groups of a correction, in order. Each line has its end before it."""
+    first, *named = text.split(b"\nt ")
+    yield from derived(first)
+    for piece in named:
+        line, _, rest = piece.partition(b"\n")
+        yield Reference(*map(int, line.split(b" ")))
+        yield from derived(b"\n" + rest)
+
+
+def derived(text):
+    """The refutations among such lines."""
+    steps, *goals = text.split(b"\nr ")
+    for piece in goals:
+        line, _, rest = piece.partition(b"\n")
+        group, goal = line.split(b" ")
+        yield Refutation(int(group), steps.strip(b"\n"), goal)
+        steps = rest
 
 
 def name_in(text):

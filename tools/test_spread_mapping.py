@@ -93,8 +93,7 @@ class Mapping(unittest.TestCase):
             self.assertEqual(mapped(numbering.back, there), texts, seed)
             # and as a journal would have it, as a batch, and as both again
             check_evidence.check(other, evidence_of(sizes, in_full(there), 1))
-            back = [record_of(it) for it in mapped(numbering.back, in_full(there))]
-            _, sets = check_evidence.check(problem, batch_of(sizes, back, Known()))
+            _, sets = check_evidence.check(problem, batch_of(sizes, in_full(there), Known(), numbering.back.record))
             self.assertEqual(sets, check_evidence.check(problem, whole)[1], seed)
 
 
@@ -123,22 +122,20 @@ class Batches(unittest.TestCase):
         self.assertEqual(in_full(SHORT), LONG)
 
     def test_refutations_give_way_to_references(self):
-        records = list(map(record_of, LONG))
-        self.assertEqual(batch_of(FIRST, records, Known()), evidence_of(FIRST, SHORT))
+        self.assertEqual(batch_of(FIRST, LONG, Known()), evidence_of(FIRST, SHORT))
         # conflicts come first, so each serves
-        self.assertEqual(batch_of(FIRST, records[2:] + records[:2], Known()), evidence_of(FIRST, SHORT))
+        self.assertEqual(batch_of(FIRST, LONG[2:] + LONG[:2], Known()), evidence_of(FIRST, SHORT))
         # what names no conflict keeps its refutation
-        self.assertEqual(batch_of(FIRST, [records[0], records[3]], Known()), evidence_of(FIRST, [
+        self.assertEqual(batch_of(FIRST, [LONG[0], LONG[3]], Known()), evidence_of(FIRST, [
             LONG[0], b"m 2 3 0\nw 0 1 0\nt 2 1\nd 5 -3 -5 -6 0 1 3 4 0\nr 3 5\n"]))
 
     def test_a_batch_has_the_known_conflicts_that_it_needs(self):
         # of three records that were told, the second refutes group 3 and group 4
         told = [LONG[0], SHORT[2], LONG[1]]
-        new = [record_of(b"m 2 3 0\nw 0 1 0\nt 2 1\nt 3 3\n"), record_of(SHORT[4])]
+        new = [b"m 2 3 0\nw 0 1 0\nt 2 1\nt 3 3\n", SHORT[4]]
         self.assertEqual(batch_of(FIRST, new, Known(told)), evidence_of(FIRST, [LONG[0], LONG[1], SHORT[3], SHORT[4]]))
-        new = [record_of(LONG[2])]
-        self.assertEqual(batch_of(FIRST, new, Known(told)), evidence_of(FIRST, [LONG[0], SHORT[2]]))
-        self.assertEqual(batch_of(FIRST, [record_of(LONG[1]), record_of(LONG[4])], Known(told)), evidence_of(FIRST, [
+        self.assertEqual(batch_of(FIRST, LONG[2:3], Known(told)), evidence_of(FIRST, [LONG[0], SHORT[2]]))
+        self.assertEqual(batch_of(FIRST, [LONG[1], LONG[4]], Known(told)), evidence_of(FIRST, [
             LONG[1], LONG[0], b"m 2 4 0\nw 0 1 2 0\nt 2 2\nt 4 1\n"]))
 
     def test_which_conflict_refutes_which_group(self):
