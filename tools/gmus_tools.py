@@ -8,6 +8,7 @@
     result = gmus_tools.carry(old, evidence, new)       a file that got longer, from what was known of it
     cnf, lrat = gmus_tools.export(file, evidence, 1)    a conflict for other solvers and checkers
     result = gmus_tools.read_journal(file, journal)     what the journal of a run has
+    result = gmus_tools.spread("laptop.gcnf", "laptop.evidence", processes=8)   by many runs, on one machine or more
     text = gmus_tools.gcnf(rules)                       the GCNF file of rules
 
     result.conflicts      a list of sets of names
@@ -29,6 +30,8 @@ import limits
 import program
 import rule_text
 import rules as rule_language
+import spread_run
+import spread_words
 import telling
 from reasons import reason_of
 from report import Origin, Report, decoded, read_preferences, read_problem
@@ -37,8 +40,8 @@ from rules_after import Old
 from why_problem import Problem
 
 __all__ = ["BadArgument", "BadWords", "EvidenceRefused", "GmusError", "InputRefused", "JournalRefused", "NoConflict", "NotAnExtension",
-           "OutOfMemory", "ProgramFailed", "ProgramNotBuilt", "ReadFault", "Result", "Roles", "RulesRefused", "WriteFault", "carry",
-           "check", "export", "gcnf", "list_gcnf", "read_journal", "roles", "solve", "written"]
+           "OutOfMemory", "ProgramFailed", "ProgramNotBuilt", "ReadFault", "Result", "Roles", "RulesRefused", "SpreadRefused", "WriteFault",
+           "carry", "check", "export", "gcnf", "list_gcnf", "read_journal", "roles", "solve", "spread", "written"]
 
 # The name of a literal as rules have it: in quotes if it needs them.
 written = rule_language.written
@@ -57,6 +60,10 @@ class BadArgument(GmusError, TypeError):
 
 class RulesRefused(GmusError):
     """The rules can't be read; the text says what is wrong, and in which line."""
+
+
+class SpreadRefused(GmusError):
+    """Many runs can't be begun or gone on with; the text says why."""
 
 
 class BadWords(GmusError):
@@ -237,6 +244,30 @@ def check(file, evidence, focus=None):
         words = options_of(names_if_readable(name), focus=focus)
         report, _ = asked(["check", name, file_of(folder, "evidence", evidence), *words])
         return result_of(name, report, "the evidence is partial")
+
+
+def spread(file, evidence, processes=None, dask=None, mpi=False, seconds=None, sets=None, journal=None):
+    """The result for a GCNF file by many runs, of which none is believed, as tools/spread.py has it.
+
+    `evidence` names the file that keeps what is found, and from which it goes on. The tasks run in `processes` of this machine,
+    on the Dask cluster with the address `dask`, or in an MPI job. `seconds` is how long one may take, with `sets` it ends at so
+    many, and `journal` is the folder for the files of tasks. An interrupt is raised once all is kept that was found.
+    """
+    with tempfile.TemporaryDirectory(prefix="gmus-") as folder:
+        name = file_of(folder, "problem.gcnf", file)
+        want_text(evidence, "evidence")
+        words = [name, "--evidence", os.path.abspath(os.fspath(evidence)), *(["--mpi"] if mpi else [])]
+        for option, value in (("processes", processes), ("dask", dask), ("round", seconds), ("sets", sets), ("journal", journal)):
+            words += [] if value is None else [f"--{option}", os.fspath(value) if option == "journal" else str(value)]
+        try:
+            ended = spread_run.run(spread_words.Words(words))
+        except telling.WrongWords as why:
+            raise error_of(BadWords.status, str(why)) from None
+        except telling.Refused as why:
+            raise SpreadRefused(str(why)) from None
+        if ended.status not in (DONE, LIMIT_REACHED):
+            raise error_of(ended.status, (program.line_in(ended.line) or ended.line).removeprefix("gmus: "))
+        return result_of(name, read_report(ended.report), ended.line)
 
 
 def roles(file, jobs=None, focus=None):

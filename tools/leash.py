@@ -9,11 +9,13 @@ import select
 import subprocess
 import time
 
+import program
+
 SHELL = ('exec 3<&0 </dev/null 4>&2 2>/dev/null; "$@" 2>&4 3<&- 4>&- & child=$!; { read -r _ <&3; kill -9 0; } 4>&- & '
          'guard=$!; wait $child; status=$?; kill $guard; exit $status')
 BY_SIGNAL = 128
 # Of what the program writes to standard error so many bytes are kept, the last ones.
-KEPT = 4096
+KEPT = 2 ** 16
 
 
 class Leashed:
@@ -50,6 +52,6 @@ class Leashed:
         return self.status
 
     def said(self):
-        """The last line that it wrote to standard error."""
-        lines = self.errors.decode("utf-8", "replace").strip().split("\n")
-        return lines[-1]
+        """The line of the program that it wrote to standard error, or else the last one."""
+        told = self.errors.decode("utf-8", "replace").strip()
+        return program.line_in(told) or told.rpartition("\n")[2]

@@ -93,8 +93,8 @@ def read(name, what):
     try:
         with open(name, "rb") as file:
             return file.read()
-    except OSError:
-        raise Ended(READ_FAULT, f"read fault on {what}") from None
+    except OSError as error:
+        raise Ended(READ_FAULT, f"read fault on {what}\n  {name}: {error.strerror}") from None
 
 
 def problem_in(name):
@@ -121,6 +121,8 @@ class Journal:
         if name is None:
             return
         held = read(name, "journal") if os.path.exists(name) else b""
+        if held[:1] not in (b"", b"\0", b"\1"):
+            raise Ended(READ_FAULT, f"read fault on journal\n  {name}: is no journal; if a crash left it so, remove it")
         try:
             found = journal.salvaged(problem, held)
         except journal.Foreign as at:
@@ -142,8 +144,8 @@ def written(name, held, what):
     try:
         with open(name, "wb") as file:
             file.write(held)
-    except OSError:
-        raise Ended(WRITE_FAULT, f"write fault on {what}") from None
+    except OSError as error:
+        raise Ended(WRITE_FAULT, f"write fault on {what}\n  {name}: {error.strerror}") from None
 
 
 def listed(file, options):

@@ -20,6 +20,11 @@ def build():
         subprocess.run([command(), "drill", "1", "1"], stdin=subprocess.DEVNULL, stdout=subprocess.DEVNULL, check=False)
 
 
+def line_in(told):
+    """The line that programs read in what was written to standard error, or None: a second one, for a person, may stand behind it."""
+    return next((line for line in reversed(told.split("\n")) if line.startswith("gmus: ")), None)
+
+
 def call(words, **how):
     """Calls the program, and gives how it ended: its status, what it wrote to standard output, and to standard error."""
     try:

@@ -117,8 +117,8 @@ class Task:
         return status, fault, len(new), batch_of(self.sizes, new, known, self.numbering.back.record)
 
     def called(self, words, is_stopped):
-        """Calls the program, and gives its status and its last line on standard error, or None and nothing if it was stopped. It
-        is stopped if it is told, and at its time; if it has not found anything by then, it has some time more."""
+        """Calls the program, and gives its status and its line on standard error, or None and nothing if it was stopped. It is
+        stopped if it is told, and at its time; if it has not found anything by then, it has some time more."""
         child, begins = Leashed([program.command(), *words]), time.monotonic()
         try:
             while child.wait(LOOK) is None:

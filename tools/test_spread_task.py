@@ -4,6 +4,7 @@ import glob
 import os
 import shutil
 import stat
+import subprocess
 import sys
 import tempfile
 import unittest
@@ -121,6 +122,8 @@ class Tasks(Room):
     def test_what_goes_wrong_is_told(self):
         for lines, wanted, status in (
                 ("#!/bin/sh\necho 'gmus: out of memory' >&2\nexit 8\n", "gmus: out of memory", 8),
+                # a second line is for a person
+                ("#!/bin/sh\nprintf 'gmus: read fault on journal\\n  journal: is no journal\\n' >&2\nexit 6\n", "gmus: read fault on journal", 6),
                 ("#!/bin/sh\nexit 6\n", "the program ended with 6", 6),
                 ("#!/bin/sh\nkill -9 $$\n", "the program ended with 137", 137),
                 # it keeps a journal of records that nobody knows
@@ -140,6 +143,19 @@ class Tasks(Room):
         os.environ["GMUS"] = os.path.join(self.room, "lost")
         self.assertIn("lost", self.perform(Order(1, FRESH, 60, 5, 0)).fault)
         self.assertIn("No such file or directory", self.perform(Order(1, FRESH, 60, 5, 0), where=self.room + "/lost").fault)
+
+    def test_a_text_as_a_journal_is_refused_and_stays(self):
+        name, file = os.path.join(self.room, "j"), os.path.join(self.room, "f")
+        for path, text in ((name, "a text\n"), (file, TEXT)):
+            with open(path, "w") as out:
+                out.write(text)
+        for program in (PLAIN, BUILT):
+            if os.access(program, os.X_OK):
+                ended = subprocess.run([program, "list", file, "--journal", name], stdout=subprocess.PIPE, stderr=subprocess.PIPE, check=False)
+                self.assertEqual((ended.returncode, ended.stdout), (6, b""))
+                self.assertEqual(ended.stderr.decode(), f"gmus: read fault on journal\n  {name}: is no journal; if a crash left it so, remove it\n")
+                with open(name, "rb") as held:
+                    self.assertEqual(held.read(), b"a text\n")
 
     def test_a_fault_takes_nothing_from_what_was_found(self):
         self.script(f"#!/bin/sh\n{PLAIN} \"$@\"\necho 'gmus: write fault on journal' >&2\nexit 7\n")
