@@ -259,8 +259,8 @@ class Journals(Room):
                 (frame(b"u 1 3 0\nd 4 -2 -4 0 1 3 0\nr 0 4\nw 1 0\nw 3 1 0\n") + b"\0", other.format(0, "by f.gcnf, line 2: 12 NotFalse")),
                 (self.SECOND + self.FIRST + self.SECOND + b"\0",
                  f"the record at byte {len(self.SECOND + self.FIRST)} has a set that stood before, as in no journal of one problem"),
-                (b"u 1 2 0\n", "this is no journal, and a run that is told to keep one here writes over it"),
-                (b"\2", "this is no journal, and a run that is told to keep one here writes over it"),
+                (b"u 1 2 0\n", "this is no journal: its first byte is neither 0 nor 1"),
+                (b"\2", "this is no journal: its first byte is neither 0 nor 1"),
         ):
             self.hold(held)
             status, output, said = self.watch("f.gcnf", "--journal", "j", "--once")

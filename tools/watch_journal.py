@@ -46,7 +46,7 @@ class Journal:
             if os.fstat(file.fileno()).st_size < self.gate or not begins.startswith(self.first):
                 self.begin()
             if begins[:1] not in (b"", b"\0", bytes([OPEN])):
-                raise Foreign("this is no journal, and a run that is told to keep one here writes over it")
+                raise Foreign("this is no journal: its first byte is neither 0 nor 1")
             while self.read_frame(file):
                 pass
             file.seek(0)
