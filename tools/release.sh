@@ -11,7 +11,7 @@ top=$(CDPATH='' cd -- "$(dirname -- "$0")/.." && pwd) || exit 1
 program=${GMUS:-$top/crates/gmus/out/gmus}
 
 # what only the repository has a use for, or needs it: tools, and tests of what isn't in the archive
-OURS='build.py cost.py crates.py licences.py man.py quick.py read_of.py release.sh shown.py trials.py wrong.py'
+OURS='build.py cost.py crates.py licences.py man.py quick.py read_of.py release.sh run_tests.py shown.py trials.py wrong.py'
 OUR_TESTS='test_crates.py test_documents.py test_launcher.py test_release.py test_shown.py test_trials.py test_wrong.py'
 # what the program may need of a system
 SYSTEMS='linux-vdso.so.1 libc.so.6 ld-linux-x86-64.so.2'
