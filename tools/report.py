@@ -5,7 +5,7 @@ A group that has a name is called a rule here, as its file was mostly made from 
 import hashlib
 import re
 
-from telling import Refused, plain
+from telling import Refused, plain, refuse_known
 
 COMMENT = re.compile(r"[ \t]*c")
 LINE = re.compile(r"[^\n]+")
@@ -300,5 +300,6 @@ def named(origin, report_text):
 
 
 def origin_of(held, name, focus=None):
-    """The origin of a report, by the bytes of its file."""
+    """The origin of a report, by the bytes of its file, which may have no UTF-8 in its comments."""
+    refuse_known(held, name)
     return Origin(decoded(held), name, digest_of(held), focus)

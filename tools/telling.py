@@ -198,9 +198,7 @@ def text_of(name):
 def text_in(held, name):
     """The text of a file's bytes, without a byte order mark. If they are no UTF-8 they are refused, by what they are as far
     as that is known, and with the command that makes a text of them."""
-    kind = known_kind(held)
-    if kind:
-        raise Refused(f"{name}: this is {kind[0]}, and a text in UTF-8 is wanted: {making(kind[1], name)}")
+    refuse_known(held, name)
     try:
         return held.decode("utf-8-sig")
     except UnicodeDecodeError as error:
@@ -208,6 +206,13 @@ def text_in(held, name):
         kind = guessed_kind(held)
         guess = f". If they are {kind[0]}: {making(kind[1], name)}" if kind else ""
         raise Refused(f"{name}: line {line}: the bytes are no UTF-8{guess}") from None
+
+
+def refuse_known(held, name):
+    """Refuses what is packed, or in an encoding that shows itself."""
+    kind = known_kind(held)
+    if kind:
+        raise Refused(f"{name}: this is {kind[0]}, and a text in UTF-8 is wanted: {making(kind[1], name)}")
 
 
 def making(command, name):

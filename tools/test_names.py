@@ -305,7 +305,7 @@ class Program(unittest.TestCase):
 
     def test_what_is_refused_is_told(self):
         other, folder = os.path.join(EXAMPLES, "first.report"), self.room
-        garbage = self.file("garbage", bytes(range(256)) * 9)
+        garbage, packed = self.file("garbage", bytes(range(256)) * 9), self.file("packed", b"\x1f\x8b\x08")
         for words, status, wanted in (
                 ([LAPTOP], 1, "names.py: the report can't be read: there is none: see what gmus wrote on standard error\n"),
                 ([LAPTOP, other], 1, f"names.py: the report can't be read: it is of another file: {LAPTOP} has groups up to 7, and "
@@ -314,6 +314,7 @@ class Program(unittest.TestCase):
                 ([LAPTOP, LAPTOP], 1, "names.py: the report can't be read: it is cut off, or is no report\n"),
                 ([LAPTOP, garbage], 1, "names.py: the report can't be read: it is cut off, or is no report\n"),
                 ([garbage, LAPTOP_REPORT], 1, f"names.py: {garbage}: it has no header 'p gcnf ..' or 'p cnf ..'\n"),
+                ([packed, LAPTOP_REPORT], 1, f"names.py: {packed}: this is packed by gzip, and a text in UTF-8 is wanted: gzip -dc {packed} > TEXT\n"),
                 ([LAPTOP, "no such file"], 1, "names.py: no such file: No such file or directory\n"),
                 ([folder, LAPTOP_REPORT], 1, f"names.py: {folder}: Is a directory\n"),
                 ([], 2, "names.py: a FILE has to be named, and a REPORT may be\n    gmus list FILE | tools/names.py FILE"),

@@ -3,7 +3,9 @@
 import itertools
 import os
 import random
+import subprocess
 import sys
+import tempfile
 import unittest
 
 TOOLS = os.path.dirname(os.path.abspath(__file__))
@@ -15,6 +17,7 @@ from rules_after import Old                           # noqa: E402
 from rules_grown import clashing_lines                # noqa: E402
 from telling import Refused                           # noqa: E402
 from test_rules_clauses import can_hold               # noqa: E402
+from trying import tried                              # noqa: E402
 
 PROGRAM = os.environ.get("GMUS") or os.path.join(TOP, "crates", "gmus", "out", "gmus")
 OLD = "[always]\nglossy or matte\ntouch implies glossy\n[a touch screen]\ntouch\n[a matte screen]\nmatte and not glossy\n"
@@ -180,6 +183,34 @@ c rule 17 not touch
         for lines, wanted in (([[[1], [2, 3]], [[-2]]], []), ([[[1]], [[2]], [[-1]]], [0, 2]), ([[[]]], [0]), ([[[1, 2]]], []),
                               ([[[1], [-1]], [[2]]], [0])):
             self.assertEqual(clashing_lines(lines), wanted)
+
+    @unittest.skipUnless(os.access(PROGRAM, os.X_OK), f"the program is not built: {PROGRAM}")
+    def test_the_command_and_what_is_carried_over(self):
+        """The laptop with a longer catalogue, as RULES.md tells it: the report is that of a fresh file."""
+        with open(os.path.join(TOP, "examples", "laptop_more.rules"), encoding="utf-8") as file:
+            more = file.read()
+        more = more.replace("budget implies not card\n", "budget implies not card\npen implies touch\nexactly one of ballpoint, pencil, nothing\npencil implies pen\n")
+        more = more.replace("pen\npen implies touch\n", "pen\n") + "[a pencil]\npencil\n"
+        with tempfile.TemporaryDirectory() as room:
+            for name, text in (("more.rules", more), ("no.rules", more.replace("pencil implies pen", "pencil implies pen\ntouch implies matte"))):
+                with open(os.path.join(room, name), "w", encoding="utf-8") as file:
+                    file.write(text)
+            old = os.path.join(TOP, "examples", "laptop.gcnf")
+            self.assertEqual(tried("gcnf.py", "--after", old, "more.rules", "-o", "longer", room=room, GMUS=PROGRAM), (0, "", ""))
+            self.assertEqual(tried("gcnf.py", "more.rules", "-o", "fresh", room=room), (0, "", ""))
+            self.assertEqual(tried("gcnf.py", "--after", old, "no.rules", "-o", "no", room=room, GMUS=PROGRAM), (1, "", (
+                f"gcnf.py: no.rules: line 12: this line of [always] is not in {old}, and new names alone can't make it true\n{WAY_OUT}\n")))
+
+            def said(*words):
+                return subprocess.run([PROGRAM, *words], cwd=room, stdout=subprocess.PIPE, check=True).stdout
+
+            said("list", old, "--evidence", "evidence")
+            carried = said("carry", old, "evidence", "longer")
+            self.assertEqual(carried, said("list", "longer"))
+            self.assertEqual(carried, said("list", "fresh"))
+            shown = tried("names.py", "longer", given=carried, room=room)[1]
+            self.assertIn("\nWhat came to [always] since stands with the rules that need it:\n  line 9, with a pen; a pencil: pen implies touch\n", shown)
+            self.assertIn("  line 10, with a pen; a pencil: exactly one of ballpoint, pencil, nothing\n", shown)
 
 
 if __name__ == "__main__":
