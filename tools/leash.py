@@ -1,11 +1,12 @@
 """A program that runs no longer than whoever began it.
 
-Between the two stands a shell, whose input is a pipe from this process. Once the pipe is closed, by `stop` or because this
-process is gone, however it ended, the shell kills the program. Its standard error is another pipe, whose end tells at once
-that it has ended.
+Between the two stands a shell, whose input is a pipe from this process. Once the pipe is closed, because this process is gone,
+however it ended, the shell kills the program and what that began. Its standard error is another pipe, whose end tells at once that
+it has ended.
 """
 import os
 import select
+import signal
 import subprocess
 import time
 
@@ -46,8 +47,10 @@ class Leashed:
         self.status = status if status >= 0 else BY_SIGNAL - status
 
     def stop(self):
-        """Kills the program, and gives the status with which it ended."""
+        """Kills the program and what it began, and gives the status with which it ended."""
         if self.status is None:
+            # the shell leads the group of all; other processes that were forked from this one may hold the pipe open
+            os.killpg(self.shell.pid, signal.SIGKILL)
             self.end()
         return self.status
 

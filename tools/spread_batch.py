@@ -52,15 +52,24 @@ def batch_of(sizes, texts, known, back=lambda record: record):
     return evidence_of(sizes, batch.texts + batch.behind)
 
 
-def in_full(texts):
-    """Records as a journal has them: in the place of each reference to an earlier conflict stands its refutation."""
-    refuted, found = {}, []
+class TooLong(Exception):
+    """Records are longer in full than is wanted."""
+
+
+def in_full(texts, most=None):
+    """Records as a journal has them: in the place of each reference to an earlier conflict stands its refutation. If all are
+    longer than `most` bytes, which they may be by far, nothing is made."""
+    refuted, found, length = {}, [], 0
     for number, text in enumerate(texts, 1):
         record = record_of(text)
+        length += len(text)
         if record.kind == CONFLICT:
             refuted[number] = record.refutations[0]
         else:
             record = record._replace(refutations=[
                 Refutation(it.group, *refuted[it.number][1:]) if isinstance(it, Reference) else it for it in record.refutations])
-        found.append(record.text())
-    return found
+            length += sum(len(it.steps) for it in record.refutations)
+        if most is not None and length > most:
+            raise TooLong
+        found.append(record)
+    return [record.text() for record in found]

@@ -9,11 +9,14 @@ import time
 
 import program
 from leash import Leashed
-from spread_records import records_in
+from spread_records import NoReading, records_in
 
-FIRST = 1000
+# The first turn takes some ten seconds, so that what ends sooner is not begun anew.
+FIRST = 100000
 # So many failures in a row end all. Behind the first one it rests so many seconds, behind each further one twice as many.
 FAILURES, REST = 3, 2.0
+# The status where it writes what can't be read.
+UNREAD = 1
 
 
 class Own:
@@ -43,19 +46,30 @@ class Own:
             self.child = Leashed([program.command(), *words], report)
 
     def look(self):
-        """How the turn ended and the records that it found, or None and nothing while it runs."""
+        """How the turn ended and the records that it found, or None and nothing while it runs. At the end of all, what it found
+        stands in its file."""
         status = self.child.wait(0) if self.child else None
         if status is None:
             return None, []
         self.said, self.child = self.child.said() or f"the program ended with {status}", None
-        if status in (program.DONE, program.BUDGET_SPENT):
-            self.failures = 0
-            self.budget *= 2
-            with open(self.evidence.own, "rb") as file:
-                return status, records_in(file.read())[self.known:]
-        self.failures, self.failed = self.failures + 1, status
+        if status == program.DONE:
+            return status, []
+        if status == program.BUDGET_SPENT:
+            try:
+                return status, self.new_records()
+            except NoReading as why:
+                self.said = str(why)
+        self.failures, self.failed = self.failures + 1, UNREAD if status == program.BUDGET_SPENT else status
         self.rests = time.monotonic() + REST * 2 ** (self.failures - 1)
         return status, []
+
+    def new_records(self):
+        """What a turn has found whose budget was spent; the next one has a greater one."""
+        with open(self.evidence.own, "rb") as file:
+            texts = records_in(file.read())[self.known:]
+        self.failures = 0
+        self.budget *= 2
+        return texts
 
     def is_under_way(self):
         return self.child is not None

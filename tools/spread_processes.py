@@ -19,6 +19,7 @@ from spread_task import perform, place
 LOOK = 0.5
 # So many seconds a process has for its end once it is asked for it.
 GRACE = 5.0
+NICE = 5
 
 
 class Processes:
@@ -106,6 +107,8 @@ def begin(coordinator, folder):
     for number in (signal.SIGINT, signal.SIGHUP):
         signal.signal(number, signal.SIG_IGN)
     signal.signal(signal.SIGTERM, signal.SIG_DFL)
+    # the coordinator and its own run go first
+    os.nice(NICE)
     PLACE["folder"] = folder
     with open(os.path.join(folder, f"process-{os.getpid()}"), "wb"):
         pass

@@ -5,7 +5,7 @@ What is read here was accepted by the program, or written by it: nothing is judg
 import re
 from collections import namedtuple
 
-BEGIN = re.compile(rb"(?m)^(?=[um] )")
+BEGIN = re.compile(rb"\n(?=[um] )")
 HEAD = re.compile(rb"p gmev ([12]) [0-9]+ [0-9]+ [0-9]+\n")
 ENDS = (b"e partial\n", b"e complete\n")
 CONFLICT, CORRECTION = b"u", b"m"
@@ -109,7 +109,7 @@ def name_in(text):
 
 def split(body):
     """The texts of the records in what stands between the head and the end of evidence."""
-    return BEGIN.split(body)[1:]
+    return [text + b"\n" for text in BEGIN.split(b"\n" + body[:-1])[1:]]
 
 
 def records_in(evidence):

@@ -20,6 +20,7 @@ class Show:
         self.asked, self.origin, self.found = asked, origin, found
         self.began, self.before, self.tasks = time.monotonic(), (time.monotonic(), len(found)), None
         self.next_line, self.next_page, self.paged, self.told = self.began + PAUSE, self.began, None, {}
+        self.told_page = False
 
     def tell(self, line, kind=None):
         """Tells of a failure, if one of its kind was not told just now."""
@@ -33,6 +34,9 @@ class Show:
     def look(self):
         """Shows what there is, if it is time."""
         now = time.monotonic()
+        if self.tasks is not None and self.tasks.engine.page and not self.told_page:
+            print(f"Dask's own page: {self.tasks.engine.page}", flush=True)
+            self.told_page = True
         if now >= self.next_line and (len(self.found) > self.before[1] or now >= self.before[0] + QUIET):
             self.next_line = now + PAUSE
             print(self.line(now), flush=True)

@@ -15,7 +15,7 @@ from collections import namedtuple
 import journal
 import program
 from leash import Leashed
-from spread_batch import Known, batch_of, in_full
+from spread_batch import Known, TooLong, batch_of, in_full
 from spread_numbering import Numbering, sizes_of
 from spread_records import evidence_of, record_of, records_in
 
@@ -32,6 +32,9 @@ Answer = namedtuple("Answer", "host status fault sets batch")
 LOOK = 0.1
 # If a task has found nothing at its time, it has so many times that in all.
 MORE = 16
+# So many bytes of a journal can be mapped in a second, and no journal gets much longer than this many: in one a correction of 1,000
+# groups has 1,000 refutations, each of which may have 100 MB.
+BYTES, LONGEST = 2 ** 25, 2 ** 27
 LONGEST_HEAD = 10000
 MEMORY, ROOM = "/dev/shm", 2 ** 30
 GIVEN = (program.DONE, program.LIMIT_REACHED)
@@ -60,6 +63,9 @@ def perform(order, text, told, where, is_stopped):
         folder = tempfile.mkdtemp(prefix="gmus-task-", dir=place(where))
         try:
             status, fault, sets, batch = Task(order, text, told[:order.told], folder).run(is_stopped)
+        except TooLong:
+            # then it is no use, and other choices will do
+            pass
         finally:
             shutil.rmtree(folder, ignore_errors=True)
     except Exception as error:  # whatever it is, only an answer tells of it
@@ -102,7 +108,7 @@ class Task:
             self.write("told", evidence_of(self.sizes, self.told_there()))
             words += ["--resume", self.at("told"), "--evidence", self.at("new")]
         else:
-            self.begun = journal.framed(in_full(self.told_there()))
+            self.begun = journal.framed(in_full(self.told_there(), LONGEST))
             self.write("journal", self.begun)
             words += ["--journal", self.at("journal")]
         status, said = self.called(words, is_stopped)
@@ -123,7 +129,7 @@ class Task:
         try:
             while child.wait(LOOK) is None:
                 took = (time.monotonic() - begins) / self.order.seconds
-                if is_stopped() or took >= MORE or took >= 1 and self.has_some():
+                if is_stopped() or took >= MORE or self.has_some() and (took >= 1 or self.has_much()):
                     return None, ""
             return child.status, child.said()
         finally:
@@ -136,6 +142,10 @@ class Task:
         with open(self.at("journal"), "rb") as file:
             file.seek(len(self.begun) - 1)
             return file.read(1) == bytes([journal.OPEN])
+
+    def has_much(self):
+        """Whether the journal has got as long as can be mapped in about the time of the task."""
+        return os.path.getsize(self.at("journal")) - len(self.begun) >= min(BYTES * self.order.seconds, LONGEST)
 
     def told_there(self):
         """What is known, under the task's numbers."""

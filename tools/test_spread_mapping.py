@@ -12,7 +12,7 @@ sys.path.insert(0, TOOLS)
 
 import check_evidence                                                    # noqa: E402
 import plain_evidence                                                    # noqa: E402
-from spread_batch import Known, batch_of, in_full                        # noqa: E402
+from spread_batch import Known, TooLong, batch_of, in_full               # noqa: E402
 from spread_conflicts import Conflicts                                   # noqa: E402
 from spread_numbering import Numbering, Sizes, Way, plain, sizes_of      # noqa: E402
 from spread_records import NoReading, evidence_of, record_of, records_in  # noqa: E402
@@ -120,6 +120,11 @@ class Records(unittest.TestCase):
 class Batches(unittest.TestCase):
     def test_references_give_way_to_refutations(self):
         self.assertEqual(in_full(SHORT), LONG)
+        # the first three records have 46, 63 and 18 bytes, and what the third refers to has 17 in the lines of its steps
+        self.assertEqual(in_full(SHORT[:3], 144), LONG[:3])
+        for most in (0, 100, 143):
+            with self.assertRaises(TooLong):
+                in_full(SHORT[:3], most)
 
     def test_refutations_give_way_to_references(self):
         self.assertEqual(batch_of(FIRST, LONG, Known()), evidence_of(FIRST, SHORT))

@@ -233,8 +233,8 @@ class Coordinated(Room):
 class Whole(Room):
     """Runs of the tool itself."""
 
-    def start(self, *words, pause=None, before=(), processes="2"):
-        environment = {**os.environ, "GMUS": PLAIN, "PLAIN_PAUSE": str(pause or 0)}
+    def start(self, *words, pause=None, before=(), processes="2", program=PLAIN):
+        environment = {**os.environ, "GMUS": program, "PLAIN_PAUSE": str(pause or 0)}
         return subprocess.Popen([*before, sys.executable, os.path.join(TOOLS, "spread.py"), "f", "--evidence", "e",
                                  "--journal", "tasks", *([] if processes is None else ["--processes", processes]), *words],
                                 cwd=self.room, env=environment, stdin=subprocess.DEVNULL, stdout=subprocess.PIPE,
@@ -336,6 +336,23 @@ class Whole(Room):
         if os.path.exists(self.at("r")):
             self.assertEqual(len(self.read("r").split(b"\n")) - 4, len(self.sets()))
         self.assertEqual(os.listdir(self.at("tasks")), [])
+
+    def test_a_program_that_writes_another_version_of_evidence(self):
+        self.write("program", f"""#!/bin/sh
+case $1 in check) exec {PLAIN} "$@" ;; esac
+{PLAIN} "$@" --conflicts 1 --limit 99
+for name; do
+    case $name in *.own | */new) sed -i 's/^p gmev 2/p gmev 3/' "$name" ;; esac
+done
+exit 3
+""")
+        os.chmod(self.at("program"), 0o700)
+        status, _, said = self.spread("--report", "r", program=self.at("program"))
+        self.assertEqual(status, 1, said)
+        self.assertTrue(said.endswith("its own run fails: this is no evidence of version 1 or 2: p gmev 3 5 10 10\n"), said)
+        # what the tasks found is kept: their journals have no version
+        self.assertTrue(self.sets())
+        self.assertIn(b"s PARTIAL", self.read("r"))
 
     def test_what_is_refused_at_the_beginning(self):
         for file, evidence, status, wanted in (("p gcnf x", None, 5, "gmus: input refused: "), (None, None, 6, "gmus: read fault on input\n"),
