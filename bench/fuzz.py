@@ -275,16 +275,18 @@ def try_journal(chance, gmus, folder):
         journal.salvaged(problem, held)
     except journal.Foreign as at:
         wanted = refused_journal(at)
-    why = plain_files.unopened(name, None)
+    locked = name if chance.random() < 0.1 else None
+    why = plain_files.unopened(name, locked)
     if why:
         wanted = unopened_journal(name, why)
-    what = repr((text, held))
-    compare(wanted, run(gmus, ["list", file, "--journal", name, "--jobs", chance.choice("113")]), what)
+    what = repr((text, held, locked))
+    with held_open(chance, locked):
+        compare(wanted, run(gmus, ["list", file, "--journal", name, "--jobs", chance.choice("113")]), what)
     if wanted[0]:
         compare(held, held_in(name), what)
     else:
         compare_journal(problem, held, held_in(name), sets_in(wanted[1]), what)
-    return f"journal, status {wanted[0]}"
+    return f"journal, status {wanted[0]}" + (f", {why}" if why else "")
 
 
 def unopened_journal(name, why):
@@ -334,7 +336,7 @@ OTHERS = ["--", "-", "-h", "--help", "--version", "help", "-j", "--job", "--jobs
 
 def option(chance, name):
     pool = {"evidence": OUTPUTS, "resume": EVIDENCE, "focus": FOCI, "journal": JOURNALS}.get(name, NUMBERS)
-    if name in ("jobs", "limit", "conflicts") and chance.random() < 0.6:
+    if name in ("jobs", "limit", "conflicts") and chance.random() < 0.8:
         pool = ["1", "2", "3"]
     value = chance.choice(pool)
     return [f"--{name}={value}"] if chance.random() < 0.5 else [f"--{name}", value]
@@ -363,10 +365,11 @@ def twice(chance, words):
 
 
 def draw_words(chance, commands):
-    command = chance.choice(sorted(commands))
+    # the command with most options
+    command = chance.choice([*sorted(commands), "list", "list"])
     words = places_of(chance, command)
     for name in commands[command]:
-        if chance.random() < 0.4:
+        if chance.random() < (0.4 if name in ("evidence", "journal") else 0.25):
             parts = option(chance, name)
             at = chance.randrange(len(words) + 1)
             words[at:at] = parts
@@ -560,15 +563,34 @@ class Names:
 
 
 def draw_streams(chance):
-    """The file of standard output or standard error, if it is one, which is added to; and a journal that is held open, if one is."""
+    """The file of standard output or standard error, if it is one, which is added to."""
     streams = {"out": None, "err": None}
     if chance.random() < 0.3:
         streams[chance.choice(["out", "out", "err"])] = chance.choice(STREAMS)
-    return streams, chance.choice(["j", "j", "ju", "closed", "f", "e"]) if chance.random() < 0.2 else None
+    return streams
+
+
+def draw_locked(chance, asked):
+    """The file that is held open, if one is: most often the journal."""
+    name = asked[1].get("journal", "j") if asked else "j"
+    if chance.random() < 0.3:
+        return name if os.path.isfile(name) else chance.choice(["ju", "closed", "f", "e"])
+    return None
+
+
+@contextlib.contextmanager
+def held_open(chance, name):
+    """Has the lock of a file, as a run that has it open; of none, if there is no name."""
+    if name is None:
+        yield
+    else:
+        with open(name, "rb") as file:
+            fcntl.flock(file, chance.choice([fcntl.LOCK_EX, fcntl.LOCK_SH]))
+            yield
 
 
 def try_words(chance, gmus, folder, commands):
-    words, (streams, locked) = draw_words(chance, commands), draw_streams(chance)
+    words, streams = draw_words(chance, commands), draw_streams(chance)
     asked = plain_reader.words_read(words, commands)
     here, folder = os.getcwd(), os.path.join(folder, "words")
     make_names(folder)
@@ -576,8 +598,8 @@ def try_words(chance, gmus, folder, commands):
     try:
         with contextlib.ExitStack() as files:
             pipes = {which: files.enter_context(open(name, "ab")) if name else subprocess.PIPE for which, name in streams.items()}
-            if locked:
-                fcntl.flock(files.enter_context(open(locked, "rb")), chance.choice([fcntl.LOCK_EX, fcntl.LOCK_SH]))
+            locked = draw_locked(chance, asked)
+            files.enter_context(held_open(chance, locked))
             before = Names()
             what = f"{words} {asked} {streams} {locked}"
             wanted = wanted_of(words, asked, streams, locked)
