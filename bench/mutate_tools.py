@@ -401,7 +401,7 @@ def main():
             kind, number = asked.only.split(":")
             rounds = {kind: [int(number)]}
         for kind, numbers in rounds.items():
-            statuses, longest = collections.Counter(), (0, None)
+            statuses, longest = collections.Counter(), (0.0, 0)
             for number in numbers:
                 try:
                     status, seconds = one_round(kind, asked.seed, number)
