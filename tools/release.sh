@@ -55,7 +55,7 @@ fill() { # the archive's folder
     mkdir "$1" "$1/bin" "$1/tools" "$1/examples" "$1/docs" "$1/bench" || return 1
     cp "$program" "$1/bin/gmus" && chmod 755 "$1/bin/gmus" || return 1
     cp "$top/gmus" "$top/README.md" "$top/CHANGELOG.md" "$top/CONTRIBUTING.md" "$top"/LICENSE-* "$1" || return 1
-    cp "$top"/docs/* "$1/docs" && cp "$top"/bench/*.md "$top/bench/brute_force.py" "$1/bench" || return 1
+    cp "$top"/docs/* "$1/docs" && cp -R "$top"/bench/*.md "$top/bench/measures" "$top/bench/brute_force.py" "$1/bench" || return 1
     cp -R "$top/examples/." "$1/examples" && cp -R "$top/tools/." "$1/tools" || return 1
     rm -rf "$1"/*/__pycache__
     for tool in $OURS $OUR_TESTS; do

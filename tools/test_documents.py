@@ -10,14 +10,27 @@ import unittest
 import man
 from crates import TOP, areas_in, below_in, text_of
 
-DOCUMENTS = ["README.md", "CONTRIBUTING.md", "CHANGELOG.md", "bench/README.md", "bench/RESULTS.md", "examples/README.md"] + [
-    "docs/" + name for name in sorted(os.listdir(os.path.join(TOP, "docs"))) if name.endswith(".md")]
+DOCUMENTS = ["README.md", "CONTRIBUTING.md", "CHANGELOG.md", "examples/README.md"] + [
+    f"{folder}/{name}" for folder in ("docs", "bench", "bench/measures")
+    for name in sorted(os.listdir(os.path.join(TOP, folder))) if name.endswith(".md")]
 
 
 def sections(text, mark):
     """The headings of a document with this mark, in order, each with what stands below it."""
     parts = re.split(rf"(?m)^{mark} (.*)$", text)
     return list(zip(parts[1::2], parts[2::2]))
+
+
+def anchors_of(text):
+    """The names by which links lead to a document's headings, as hosts of repositories make them."""
+    headings = re.findall(r"(?m)^#+ (.*)$", re.sub(r"(?ms)^```.*?^```$", "", text))
+    shown = [re.sub(r"\[([^\]]*)\]\([^)]*\)", r"\1", heading) for heading in headings]
+    return [re.sub(r"[^\w\- ]", "", heading.lower()).replace(" ", "-") for heading in shown]
+
+
+def words_in(text):
+    """The words of a text as a reader counts them: what a link leads to is none."""
+    return [word for word in re.sub(r"\]\([^)]*\)", "]", text).split() if re.search(r"\w", word)]
 
 
 def lines_of(text, name):
@@ -103,6 +116,43 @@ class Documents(unittest.TestCase):
                 if not re.match(r"https?:", link):
                     path = os.path.join(TOP, os.path.dirname(name), link)
                     self.assertTrue(os.path.exists(path), f"{name}: {link}")
+
+    def test_links_lead_to_headings(self):
+        there = {name: anchors_of(text_of(name)) for name in DOCUMENTS}
+        for name in DOCUMENTS:
+            for link, anchor in re.findall(r"\]\(([^)#\s]*)#([^)]*)\)", text_of(name)):
+                document = os.path.normpath(os.path.join(os.path.dirname(name), link)) if link else name
+                if not re.match(r"https?:", link):
+                    self.assertIn(anchor, there[document], f"{name}: {link}#{anchor}")
+
+    def test_each_decision_is_short_and_each_idea_has_its_choice_or_figures(self):
+        decided = text_of("docs/DECISIONS.md")
+        entries = sections(decided, "####")
+        self.assertGreater(len(entries), 200)
+        for title, below in entries:
+            entry = below.partition("\n##")[0]
+            self.assertLessEqual(len(words_in(entry)), 120, title)
+            if not re.match(r"\n\n(Replaced by|Gone with .*; see) \[", entry):
+                for part in ("*Question.* ", "*Choice.* "):
+                    self.assertEqual(entry.count(part), 1, title)
+        for anchor in anchors_of("\n".join(f"#### {title}" for title, _ in entries)):
+            self.assertEqual(anchors_of(decided).count(anchor), 1, anchor)
+        ideas = re.findall(r"(?m)^- .*$", text_of("docs/TRIED.md"))
+        self.assertGreater(len(ideas), 40)
+        for idea in ideas:
+            self.assertRegex(idea, r"^- \*\*.*\*\*.*\((\[\w+\]\([\w./-]+\.md#[\w-]+\)(, )?)+\)$")
+            self.assertLessEqual(len(words_in(idea)), 120, idea)
+
+    def test_decisions_stand_in_the_areas_of_their_crates(self):
+        areas = areas_in(text_of("crates.txt"))
+        told = sections(text_of("docs/DECISIONS.md"), "##")
+        self.assertEqual([name for name, _ in told], [name[0].upper() + name[1:] for name, _ in areas])
+        every = {crate for _, crates in areas for crate in crates}
+        for (area, crates), (_, below) in zip(areas, told):
+            for heading, _ in sections(below, "###"):
+                named = [word for word in heading.split() if word in every]
+                self.assertTrue(named or heading in ("All crates", "The tools"), heading)
+                self.assertLessEqual(set(named), set(crates), f"{area}: {heading}")
 
     def test_the_first_page_is_short(self):
         readme = text_of("README.md")
