@@ -61,6 +61,11 @@ def definitions(pairs):
     return [line for term, text in pairs for line in (".TP", roff(term), roff(text))]
 
 
+def items(text):
+    """The items of a text's lists, each as a paragraph, and those below another one behind a dot."""
+    return [line for blanks, item in re.findall(r"(?m)^( *)- (.*)$", text) for line in (r".IP \(bu 2" if blanks else ".PP", roff(item))]
+
+
 def options(readme):
     for option, says, values in table(readme, "Option"):
         which, _, default = values.rstrip(")").partition(" (")
@@ -84,11 +89,9 @@ def page():
              ".SH NAME", r"gmus \- all minimal conflicts and minimal corrections of constraints in groups",
              ".SH SYNOPSIS", ".nf", *(roff(f"`{line}`") for line in synopsis(readme)), ".fi",
              ".SH DESCRIPTION", roff(about)]
-    for item in re.findall(r"(?m)^- (.*)$", commands):
-        lines += [".PP", roff(item)]
-    rest = [it for it in commands.split("\n\n") if it.startswith("[README.md]")]
-    lines += [".SH OPTIONS", *definitions(options(readme)),
-              ".PP", roff(rest[0].partition(". ")[2].strip()),
+    described, _, rest = commands.partition("\n\n[README.md]")
+    lines += [*items(described), ".SH OPTIONS", *definitions(options(readme)),
+              ".PP", roff(rest.partition("\n")[0].partition(". ")[2]), *items(rest),
               ".SH EXIT STATUS", *definitions(statuses(readme)), ".SH EXAMPLES"]
     for says, words in EXAMPLES:
         lines += [".PP", says, ".PP", ".nf", ".RS", *(roff(f"`{line}`") for line in words), ".RE", ".fi"]

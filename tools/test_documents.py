@@ -84,7 +84,7 @@ def prose_in(text):
     """The paragraphs and items of a document, without headings, blocks of code and tables; code in a line is one word."""
     text = re.sub(r"(?ms)^```.*?^```$", "", text)
     lines = [line for line in text.split("\n") if not re.match(r"#|\|", line)]
-    for paragraph in re.split(r"\n\s*\n|\n(?=- |\d+\. )", "\n".join(lines)):
+    for paragraph in re.split(r"\n\s*\n|\n(?= *- | *\d+\. )", "\n".join(lines)):
         yield re.sub(r"\]\([^)]*\)", "]", re.sub(r"`[^`]*`", "CODE", " ".join(paragraph.split())))
 
 
