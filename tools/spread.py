@@ -9,7 +9,8 @@ with nothing or with what is known, and runs for 1, 4, 16 or 64 seconds, as last
 back is evidence, which `gmus check` judges here before a record counts. All records are kept in E, which is whole at each
 moment. Beside the tasks a run of its own goes on from E, at first with one processor of this machine, and with all once tasks
 find nothing new. If it ends with 0, no set is missing: E then shows that, and R has the report, byte for byte that of
-`gmus list FILE`. If E is there already, the run goes on from it; it may be stopped or killed at any moment.
+`gmus list FILE`. If E is there already, the run goes on from it; it may be stopped or killed at any moment. What one that was
+killed left on its machine, a later one there takes away.
 
 --processes N    so many tasks at one time, in processes of this machine; without a word it is one less than there are
                  processors. Nothing has to be installed

@@ -9,6 +9,7 @@ import glob
 import os
 import time
 
+from spread_left import FOUND, NEW, OWN, beside
 from spread_records import evidence_of, records_in
 from telling import Refused, remove
 
@@ -21,8 +22,8 @@ class Evidence:
 
     def __init__(self, name):
         self.name, self.place = name, os.path.realpath(name)
-        self.new, self.own = (f"{self.place}.{os.getpid()}.{what}" for what in ("new", "own"))
-        self.seen, self.left = self.mark(), None
+        self.new, self.own = beside(self.place, NEW), beside(self.place, OWN)
+        self.seen = self.mark()
         self.written, self.next, self.under_way = 0, 0.0, None
         self.pool = concurrent.futures.ThreadPoolExecutor(1)
 
@@ -74,17 +75,17 @@ class Evidence:
         with open(new, "rb") as file:
             os.fsync(file.fileno())
         if self.mark() != self.seen:
-            self.left = new
-            raise Refused(f"{self.name}: another run wrote it meanwhile. It is left as it is, and what was found is in {new}")
+            left = beside(self.place, FOUND)
+            os.replace(new, left)
+            raise Refused(f"{self.name}: another run wrote it meanwhile. It is left as it is, and what was found is in {left}")
         os.replace(new, self.place)
         self.seen = self.mark()
 
     def close(self):
-        """Takes away what was written beside, but not what nothing else has."""
+        """Takes away what was written beside."""
         self.pool.shutdown()
         for name in (self.new, self.own):
-            if name != self.left:
-                remove(name)
+            remove(name)
         self.sweep()
 
     def sweep(self):

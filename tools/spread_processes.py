@@ -8,11 +8,11 @@ import multiprocessing
 import os
 import shutil
 import signal
-import tempfile
 import threading
 import time
 from concurrent.futures.process import BrokenProcessPool
 
+from spread_left import folder_in
 from spread_records import split
 from spread_task import perform, place
 
@@ -29,7 +29,7 @@ class Processes:
 
     def __init__(self, count, text, where):
         self.count, self.pool, self.is_held = count, None, False
-        self.folder = tempfile.mkdtemp(prefix="gmus-spread-", dir=place(where))
+        self.folder = folder_in(place(where))
         self.known = 0
         self.write("file", text)
         self.write("known", b"")

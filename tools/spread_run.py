@@ -6,7 +6,6 @@ goes on from there. What is under way lies in folders that are taken away with i
 import os
 import shutil
 import signal
-import tempfile
 import time
 
 import program
@@ -16,11 +15,13 @@ from spread_dask import Dask
 from spread_evidence import Evidence
 from spread_found import Found
 from spread_judge import Judge
+from spread_left import folder_in, take_away_files, take_away_folders
 from spread_mpi import Mpi
 from spread_numbering import plain, sizes_of
 from spread_own import FAILURES, Own
 from spread_processes import Processes
 from spread_records import NoReading, evidence_of
+from spread_task import place
 from spread_tasks import Tasks
 from telling import Refused, write_whole
 
@@ -86,8 +87,11 @@ class Coordinator:
 
     def __init__(self, asked, interrupts):
         self.asked, self.interrupts, self.show = asked, interrupts, Silent()
-        self.folder = tempfile.mkdtemp(prefix="gmus-spread-", dir=asked.journal)
+        for where in {asked.journal, place(asked.journal)}:
+            take_away_folders(where)
+        self.folder = folder_in(asked.journal)
         self.evidence = Evidence(asked.evidence)
+        take_away_files(self.evidence.place)
         self.engine = self.judge = self.own = self.tasks = None
 
     def run(self, engine_of, show_of):

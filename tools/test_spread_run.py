@@ -24,6 +24,7 @@ import plain_gmus                               # noqa: E402
 import spread_run                               # noqa: E402
 import spread_tasks                             # noqa: E402
 from spread_evidence import Evidence            # noqa: E402
+from spread_left import take_away_files, take_away_folders  # noqa: E402
 from spread_processes import Processes          # noqa: E402
 from spread_records import records_in           # noqa: E402
 from spread_task import perform                 # noqa: E402
@@ -313,8 +314,12 @@ class Whole(Room):
         self.until(lambda: not any(os.path.exists(f"/proc/{it}") for it in processes))
         self.until(lambda: not glob.glob(self.at("tasks/gmus-spread-*/process-*")))
         self.assertEqual(records_in(self.read("e"))[:len(texts)], texts)
+        child.communicate()
+        self.assertTrue(os.listdir(self.at("tasks")))
+        self.write(f"e.spread-{child.pid}.own", "")
         self.assertEqual(self.spread("--report", "r")[0], 0)
         self.assertEqual(self.read("r").decode(), self.report())
+        self.assertEqual((self.files(), os.listdir(self.at("tasks"))), (["e", "f", "r", "tasks"], []))
 
     def test_a_process_that_dies_is_replaced(self):
         child = self.start("--report", "r", pause=0.1)
@@ -383,12 +388,33 @@ exit 3
 
     def test_what_a_killed_run_left_beside_its_evidence_is_taken_away(self):
         evidence = Evidence(self.at("e"))
-        for name in (".e.gmus-7", f".e.{os.getpid()}.own.gmus-7", f".e.{os.getpid()}1.own.gmus-7", f"e.{os.getpid()}.own"):
+        own, other = f"e.spread-{os.getpid()}.own", f"e.spread-{os.getpid()}1.own"
+        for name in (".e.gmus-7", f".{own}.gmus-7", f".{other}.gmus-7", own):
             self.write(name, "")
         evidence.sweep()
-        self.assertEqual(self.files(), sorted([".e.gmus-7", f".e.{os.getpid()}1.own.gmus-7", f"e.{os.getpid()}.own", "f", "tasks"]))
+        self.assertEqual(self.files(), sorted([".e.gmus-7", f".{other}.gmus-7", own, "f", "tasks"]))
         evidence.close()
-        self.assertEqual(self.files(), sorted([".e.gmus-7", f".e.{os.getpid()}1.own.gmus-7", "f", "tasks"]))
+        self.assertEqual(self.files(), sorted([".e.gmus-7", f".{other}.gmus-7", "f", "tasks"]))
+
+    def test_only_what_dead_coordinators_left_is_taken_away_by_others(self):
+        ended = subprocess.Popen(["true"])
+        ended.wait()
+        dead, alive = ended.pid, os.getppid()
+        gone = [f"e.spread-{dead}.new", f"e.spread-{dead}.own", f".e.spread-{dead}.own.gmus-7"]
+        stays = [f"e.spread-{dead}.found", f"e.spread-{alive}.own", f"e.spread-{os.getpid()}.new", f"e2.spread-{dead}.own", f"e.{dead}.own",
+                 f".e.spread-{alive}.own.gmus-{dead}", f"e.spread-{dead}.own.gmus-7", "e.spread-.own", "e.spread-9999999999.own.x", "e"]
+        for name in gone + stays:
+            self.write(name, "")
+        take_away_files(self.at("e"))
+        self.assertEqual(self.files(), sorted([*stays, "f", "tasks"]))
+        folders = [f"gmus-spread-{dead}-abc_1234", f"gmus-spread-{alive}-abc_1234", "gmus-spread-abcdefgh", f"gmus-task-{dead}-abcdefgh"]
+        for name in folders:
+            os.makedirs(self.at(f"tasks/{name}/inside"))
+        self.write(f"tasks/gmus-spread-{dead}-file", "")
+        os.symlink(self.at("tasks"), self.at(f"tasks/gmus-spread-{dead}-link"))
+        take_away_folders(self.at("tasks"))
+        self.assertEqual(sorted(os.listdir(self.at("tasks"))), sorted([*folders[1:], f"gmus-spread-{dead}-file", f"gmus-spread-{dead}-link"]))
+        take_away_folders(self.at("no"))
 
     def test_wrong_words_and_places(self):
         file = self.at("f")
