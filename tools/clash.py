@@ -30,7 +30,6 @@ import names
 import page
 import program
 import rules
-import why
 from report import Named, Origin, decoded, digest_of, read_problem
 from telling import DONE, OUTPUT, Refused, WrongWords, bytes_of, put, refuse_places, run, text_in, write_whole
 from why_evidence import Evidence
@@ -111,10 +110,10 @@ def main(words):
         problem = Problem(io.BytesIO(file), source)
         with open(evidence, "rb") as opened:
             of_evidence = Evidence(opened, evidence, problem)
-            if "--html" in asked.options:
-                made = page.as_html(shown, why.by_groups(problem, of_evidence))
-                write_whole(asked.options["--html"], made.encode("utf-8", "replace"))
-            put(names.as_text(shown, asked.first, why.by_groups(problem, of_evidence, shown.conflicts[:asked.first])))
+            reasons = names.take_evidence(shown, problem, of_evidence, None if "--html" in asked.options else asked.first)
+        if "--html" in asked.options:
+            write_whole(asked.options["--html"], page.as_html(shown, reasons).encode("utf-8", "replace"))
+        put(names.as_text(shown, asked.first, reasons))
         if "--evidence" in asked.options:
             write_whole(asked.options["--evidence"], bytes_of(evidence))
     return names.status_of("clash.py", report) if asked.flags["--fail-on-conflict"] else DONE

@@ -1,7 +1,8 @@
 #!/usr/bin/env python3
 """Writes a report of gmus with the names of its groups.
 
-    gmus list FILE | tools/names.py FILE [--first N] [--json] [--html [--why EVIDENCE]] [--focus LIST] [--fail-on-conflict] [-o TEXT]
+    gmus list FILE | tools/names.py FILE [--evidence EVIDENCE] [--first N] [--json | --html] [--focus LIST] [--fail-on-conflict]
+                                         [-o TEXT]
     tools/names.py FILE REPORT ..
 
 FILE is the GCNF or CNF file. Its comments 'c group 7 TEXT' name its groups, in CNF clause 7; if one group has several of
@@ -16,10 +17,13 @@ conflicts come first, then those in most corrections. Then the conflicts and the
 since they tell most; a correction of one rule is told as a sentence. The last line has the name of FILE and the first 16
 digits of its SHA-256, so that it is known of which file all this was made.
 
+--evidence EVIDENCE: by what gmus wrote beside the report, each conflict has the lines on which it rests, and each correction a
+configuration that it leaves: the names that then hold, in the order of the rules. Both are checked before they are shown. --why
+says the same.
 --first N writes the first N of each list, and how many are left. On a terminal that is so with 20, if N is not given.
 --json writes the whole report with names as JSON. Its form stands in docs/FORMATS.md.
---html writes it as a page that stands by itself, in which rules can be given up or kept, and what then remains is shown.
---why EVIDENCE: in the page each conflict opens to its reasons, by the evidence that gmus wrote with the report.
+--html writes it as a page that stands by itself, in which rules can be given up or kept, and what then remains is shown. There
+conflicts open to their lines.
 --focus LIST: the report is of `gmus list FILE --focus LIST`; what that leaves out is told as left out.
 --fail-on-conflict: what is written stays the same, and the status is 3 if something clashes.
 
@@ -30,9 +34,13 @@ import json
 
 import page
 import roles_report
+import why
+from configurations import Configurations
 from focus import without_focus
-from report import decoded, named, number_of, origin_of
+from report import configuration_line, decoded, named, number_of, origin_of
 from telling import DONE, REFUSED, Refused, WrongWords, bytes_of, is_for_a_person, put, run, told
+from why_evidence import Evidence
+from why_problem import Problem
 
 CLASH = 3
 ON_A_TERMINAL, MOST = 20, 10 ** 18
@@ -59,11 +67,12 @@ def as_text(shown, first=None, reasons=None):
             told = [shown.name(group) for group in members] if len(members) > 1 else [alone.format(shown.name(members[0]))]
             if sets is shown.conflicts and reasons:
                 told = with_lines(told, reasons.get(tuple(members), []))
-            if sets is shown.corrections and shown.origin.has_weights():
-                told.append(f"(weight {shown.origin.weight_of(members)})")
+            if sets is shown.corrections:
+                told += of_correction(shown, members)
             lines.append("")
             lines += [f"{f'{at}.' if not place else '':5} {line}" for place, line in enumerate(told)]
         lines += left_line(len(sets), first)
+        lines += ["", shown.unseen()] if sets is shown.corrections and shown.unseen() else []
     lines += [line for told in shown.kept_lines() for line in ("", told)]
     lines += ["", shown.origin.made_of()] if shown.origin.made_of() else []
     return "".join(line + "\n" for line in lines)
@@ -75,6 +84,13 @@ def with_lines(told, reasons):
     parts = [[head, *("    " + line for line in lines)] for head, (_, lines) in zip(told, named)] if len(named) == len(told) else []
     always = [["always", *("    " + line for line in lines)] for rule, lines in reasons if rule is None]
     return [line for part in (parts or [told]) + always for line in part]
+
+
+def of_correction(shown, members):
+    """What is told of a correction besides its rules: its weight, and what it leaves."""
+    left = shown.left_by(members)
+    return ([f"(weight {shown.origin.weight_of(members)})"] if shown.origin.has_weights() else []) + (
+        [] if left is None else [configuration_line(left)])
 
 
 def left_line(count, first):
@@ -95,7 +111,8 @@ def as_json(shown):
     lines = [f'"{key}": {written(value)}' for key, value in head.items()]
     later = [{"line": line, "text": text, "groups": groups} for (line, text), groups in origin.later.items()]
     sums = [origin.weight_of(members) for members in shown.corrections]
-    lines += [f'"left_out": {shown.unwanted}', f'"sums": {written(sums)}']
+    left = None if shown.left is None else list(map(shown.left_by, shown.corrections))
+    lines += [f'"left_out": {shown.unwanted}', f'"sums": {written(sums)}', f'"left": {written(left)}']
     for key, rows in (("later", later), ("counts", counts), ("conflicts", shown.conflicts), ("corrections", shown.corrections)):
         lines.append(f'"{key}": [' + ",".join("\n  " + written(row) for row in rows) + ("\n]" if rows else "]"))
     return "{\n" + ",\n".join(lines) + "\n}\n"
@@ -105,18 +122,19 @@ def written(value):
     return json.dumps(value, ensure_ascii=False)
 
 
-def reasons_of(file, held, evidence, focus):
-    """The reasons of each conflict that the evidence has, by its groups: of each rule, and None for the background, the lines
-    on which its refutation rests."""
-    try:
-        import why
-        from why_evidence import Evidence
-        from why_problem import Problem
-    except ImportError:
-        raise Refused("--why: tools/why.py, which finds reasons, is not there") from None
-    problem = Problem(io.BytesIO(held), file, focus)
-    with why.opened(evidence) as source:
-        return why.by_groups(problem, Evidence(source, evidence, problem))
+def take_evidence(shown, problem, evidence, first=None):
+    """Notes what the corrections leave, and gives the reasons of the conflicts, as the evidence has them: of the first ones alone, if
+    so many are asked for."""
+    shown.left = Configurations(problem, evidence, shown.corrections[:first])
+    has = set(evidence.conflicts)
+    return why.by_groups(problem, evidence, [groups for groups in shown.conflicts[:first] if tuple(groups) in has])
+
+
+def reasons_in(shown, file, held, asked, first):
+    """What take_evidence gives by the evidence that was asked for."""
+    problem = Problem(io.BytesIO(held), file, asked.focus)
+    with why.opened(asked.evidence) as source:
+        return take_evidence(shown, problem, Evidence(source, asked.evidence, problem), first)
 
 
 def number_behind(option, value):
@@ -141,8 +159,6 @@ class Words:
             raise WrongWords("FILE and REPORT can't both come from standard input")
         if self.form and self.first is not None:
             raise WrongWords(f"--first is for the text: --{self.form} has the whole report")
-        if self.evidence is not None and self.form != "html":
-            raise WrongWords("--why is for the page: --html has to stand beside it")
 
     def take(self, word, behind):
         option, has_value, value = word.partition("=")
@@ -152,11 +168,11 @@ class Words:
             self.form = word[2:]
         elif word == "--fail-on-conflict":
             self.fails = True
-        elif option in ("--first", "--why"):
+        elif option in ("--first", "--evidence", "--why"):
             if not has_value and not behind:
                 raise WrongWords(f"{option} has nothing behind it")
             value = value if has_value else behind.pop(0)
-            if option == "--why":
+            if option != "--first":
                 self.evidence = value
             else:
                 self.first = number_behind(option, value)
@@ -177,19 +193,20 @@ def main(words):
     first = ON_A_TERMINAL if asked.first is None and is_for_a_person() else asked.first
     if roles_report.is_roles(report):
         if asked.evidence is not None:
-            raise Refused("--why: a report of roles has no conflicts to open")
+            raise Refused("--evidence: a report of roles has no sets to tell of")
         shown = clashing = roles_report.Roles(origin, report)
         text = {"json": roles_report.as_json, "html": roles_report.as_html}.get(
             asked.form, lambda roles: roles_report.as_text(roles, first))(shown)
     else:
         shown = named(origin, report)
         clashing = shown.report
+        reasons = None if asked.evidence is None else reasons_in(shown, file, held, asked, None if asked.form else first)
         if asked.form == "json":
             text = as_json(shown)
         elif asked.form == "html":
-            text = page.as_html(shown, None if asked.evidence is None else reasons_of(file, held, asked.evidence, asked.focus))
+            text = page.as_html(shown, reasons)
         else:
-            text = as_text(shown, first)
+            text = as_text(shown, first, reasons)
     put(text)
     return status_of("names.py", clashing) if asked.fails else DONE
 

@@ -95,6 +95,19 @@ function conflictItem(at) {
     return conflictItems.get(at);
 }
 
+const LEFT = "Left, for example: ";
+
+/** The configuration that a correction leaves; a long one is folded. */
+function leftParts(at) {
+    const left = leftBy(at);
+    if (left === null) return [];
+    if (left === undefined) return [make("div", {class: "pale"}, "What it leaves is too long for this page. tools/names.py tells it.")];
+    const listed = names => names.join(", ") || "nothing that has a name";
+    if (left.length <= AT_FIRST) return [make("div", {class: "pale left"}, LEFT + listed(left))];
+    const some = `${LEFT}${listed(left.slice(0, AT_FIRST))} and ${left.length - AT_FIRST} more`;
+    return [make("details", {class: "left"}, make("summary", {}, some), make("div", {class: "pale"}, listed(left)))];
+}
+
 function correctionItem(at) {
     const rest = data.corrections[at].filter(group => !isGiven(group)), done = data.corrections[at].filter(isGiven);
     const item = make("li", {value: at + 1});
@@ -106,6 +119,7 @@ function correctionItem(at) {
     if (data.weights) item.append(make("div", {class: "pale"}, `Weight: ${weightOf(rest)}`));
     if (done.length) item.append(make("div", {class: "pale"}, `Given up already: ${listed(done.slice(0, AT_FIRST))}`
                                       + (done.length > AT_FIRST ? ` and ${done.length - AT_FIRST} more.` : ".")));
+    item.append(...leftParts(at));
     if (rest.length) {
         item.append(button(rest.length === 1 ? "Give it up" : "Give these up", `give up correction ${at + 1}`,
                            () => { rest.forEach(group => choose("give", group, true)); show(); }));
@@ -256,7 +270,7 @@ function layOut() {
         make("section", {class: "screen sets"}, make("h2", {}, told.correctionsHead),
              make("p", {}, "Give up the rules of one correction, and all others fit together. A correction fits if none of "
                   + `its rules is to be kept. The first ones have the ${data.weights ? "least weight" : "fewest rules"} that `
-                  + `${data.weights ? "is" : "are"} still to be given up.`),
+                  + `${data.weights ? "is" : "are"} still to be given up. ${data.unseen}`),
              ...corrections.parts));
 }
 
@@ -266,7 +280,9 @@ function paper() {
     const now = outcome();
     const lines = (sets, places) => {
         const list = make("ol", {});
-        for (const at of places) list.append(make("li", {value: at + 1}, listed(sets[at])));
+        for (const at of places) {
+            list.append(make("li", {value: at + 1}, listed(sets[at]), ...(sets === data.corrections ? leftParts(at) : [])));
+        }
         return list;
     };
     const table = otherRules.length ? [document.querySelector("#plain table").cloneNode(true)] : [];

@@ -9,12 +9,14 @@ import json
 import os
 import re
 
-from report import LATER_LINES
+from report import LATER_LINES, configuration_line
 
 HERE = os.path.dirname(os.path.abspath(__file__))
 # A name that is longer is cut in the lists, since the table of rules has it whole; and shorter, if all sets together have so
 # many rules that the lists have to be brief.
 LONG, SHORT, MANY = 120, 40, 20000
+# So many digits at most say what corrections leave.
+MOST_DIGITS = 2 ** 24
 BEGIN = """document.documentElement.className = "scripted";
 onerror = function () { document.documentElement.className = ""; };"""
 
@@ -95,8 +97,11 @@ def plain_parts(shown, reasons):
             told = alone.format(names[members[0]]) if len(members) == 1 else listed([names[group] for group in members])
             why = plain_reasons(reasons[at]) if sets is shown.conflicts and not is_long else ""
             weight = f" (weight {shown.origin.weight_of(members)})" if sets is shown.corrections and shown.origin.has_weights() else ""
-            yield f"<li>{told}{weight}{why}</li>"
+            left = plain_left(shown.left_by(members)) if sets is shown.corrections and not is_long else ""
+            yield f"<li>{told}{weight}{why}{left}</li>"
         yield "</ol>"
+        if sets is shown.corrections and shown.unseen():
+            yield f"<p>{text(shown.unseen())}</p>"
 
 
 def links(shown):
@@ -118,6 +123,11 @@ def plain_reasons(reasons):
     return f"<details><summary>Why</summary><dl>{told}</dl></details>"
 
 
+def plain_left(names):
+    """What a correction leaves, if that is known."""
+    return "" if names is None else f'<div class="pale">{html.escape(configuration_line(names))}</div>'
+
+
 def cut(name, length=LONG):
     return name if len(name) <= length else name[:length - 1] + "\u2026"
 
@@ -137,4 +147,22 @@ def data(shown, reasons):
         "others": shown.others_line(),
         "lines": list(lines),
         "reasons": told if any(told) else [],
+        "left": left_data(shown),
+        "unseen": shown.unseen(),
     }
+
+
+def left_data(shown):
+    """What each correction leaves: the names that hold in some, and for each correction digits to the base 16, each of which has the
+    bits of four names, the first one in its lowest. If they are too long, those of the first corrections alone."""
+    if not shown.left or not shown.left.names:
+        return None
+    held = [shown.left.found.get(tuple(members)) for members in shown.corrections]
+    places = {variable: at for at, variable in enumerate(sorted(set().union(*(each or [] for each in held))))}
+    most = MOST_DIGITS // (len(places) // 4 + 1)
+    return {"names": [shown.left.names[variable] for variable in places],
+            "sets": [None if each is None else digits_of(places[variable] for variable in each) for each in held[:most]]}
+
+
+def digits_of(places):
+    return f"{sum(1 << at for at in places):x}"[::-1]

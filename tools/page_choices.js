@@ -35,6 +35,13 @@ function choose(kind, group, isOn) {
     if (isOn) chosen[kind === "give" ? "keep" : "give"].delete(group);
 }
 
+/** The names that hold where this correction is given up; null if that is not known, undefined if the page would be too long. */
+function leftBy(at) {
+    if (!data.left) return null;
+    const digits = data.left.sets[at];
+    return digits && data.left.names.filter((_, place) => parseInt(digits[place >> 2] || "0", 16) >> (place & 3) & 1);
+}
+
 // What the choices leave.
 
 function outcome() {

@@ -15,6 +15,7 @@ NAMING = re.compile(r"^[ \t]*c[ \t]+group[ \t]+0*([0-9]{1,18})[ \t]+(\S[^\n]*)",
 LATER = re.compile(r"^c always ([0-9]{1,9}) (.*)|^\{([0-9]{1,9})\}", re.MULTILINE)
 # what giving up a rule weighs, and which ones are never given up
 PREFERENCE = re.compile(r"^[ \t]*c[ \t]+(?:weight[ \t]+0*([0-9]{1,18})[ \t]+0*([1-9][0-9]{0,9})|keep[ \t]+0*([0-9]{1,18}))[ \t\r]*$", re.MULTILINE)
+VARIABLE = re.compile(r"^[ \t]*c[ \t]+variable[ \t]+[0-9]{1,18}[ \t]+\S", re.MULTILINE)
 HEADER = re.compile(r"p gcnf [0-9]+ [0-9]+ 0*([0-9]{1,18})|p cnf [0-9]+ 0*([0-9]{1,18})( .*)?")
 HEAD = re.compile(r"p gmus ([0-9]{1,18})")
 SET = re.compile(r"(u|m)((?: [1-9][0-9]{0,17})*) 0")
@@ -91,6 +92,7 @@ class Origin:
         self.names, self.groups = read_problem(text)
         self.later = read_later(text) if "\nc always " in text else {}
         self.weights, self.kept = read_preferences(text)
+        self.has_variables = bool(VARIABLE.search(text))
         self.focus = focus
 
     def has_weights(self):
@@ -208,12 +210,22 @@ def number_of(count, one, many):
     return f"{count} {one if count == 1 else many}"
 
 
+def configuration_line(names):
+    """The names of a configuration as a line, the first ones if they are many."""
+    more = f" and {len(names) - FEW} more" if len(names) > FEW else ""
+    return LEFT + (", ".join(names[:FEW]) or NOTHING) + more
+
+
 # Of each kind of sets: its heading, what it means, and what is said of a set of one rule.
 CONFLICTS = ("Conflicts", "Not all rules of a conflict can be kept. Without any one of them, its others can.",
              "{} can't be kept, whatever else is given up.")
 CORRECTIONS = ("Corrections", "Give up the rules of one correction, and all others fit together. No part of it is enough.",
                "Giving up {} alone mends all.")
 LIGHT = " The one of the least weight comes first."
+# What is said of a configuration that a correction leaves, and if none is known.
+LEFT = "left, for example: "
+NOTHING = "nothing that has a name"
+UNSEEN = "What each leaves: list with --evidence to see it."
 
 
 class Named:
@@ -230,6 +242,8 @@ class Named:
         self.corrections = sorted((members for members in report.corrections if origin.kept.isdisjoint(members)),
                                   key=lambda members: (origin.weight_of(members), len(members)))
         self.unwanted = len(report.corrections) - len(self.corrections)
+        # what each correction leaves, as configurations.Configurations has it, if there was evidence
+        self.left = None
         involved = {group for group, _ in self.counts}
         self.others = [group for group in range(1, report.groups + 1) if group not in involved and origin.is_asked(group)]
 
@@ -239,6 +253,14 @@ class Named:
     def weight_of(self, group):
         """What is told of a rule's weight: that it is kept, or how much giving it up weighs."""
         return "keep" if group in self.origin.kept else self.origin.weight_of([group])
+
+    def left_by(self, correction):
+        """The names that hold where a correction is given up, or None if that isn't known."""
+        return self.left.of(correction) if self.left else None
+
+    def unseen(self):
+        """What is said if there was no evidence by which to tell what corrections leave."""
+        return UNSEEN if self.left is None and self.origin.has_variables and any(self.corrections) else ""
 
     def has_choice(self):
         """Whether there is a set with rules in it, of which some can be given up."""

@@ -1,6 +1,5 @@
 #!/usr/bin/env python3
 """Tests of names.py: what it reads, and what it writes as text and as JSON. What is wanted was worked out by hand."""
-import importlib.util
 import io
 import json
 import os
@@ -148,7 +147,7 @@ class Texts(unittest.TestCase):
         made = names.as_json(shown("p gmus 3\ns PARTIAL\nu 1 2 0\nu 3 0\nm 1 3 0\ne 2 1\n", "c group 1 \"ä\\b\"\nc group 0 all\n", "/a/b.gcnf"))
         self.assertEqual(json.loads(made, object_pairs_hook=lambda pairs: [list(pair) for pair in pairs]), [
             ["version", 1], ["file", "b.gcnf"], ["sha256", ""], ["focus", None], ["complete", False], ["groups", 3], ["names", [["0", "all"], ["1", "\"ä\\b\""]]],
-            ["weights", []], ["keep", []], ["left_out", 0], ["sums", [2]], ["later", []], ["counts", [[["group", 1], ["conflicts", 1], ["corrections", 1]], [["group", 3], ["conflicts", 1], ["corrections", 1]],
+            ["weights", []], ["keep", []], ["left_out", 0], ["sums", [2]], ["left", None], ["later", []], ["counts", [[["group", 1], ["conflicts", 1], ["corrections", 1]], [["group", 3], ["conflicts", 1], ["corrections", 1]],
                         [["group", 2], ["conflicts", 1], ["corrections", 0]]]],
             ["conflicts", [[3], [1, 2]]], ["corrections", [[1, 3]]]])
 
@@ -249,9 +248,10 @@ class Program(unittest.TestCase):
         self.assertTrue(run("--html", LAPTOP, LAPTOP_REPORT)[1].startswith("<!DOCTYPE html>\n"))
         self.assertTrue(run("--json", LAPTOP, LAPTOP_REPORT)[1].startswith('{\n"version": 1,\n'))
 
-    @unittest.skipUnless(importlib.util.find_spec("why"), "tools/why.py, which finds reasons, is not there")
     def test_reasons_are_those_that_the_evidence_shows(self):
         first = os.path.join(EXAMPLES, "first")
+        self.assertIn("1.    x holds\n          clause 1: 1\n      x does not hold\n          clause 2: not 1\n",
+                      run(first + ".gcnf", first + ".report", "--evidence", first + ".evidence")[1])
         status, made, said = run(first + ".gcnf", first + ".report", "--html", "--why", first + ".evidence")
         self.assertEqual((status, said), (0, ""))
         data = json.loads(made.partition('id="data">')[2].partition("</script>")[0])
@@ -326,7 +326,8 @@ class Program(unittest.TestCase):
                 ([LAPTOP, "--first=-1"], 2, "names.py: --first -1: a number has to stand here\n"),
                 ([LAPTOP, "--first=3", "--json"], 2, "names.py: --first is for the text: --json has the whole report\n"),
                 ([LAPTOP, "--html", "--json"], 2, "names.py: --json and --html don't go together\n"),
-                ([LAPTOP, "--why", "e"], 2, "names.py: --why is for the page: --html has to stand beside it\n"),
+                ([LAPTOP, "--evidence"], 2, "names.py: --evidence has nothing behind it\n"),
+                ([LAPTOP, LAPTOP_REPORT, "--evidence", LAPTOP_REPORT], 1, f"names.py: {LAPTOP_REPORT}: line 1: this is no evidence of gmus"),
         ):
             ended, output, said = run(*words)
             self.assertEqual((ended, output), (status, ""), words)

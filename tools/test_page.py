@@ -115,6 +115,17 @@ class Text(unittest.TestCase):
             self.assertNotIn("<script", made)
 
 
+class Left:
+    """What corrections leave, in the form of configurations.Configurations: variable 7 is n7."""
+
+    def __init__(self, found):
+        self.found, self.names = found, {each: f"n{each}" for each in range(1, 100)}
+
+    def of(self, groups):
+        found = self.found.get(tuple(groups))
+        return None if found is None else [self.names[each] for each in found]
+
+
 def weighed():
     """A report with weights and a rule that is kept: 1 weighs 5, 3 weighs 3, and 2 is kept."""
     return shown("p gmus 4\ns COMPLETE\nu 1 2 0\nu 3 4 0\nm 1 3 0\nm 1 4 0\nm 2 3 0\nm 2 4 0\ne 2 4\n",
@@ -142,16 +153,20 @@ class Choices(unittest.TestCase):
 
     def told(self, made, steps):
         """What is told after each of these steps, which are lines of script."""
+        seen = "[outcome().fitting.map(at => at + 1), verdict(outcome())[1], fitLine(outcome()), address()]"
+        return self.asked(made, [f"({step}, {seen})" for step in steps])
+
+    def asked(self, made, asked):
+        """The values of these, one after the other."""
         begin = ("const document = {getElementById: () => ({textContent: %s})}, location = {hash: ''}, history = {replaceState() {}};\n"
                  % json.dumps(json.dumps(page.data(made, [[] for _ in made.conflicts]))))
-        asked = "; ".join(f"{step}; told.push([outcome().fitting.map(at => at + 1), verdict(outcome())[1], fitLine(outcome()), address()])" for step in steps)
-        text = begin + page.part("page_choices.js") + f"\nconst told = []; {asked}; console.log(JSON.stringify(told));"
+        text = begin + page.part("page_choices.js") + f"\nconsole.log(JSON.stringify([{', '.join(asked)}]));"
         return json.loads(subprocess.run(["node", "-e", text], stdout=subprocess.PIPE, check=True).stdout)
 
     def test_what_is_kept_stays_so_and_the_lightest_comes_first(self):
         self.assertEqual(self.told(weighed(), ["readAddress()", "choose('give', 2, true)", "choose('keep', 2, false)", "choose('give', 4, true)",
                                                "choose('give', 1, true)", "startOver()", "choose('keep', 1, true)",
-                                               "location.hash = '#give=2,3'; readAddress()"]), [
+                                               "location.hash = '#give=2,3', readAddress()"]), [
             [[1, 2], "2 conflicts remain.", "2 corrections fit. The one of the least weight, 6, gives up 2 rules.", ""],
             [[1, 2], "2 conflicts remain.", "2 corrections fit. The one of the least weight, 6, gives up 2 rules.", ""],
             [[1, 2], "2 conflicts remain.", "2 corrections fit. The one of the least weight, 6, gives up 2 rules.", ""],
@@ -160,6 +175,13 @@ class Choices(unittest.TestCase):
             [[1, 2], "2 conflicts remain.", "2 corrections fit. The one of the least weight, 6, gives up 2 rules.", ""],
             [[], "All rules of conflict 1 are to be kept. One of them has to be given up.", "No correction fits.", "keep=1"],
             [[2, 1], "1 conflict remains.", "2 corrections fit. The one of the least weight, 5, gives up 1 rule more.", "give=3"]])
+
+    def test_what_a_correction_leaves_is_read_from_digits(self):
+        made = laptop()
+        made.left = Left({(1, 3, 5): [7], (1, 3, 6): [], (2, 3, 5): [1, 2, 4, 5, 7]})
+        asked = self.asked(made, ["data.corrections.map((_, at) => leftBy(at))"])
+        self.assertEqual(asked, [[["n7"], [], ["n1", "n2", "n4", "n5", "n7"], None, None, None]])
+        self.assertEqual(self.asked(laptop(), ["leftBy(0)"]), [None])
 
     def test_without_weights_the_smallest_comes_first(self):
         self.assertEqual(self.told(laptop(), ["readAddress()", "choose('keep', 3, true)"]), [
@@ -199,6 +221,7 @@ addEventListener("load", async () => {
             printed: all("#printed li").length, bold: all("b").length, texts: all("main th span").map(it => it.textContent),
             others: all("details .matrix tbody th").map(it => it.textContent),
             whole: all(".rule details").map(it => it.lastChild.textContent),
+            left: all("main .left").map(it => it.innerText),
         };
     };
     for (const [at, row] of rows.entries()) told.push(await tried(row, at));
@@ -217,6 +240,8 @@ class Browser(unittest.TestCase):
                 ("laptop", laptop(), {(1, 2): [(None, ["touch implies glossy"]), ("a touch screen", ["touch", "<b>"])]}),
                 ("partial", shown("p gmus 4\ns PARTIAL\nu 1 2 0\nm 1 3 0\ne 1 1\n"), None), ("hostile", hostile(), None),
                 ("many", shown(f"p gmus 1001\ns PARTIAL\n{many}e 1000 0\n"), None)):
+            if name == "laptop":
+                made.left = Left({(1, 3, 5): [7], (1, 3, 6): [], (2, 3, 5): list(range(1, 31))})
             cls.write(name + ".html", page.as_html(made, reasons))
         cls.write("broken.html", page.as_html(laptop()).replace("\nlayOut();\n", "\nnoSuchCall();\n"))
 
@@ -280,6 +305,9 @@ class Browser(unittest.TestCase):
             ({"src": "laptop.html", "clicks": [["summary", "Why"]]}, {
                 "reasons": ["always", "touch implies glossy", "a touch screen", "touch", "<b>"], "bold": 0}),
             ({"src": "laptop.html#give=3", "prints": True}, {"printed": 2 + 6}),
+            ({"src": "laptop.html", "clicks": [["summary", "Left"]]}, {"left": [
+                "Left, for example: n7", "Left, for example: nothing that has a name",
+                f"Left, for example: {', '.join(f'n{at}' for at in range(1, 21))} and 10 more\n{', '.join(f'n{at}' for at in range(1, 31))}"]}),
             ({"src": "partial.html", "clicks": []}, {
                 "verdict": "1 conflict remains. Others may exist.", "fit": "1 correction fits. The smallest gives up 2 rules."}),
             ({"src": "partial.html#give=1", "clicks": []}, {

@@ -103,7 +103,7 @@ class Roles(unittest.TestCase):
         self.assertEqual(run(LAPTOP, "--json", given=report)[1].count("\n"), 11)
         self.assertTrue(run(LAPTOP, "--html", given=report)[1].startswith("<!DOCTYPE html>"))
         self.assertEqual(run(LAPTOP, "--html", "--why", "e", given=report)[::2], (
-            1, "names.py: --why: a report of roles has no conflicts to open\n"))
+            1, "names.py: --evidence: a report of roles has no sets to tell of\n"))
         self.assertEqual(run(LAPTOP, "--fail-on-conflict", given=report.replace(b"some", b"none"))[::2], (
             1, "names.py: whether something clashes is not known: no rule is in a conflict, and the background may clash with itself\n"))
         self.assertEqual(run(LAPTOP, given=b"p roles 6\n" + report[10:-9])[0], 1)

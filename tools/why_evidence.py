@@ -1,13 +1,15 @@
-"""Finds the conflicts in evidence, and the clauses of the file on which the refutation of one rests.
+"""Finds the conflicts in evidence, and the clauses of the file on which the refutation of one rests; and the witnesses of
+corrections.
 
     from why_evidence import Evidence
     evidence = Evidence(open("laptop.evidence", "rb"), "laptop.evidence", problem)     raises telling.Refused
     evidence.conflicts          the sets of groups, in the report's order
     evidence.clauses_of(2)      the numbers of the clauses on which the third one rests
+    evidence.corrections()      where the record of each correction stands, by its groups
 
 No hint is trusted. The refutation is walked from its end: each step on which it rests is checked as docs/FORMATS.md says, by
 unit propagation along its hints. Of these hints those count that the propagation needed. What a refutation does not rest on
-is not looked at, and neither are witnesses, corrections and the closing part: `gmus check` checks all.
+is not looked at, and neither are the witnesses of conflicts and the closing part: `gmus check` checks all.
 """
 import array
 import bisect
@@ -26,6 +28,7 @@ class Evidence:
         self.file, self.source, self.problem = file, source, problem
         self.is_complete = False
         self.conflicts, self.places = [], []
+        self.behind = []         # of each correction, where its record stands, as a place and the number of a line
         self.find_records()
 
     def refuse(self, line, what):
@@ -47,6 +50,8 @@ class Evidence:
                 if groups in found:
                     self.refuse(number, "19 RepeatedSet: this conflict stood before")
                 found[groups] = at, number
+            elif first == b"m":
+                self.behind.append((at, number))
             at += len(line)
         if line not in (b"e complete\n", b"e partial\n"):
             self.refuse(max(1, number + line.endswith(b"\n")), "3 Truncated: the evidence has no end")
@@ -65,12 +70,12 @@ class Evidence:
             focus = "" if problem.focus is None else " with this focus"
             self.refuse(1, f"4 OtherProblem: this is no evidence about {problem.source}{focus}")
 
-    def numbers(self, number, line, greatest):
-        """The numbers of a set, which ascend."""
-        *groups, end = self.integers(number, line[2:])
-        if end != 0 or any(first >= second for first, second in zip([0, *groups], [*groups, greatest + 1])):
-            self.refuse(number, "2 BadNumber: this is no set of groups")
-        return tuple(groups)
+    def numbers(self, number, line, greatest, what="groups"):
+        """The numbers of a set, which ascend, behind the line's first word."""
+        *found, end = self.integers(number, line[2:])
+        if end != 0 or any(first >= second for first, second in zip([0, *found], [*found, greatest + 1])):
+            self.refuse(number, f"2 BadNumber: this is no set of {what}")
+        return tuple(found)
 
     def integers(self, number, text):
         """The numbers of a text, with a blank between each two."""
@@ -80,6 +85,30 @@ class Evidence:
             return list(map(int, text.split(b" ")))
         except ValueError:
             return self.refuse(number, "2 BadNumber: a number is due here")
+
+    # ---- what a correction leaves
+
+    def line_at(self, at):
+        self.file.seek(at)
+        return self.file.readline()
+
+    def corrections(self):
+        """Where the record of each correction stands, by its groups."""
+        found = {}
+        for at, number in self.behind:
+            groups = self.numbers(number, self.line_at(at), self.problem.groups)
+            if groups in found:
+                self.refuse(number, "19 RepeatedSet: this correction stood before")
+            found[groups] = at, number
+        return found
+
+    def witness(self, at, number):
+        """The variables that the witness makes true of the correction whose record stands there."""
+        self.line_at(at)
+        line = self.file.readline()
+        if not line.startswith(b"w 0 "):
+            self.refuse(number + 1, "1 BadLine: a line 'w 0 .. 0' is due here")
+        return self.numbers(number + 1, line[2:], self.problem.variables, "variables")
 
     # ---- what one refutation rests on
 
