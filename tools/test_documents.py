@@ -237,6 +237,28 @@ class Documents(unittest.TestCase):
         self.assertEqual([(name.partition(",")[0], crates.split(", ")) for name, crates in rows],
                          [(name, crates) for name, (_, crates) in zip(names, areas)])
 
+    def test_the_drawing_has_each_crate_and_its_arrows_are_of_the_list(self):
+        below = below_in(text_of("crates.txt"))
+        drawing = text_of("docs/ARCHITECTURE.md").partition("```text\n")[2].partition("```")[0]
+        self.assertEqual(set(below) - set(re.findall(r"\w+", drawing)), set())
+        arrows = re.findall(r"(\w+) ──▶ (?=(\w+))", drawing) + [it[::-1] for it in re.findall(r"(\w+) ◀── (?=(\w+))", drawing)]
+        self.assertGreater(len(arrows), 20)
+        for upper, lower in arrows:
+            self.assertIn(lower, below[upper], upper)
+        for name, _ in areas_in(text_of("crates.txt")):
+            self.assertRegex(drawing, f"(?m)(^ |  ){name[0].upper() + name[1:]}(  |$)")
+
+    def test_the_crates_above_the_store_are_told(self):
+        below = below_in(text_of("crates.txt"))
+        above = {"clause_store"}
+        while True:
+            more = {crate for crate, crates in below.items() if above & set(crates)} - above
+            if not more:
+                break
+            above |= more
+        told = re.search(r"Above `clause_store`, say, stand (.*?)\.\n", text_of("docs/ARCHITECTURE.md"))[1]
+        self.assertEqual(set(re.findall(r"`(\w+)`", told)), above - {"clause_store"})
+
     def test_no_chain_of_crates_is_longer_than_eight(self):
         below = below_in(text_of("crates.txt"))
 
