@@ -15,6 +15,23 @@ DOCUMENTS = ["README.md", "CONTRIBUTING.md", "CHANGELOG.md", "examples/README.md
     for name in sorted(os.listdir(os.path.join(TOP, folder))) if name.endswith(".md")]
 
 
+# The pages whose sentences are counted.
+HELD = ["README.md", "CONTRIBUTING.md"] + [f"docs/{name}.md" for name in (
+    "ARCHITECTURE", "DECISIONS", "FORMATS", "PROVED", "REPORTING", "TRIED", "TUTORIAL")]
+
+# Parts of them that are still written: their sentences are not counted yet.
+LATER = {"CONTRIBUTING.md": ("What the gate costs", "Wrong bodies")}
+
+
+def held_in(document):
+    """The text of a page whose sentences are counted."""
+    text = text_of(document)
+    for heading in LATER.get(document, ()):
+        before, mark, behind = text.partition(f"\n## {heading}\n")
+        text = before + (behind[behind.index("\n## "):] if mark else "")
+    return text
+
+
 def sections(text, mark):
     """The headings of a document with this mark, in order, each with what stands below it."""
     parts = re.split(rf"(?m)^{mark} (.*)$", text)
@@ -81,9 +98,10 @@ def read_in(cell):
 
 
 def prose_in(text):
-    """The paragraphs and items of a document, without headings, blocks of code and tables; code in a line is one word."""
+    """The paragraphs and items of a document, without headings, blocks of code, tables and lines of links; code in a line is
+    one word."""
     text = re.sub(r"(?ms)^```.*?^```$", "", text)
-    lines = [line for line in text.split("\n") if not re.match(r"#|\|", line)]
+    lines = [line for line in text.split("\n") if not re.match(r"#|\||.*\) · \[", line)]
     for paragraph in re.split(r"\n\s*\n|\n(?= *- | *\d+\. )", "\n".join(lines)):
         yield re.sub(r"\]\([^)]*\)", "]", re.sub(r"`[^`]*`", "CODE", " ".join(paragraph.split())))
 
@@ -155,12 +173,22 @@ class Documents(unittest.TestCase):
                 self.assertLessEqual(set(named), set(crates), f"{area}: {heading}")
 
     def test_the_first_page_is_short(self):
-        readme = text_of("README.md")
-        self.assertLessEqual(len([word for word in readme.split() if re.search(r"\w", word)]), 1700)
-        for document in ("README.md", "docs/TUTORIAL.md", "docs/REPORTING.md"):
-            for words in sentences_in(text_of(document)):
-                self.assertLessEqual(len(words), 40, " ".join(words))
-                self.assertLess([word.lower() for word in words].count("where"), 2, " ".join(words))
+        self.assertLessEqual(len([word for word in text_of("README.md").split() if re.search(r"\w", word)]), 1700)
+
+    def test_no_sentence_is_long(self):
+        for document in HELD:
+            found = [words for words in sentences_in(held_in(document)) if words]
+            for words in found:
+                self.assertLessEqual(len(words), 40, f"{document}: {' '.join(words)}")
+                told = [re.sub(r"\W", "", word).lower() for word in words]
+                self.assertLess(told.count("where"), 2, f"{document}: {' '.join(words)}")
+            self.assertLessEqual(sum(map(len, found)), 25 * len(found), document)
+
+    def test_no_word_stops_a_reader(self):
+        for document in HELD:
+            text = held_in(document).partition("\n**English.**")[0]
+            for word in ("want of memory", "wants? memory", "memory (?:is|was|may be) wanting", "dear(?:er|est)?"):
+                self.assertEqual(re.findall(rf"[^.|]*\b(?:{word})\b", text), [], document)
 
     def test_sentences_are_told_apart(self):
         for text, wanted in (
@@ -247,6 +275,22 @@ class Documents(unittest.TestCase):
             self.assertIn(lower, below[upper], upper)
         for name, _ in areas_in(text_of("crates.txt")):
             self.assertRegex(drawing, f"(?m)(^ |  ){name[0].upper() + name[1:]}(  |$)")
+
+    def test_crates_with_more_lines_than_a_new_one_may_have_are_named(self):
+        told = re.search(r"Of the program's crates, these are longer: (.*?)\. ", text_of("CONTRIBUTING.md"))[1]
+        longer = set()
+        for crate in below_in(text_of("crates.txt")):
+            sources = [os.path.join(folder, name) for folder, _, names in os.walk(os.path.join(TOP, "crates", crate, "src"))
+                       for name in names if name.endswith(".rt")]
+            if sum(text_of(os.path.relpath(source, TOP)).count("\n") for source in sources) > 1500:
+                longer.add(crate)
+        self.assertEqual(longer - set(re.findall(r"\w+", told)), set())
+
+    def test_files_of_crates_that_are_named_are_there(self):
+        for document in ("CONTRIBUTING.md", "docs/ARCHITECTURE.md", "docs/PROVED.md"):
+            for name in re.findall(r"`(\w+/(?:src|specs|data|must-fail)/[\w./]*)`", text_of(document)):
+                if "NAME" not in name:
+                    self.assertTrue(os.path.exists(os.path.join(TOP, "crates", name)), f"{document}: {name}")
 
     def test_the_crates_above_the_store_are_told(self):
         below = below_in(text_of("crates.txt"))
