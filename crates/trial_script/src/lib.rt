@@ -12,7 +12,7 @@
 //! = status 0                         what has to be printed there
 //! ```
 //!
-//! What has to be printed is passed over here, so that no player can copy it: `tools/trials.py` takes it from there for the
+//! What has to be printed is passed over here, so that no player can copy it: `dev/trials.py` takes it from there for the
 //! file `stdout` of the crate, with which the gate compares what was printed. A call that the player doesn't know is
 //! printed behind `? `, and so is one in which a word with a digit stands where a number is due and is none. In a text `\r`,
 //! `\t`, `\\` and `\x0b` stand for a CR, a tab, a backslash and the byte 11.

@@ -1,0 +1,1 @@
+"""What compares gmus with other programs."""

@@ -1,0 +1,1 @@
+"""What looks at the built program from outside."""

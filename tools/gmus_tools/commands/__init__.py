@@ -1,0 +1,1 @@
+"""The commands for users, each a module with the text that its --help tells."""

@@ -1,0 +1,1 @@
+"""Debian packages: their versions, and indices, packed or not."""

@@ -1,0 +1,35 @@
+"""Where the program is, and what it said."""
+import os
+import subprocess
+
+from gmus_tools.command import Refused
+
+TOP = os.path.dirname(os.path.dirname(os.path.dirname(os.path.abspath(__file__))))
+DONE, BUDGET_SPENT, LIMIT_REACHED = 0, 3, 4
+
+
+def command():
+    """The program: the one that the variable GMUS names, or `gmus` beside the folder of the tools."""
+    return os.environ.get("GMUS") or os.path.join(TOP, "gmus")
+
+
+def build():
+    """Has the program built where it is none that a variable names, and is not there yet; what is told of it is seen meanwhile."""
+    built = [os.path.join(TOP, *names) for names in (("bin", "gmus"), ("crates", "gmus", "out", "gmus"))]
+    if not os.environ.get("GMUS") and not any(map(os.path.exists, built)) and os.path.exists(command()):
+        subprocess.run([command(), "drill", "1", "1"], stdin=subprocess.DEVNULL, stdout=subprocess.DEVNULL, check=False)
+
+
+def line_in(told):
+    """The line that programs read in what was written to standard error, or None: a second one, for a person, may stand behind it."""
+    return next((line for line in reversed(told.split("\n")) if line.startswith("gmus: ")), None)
+
+
+def call(words, **how):
+    """Calls the program, and gives how it ended: its status, what it wrote to standard output, and to standard error."""
+    try:
+        ended = subprocess.run([command(), *words], stdin=subprocess.DEVNULL, stdout=subprocess.PIPE, stderr=subprocess.PIPE,
+                               check=False, **how)
+    except OSError as error:
+        raise Refused(f"the program can't be started: {command()}: {error.strerror}") from None
+    return ended.returncode, ended.stdout.decode("utf-8", "replace"), ended.stderr.decode("utf-8", "replace")

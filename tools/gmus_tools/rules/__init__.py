@@ -1,0 +1,1 @@
+"""The language of rules, and the clauses that they become."""

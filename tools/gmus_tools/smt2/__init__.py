@@ -1,0 +1,1 @@
+"""SMT-LIB 2: its text, and its terms as formulas."""

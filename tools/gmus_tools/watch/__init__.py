@@ -1,0 +1,1 @@
+"""A listing that is watched while it grows."""
