@@ -8,7 +8,7 @@ import subprocess
 import unittest
 
 import places  # noqa: F401
-from dev import man
+from dev import definitions, man
 from dev.crates import TOP, areas_in, below_in, text_of
 
 DOCUMENTS = ["README.md", "CONTRIBUTING.md", "CHANGELOG.md", "examples/README.md"] + [
@@ -189,7 +189,7 @@ class Documents(unittest.TestCase):
         for document in HELD:
             text = held_in(document).partition("\n**English.**")[0]
             for word in ("want of memory", "wants? memory", "memory (?:is|was|may be) wanting", "dear(?:er|est)?"):
-                self.assertEqual(re.findall(rf"[^.|]*\b(?:{word})\b", text), [], document)
+                self.assertEqual([text[at.start() - 40:at.end()] for at in re.finditer(rf"\b(?:{word})\b", text)], [], document)
 
     def test_sentences_are_told_apart(self):
         for text, wanted in (
@@ -226,6 +226,17 @@ class Documents(unittest.TestCase):
         self.assertIn("```text\n" + "\n".join(commands) + "\n```", text_of("docs/FORMATS.md"))
         passed_on = re.search(r"(?m)^    ([a-z |]+)\) ;;$", text_of("gmus"))[1]
         self.assertEqual(passed_on.split(" | "), [it.split()[1] for it in commands])
+
+    def test_the_definitions_are_the_ones_that_are_made(self):
+        self.assertEqual(definitions.lacking(), [])
+        self.assertEqual(definitions.page(), text_of("docs/DEFINITIONS.md"),
+                         "dev/definitions.py > docs/DEFINITIONS.md makes it anew")
+
+    def test_words_of_definitions_are_those_above_them(self):
+        text = "-- Head (source).\n-- More.\nuse A.{b}\n\n-- one\n-- and more\nabbrev pub A : B\nA = 1\n\nunfoldable pub c : B\n\n" \
+               "-- --\n\n-- three\npub record D (x : N) : Type where\n  -- no\n  pub e : N\n\npub data F : Type where\n"
+        self.assertEqual(definitions.definitions_in(text), ("Head (source). More.", [
+            ("A", "one and more"), ("c", ""), ("D", "three"), ("F", "")]))
 
     def test_the_man_page_is_the_one_that_is_made(self):
         self.assertEqual(man.page(), text_of("docs/gmus.1"), "dev/man.py > docs/gmus.1 makes it anew")
