@@ -1,12 +1,13 @@
 #!/bin/sh
-# Makes an archive of the program for others, and tries it in an empty folder, where there is neither this repository nor the
-# toolchain.
+# Makes an archive of the program for others, and a wheel of the Python package with the program in it. Tries both in an empty
+# folder, where there is neither this repository nor the toolchain.
 #
-#     dev/release.sh [FOLDER]     FOLDER is where the archive goes: out/ at the top of the repository, if none is named
+#     dev/release.sh [FOLDER]     FOLDER is where they go: out/ at the top of the repository, if none is named
 #
 # The program is crates/gmus/out/gmus, as `./gmus` builds it, or the one that the variable GMUS names; the version is the
 # first one of CHANGELOG.md. The archive has the program, the tools for users, the examples, the documents, the licences, the
-# toolchain's line, and a checksum for each file. What is left out of it is named below. Ends with 1 if something fails.
+# toolchain's line, what pip needs, and a checksum for each file. The wheel is made of the unpacked archive, by the first Python
+# that has pip, setuptools and wheel, and is left out if none has. It is installed without a network. What is left out of it is named below. Ends with 1 if something fails.
 top=$(CDPATH='' cd -- "$(dirname -- "$0")/.." && pwd) || exit 1
 program=${GMUS:-$top/crates/gmus/out/gmus}
 
@@ -53,7 +54,7 @@ made_of() {
 fill() { # the archive's folder
     mkdir "$1" "$1/bin" "$1/docs" "$1/bench" || return 1
     cp "$program" "$1/bin/gmus" && chmod 755 "$1/bin/gmus" || return 1
-    cp "$top/gmus" "$top/places.py" "$top/README.md" "$top/CHANGELOG.md" "$top/CONTRIBUTING.md" "$top"/LICENSE-* "$1" || return 1
+    cp "$top/gmus" "$top/places.py" "$top/pyproject.toml" "$top/setup.py" "$top/README.md" "$top/CHANGELOG.md" "$top/CONTRIBUTING.md" "$top"/LICENSE-* "$1" || return 1
     cp "$top"/docs/* "$1/docs" && cp -R "$top"/bench/*.md "$top/bench/measures" "$1/bench" || return 1
     cp -R "$top/examples" "$top/checks" "$top/oracles" "$top/tools" "$1" || return 1
     find "$1" -name __pycache__ -exec rm -rf {} + || return 1
@@ -91,6 +92,30 @@ try_archive() { # the archive
     echo "left out, since they need the repository: $OUR_TESTS"
 }
 
+# the first Python, if any, that makes wheels
+maker() {
+    for python in python3 /usr/bin/python3; do
+        "$python" -c 'import pip, setuptools, venv, wheel' 2>/dev/null && echo "$python" && return
+    done
+}
+
+# what the first page shows of a command over the laptop's rules
+first_page() {
+    sed -n '/^\$ tools\/clash.py examples\/laptop.rules --first 1$/,/^```$/p' "$top/README.md" | sed '1d;$d'
+}
+
+# Makes the wheel of the folder that was unpacked, and tries it in a virtual environment that has nothing else.
+try_wheel() {
+    "$python" -m pip wheel -q --no-build-isolation --no-deps --no-index -w "$room/wheel" "$room/empty/$name" >&2 || fails "the wheel can't be made"
+    "$python" -m venv "$room/venv" && "$room/venv/bin/pip" install -q --no-index "$room"/wheel/*.whl >&2 || fails "the wheel can't be installed"
+    cd "$room/empty" && cp "$top/examples/laptop.rules" . && first_page >"$room/page" && [ -s "$room/page" ] || fails "the first page has no example"
+    try "the wheel's gmus list" "$top/examples/first.report" "$room/venv/bin/gmus" list "$top/examples/first.gcnf"
+    try "the wheel's gmus --version" "$room/version" "$room/venv/bin/gmus" --version
+    try "the wheel's gmus-clash, by the first page" "$room/page" "$room/venv/bin/gmus-clash" laptop.rules --first 1
+    echo 5 >"$room/five"
+    try "the wheel's library" "$room/five" "$room/venv/bin/python" -c "import gmus_tools; print(len(gmus_tools.solve('laptop.rules').conflicts))"
+}
+
 case $#:$1 in
     *:--help) exec sed -n '/^#$/s/#//p;s/^# //p;/^top=/q' "$0" ;;
     *:-* | [2-9]*)
@@ -113,5 +138,15 @@ day=$(git -C "$top" log -1 --format=%ct)
 tar -C "$room" --sort=name --owner=0 --group=0 --numeric-owner --mtime="@$day" -cf - "$name" | gzip -n >"$room/archive" ||
     fails "the archive can't be written"
 try_archive "$room/archive"
+python=$(maker)
+if [ -n "$python" ]; then
+    try_wheel
+    wheel=$(basename "$room"/wheel/*.whl)
+    cp "$room/wheel/$wheel" "$target/$wheel" || fails "the wheel can't be written to $target"
+else
+    wheel=''
+    echo "left out: the wheel, since no Python here has pip, setuptools and wheel"
+fi
 cp "$room/archive" "$target/$name.tar.gz" || fails "the archive can't be written to $target"
-(cd "$target" && sha256sum "$name.tar.gz")
+# shellcheck disable=SC2086  # there may be no wheel
+(cd "$target" && sha256sum "$name.tar.gz" $wheel)

@@ -8,6 +8,7 @@ A tool that writes a text has `[-o FILE]` in its usage. The text goes to standar
 written beside it and takes its place, so what was refused leaves no file, and none that is half written.
 """
 import os
+import re
 import shlex
 import stat
 import sys
@@ -16,6 +17,9 @@ import unicodedata
 from gmus_tools.text_kinds import guessed_kind, known_kind
 
 DONE, REFUSED, WRONG_WORDS = 0, 1, 2
+# what a command is called beside this repository, and what it is called if the package was installed
+TOLD = re.compile(r"(?:\btools/)?\b(clash|gcnf|names|why|watch|smt2|deb|uvl|make_case|spread|check_evidence|check_lrat|journal)\.py\b")
+INSTALLED = re.compile(r"gmus-[a-z0-9-]+")
 
 
 class Refused(Exception):
@@ -64,12 +68,28 @@ class Output:
 OUTPUT = Output()
 
 
+def is_installed():
+    """Whether this process is a command of an installed package: these are `gmus-names` and the like."""
+    return INSTALLED.fullmatch(os.path.basename(sys.argv[0])) is not None
+
+
+def here(text):
+    """A text with commands under the names that they have here: if installed, tools/names.py and names.py are `gmus-names`."""
+    return TOLD.sub(lambda name: "gmus-" + name[1].replace("_", "-"), text) if is_installed() else text
+
+
+def beside(name):
+    """How the command of this name, as `names.py`, is called by a person who called this one."""
+    return os.path.join(os.path.dirname(sys.argv[0]), here(name))
+
+
 def run(tool, main, doc):
     """Ends the process as the tool's `main` does over the command line's words: by the status that it returns, or None.
 
     `doc` is what the tool does: its usage is the first lines in it that are set in, up to an empty one.
     """
     OUTPUT.__init__()
+    tool, doc = here(tool), here(doc)
     if sys.stderr is None:
         # What is told has no place to go, and would stand in the output otherwise.
         sys.stderr = open(os.devnull, "w", encoding="utf-8")

@@ -1,21 +1,27 @@
 """Where the program is, and what it said."""
 import os
+import signal
 import subprocess
+import sys
 
 from gmus_tools.command import Refused
 
-TOP = os.path.dirname(os.path.dirname(os.path.dirname(os.path.abspath(__file__))))
+PACKAGE = os.path.dirname(os.path.abspath(__file__))
+TOP = os.path.dirname(os.path.dirname(PACKAGE))
+# what an installed package has of a release: the launcher, the program and the version
+INSTALLED = os.path.join(PACKAGE, "installed", "gmus")
 DONE, BUDGET_SPENT, LIMIT_REACHED = 0, 3, 4
 
 
 def command():
-    """The program: the one that the variable GMUS names, or `gmus` beside the folder of the tools."""
-    return os.environ.get("GMUS") or os.path.join(TOP, "gmus")
+    """The program: the one that the variable GMUS names, or that of the installed package, or `gmus` beside the folder of the
+    tools."""
+    return os.environ.get("GMUS") or (INSTALLED if os.path.exists(INSTALLED) else os.path.join(TOP, "gmus"))
 
 
 def build():
     """Has the program built where it is none that a variable names, and is not there yet; what is told of it is seen meanwhile."""
-    built = [os.path.join(TOP, *names) for names in (("bin", "gmus"), ("crates", "gmus", "out", "gmus"))]
+    built = [INSTALLED, *(os.path.join(TOP, *names) for names in (("bin", "gmus"), ("crates", "gmus", "out", "gmus")))]
     if not os.environ.get("GMUS") and not any(map(os.path.exists, built)) and os.path.exists(command()):
         subprocess.run([command(), "drill", "1", "1"], stdin=subprocess.DEVNULL, stdout=subprocess.DEVNULL, check=False)
 
@@ -33,3 +39,15 @@ def call(words, **how):
     except OSError as error:
         raise Refused(f"the program can't be started: {command()}: {error.strerror}") from None
     return ended.returncode, ended.stdout.decode("utf-8", "replace"), ended.stderr.decode("utf-8", "replace")
+
+
+def as_command():
+    """Becomes the program, or the launcher in front of it: the command `gmus` of an installed package."""
+    for name in ("SIGPIPE", "SIGXFSZ"):
+        # Python ignores these, and what it becomes would too.
+        signal.signal(getattr(signal, name), signal.SIG_DFL)
+    try:
+        os.execv(command(), [command(), *sys.argv[1:]])
+    except OSError as error:
+        print(f"gmus: the program can't be started: {command()}: {error.strerror}", file=sys.stderr)
+        sys.exit(127)

@@ -24,7 +24,7 @@ import sys
 import tempfile
 
 from gmus_tools import library, limits, page, program
-from gmus_tools.command import DONE, OUTPUT, Refused, WrongWords, bytes_of, put, refuse_places, run, text_in, write_whole
+from gmus_tools.command import DONE, OUTPUT, Refused, WrongWords, bytes_of, here, put, refuse_places, run, text_in, write_whole
 from gmus_tools.commands import names
 from gmus_tools.report import Named, Origin, decoded, digest_of, read_problem
 from gmus_tools.rules import language
@@ -79,7 +79,7 @@ def problem_in(held, source, is_strict):
     made = language.read(text_in(held, source), source)
     notes = made.notes(is_strict)
     for note in notes:
-        print(f"clash.py: {note}", file=sys.stderr)
+        print(f"{here('clash.py')}: {note}", file=sys.stderr)
     if notes and is_strict:
         raise Refused(f"{source}: with --strict this is refused; names that are meant so are declared under [names]")
     file = made.gcnf().encode("utf-8", "replace")
@@ -102,7 +102,7 @@ def main(words):
         report, told = listed(folder, file, evidence, asked)
         shown = Named(report, origin)
         if not report.is_complete:
-            print(f"clash.py: {told}", file=sys.stderr)
+            print(f"{here('clash.py')}: {told}", file=sys.stderr)
         problem = Problem(io.BytesIO(file), source)
         with open(evidence, "rb") as opened:
             of_evidence = Evidence(opened, evidence, problem)

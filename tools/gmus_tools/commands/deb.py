@@ -16,7 +16,7 @@ standard input. docs/IMPORT.md says what is read, and what is refused.
 """
 import sys
 
-from gmus_tools.command import Refused, WrongWords, put, run, text_of
+from gmus_tools.command import Refused, WrongWords, here, put, run, text_of
 from gmus_tools.deb import index as deb_index
 from gmus_tools.deb.unpacked import text_of as index_of
 from gmus_tools.rules import text as rule_text
@@ -204,7 +204,7 @@ def main(words):
     indices, wishes = [(file, index_of(file)) for file in files[:-1]], (files[-1], text_of(files[-1]))
     made, told = rules_of(indices, wishes, native)
     for line in told:
-        print(f"deb.py: {line}", file=sys.stderr)
+        print(f"{here('deb.py')}: {line}", file=sys.stderr)
     put(made)
 
 

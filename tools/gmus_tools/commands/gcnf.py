@@ -54,7 +54,7 @@ def main(words):
     made = language.read(command.text_of(files[0]), files[0])
     notes = made.notes(is_strict)
     for note in notes:
-        print(f"gcnf.py: {note}", file=sys.stderr)
+        print(f"{command.here('gcnf.py')}: {note}", file=sys.stderr)
     if notes and is_strict:
         raise command.Refused(f"{files[0]}: with --strict this is refused; names that are meant so are declared under [names]")
     text = made.gcnf() if after is None else Old(command.text_of(after), after).longer(made)

@@ -32,7 +32,7 @@ import io
 import json
 
 from gmus_tools import page, roles_report
-from gmus_tools.command import DONE, REFUSED, Refused, WrongWords, bytes_of, is_for_a_person, put, run, told
+from gmus_tools.command import DONE, REFUSED, Refused, WrongWords, bytes_of, here, is_for_a_person, put, run, told
 from gmus_tools.commands import why
 from gmus_tools.configurations import Configurations
 from gmus_tools.focus import without_focus
@@ -213,7 +213,7 @@ def status_of(tool, report):
     """The status where a clash has to fail; what was written stays."""
     clashes = report.has_clash()
     if clashes is None:
-        return told(f"{tool}: whether something clashes is not known: {report.UNCLEAR}", REFUSED)
+        return told(f"{here(tool)}: whether something clashes is not known: {report.UNCLEAR}", REFUSED)
     return CLASH if clashes else DONE
 
 

@@ -35,7 +35,7 @@ import signal
 import sys
 
 from gmus_tools import program
-from gmus_tools.command import DONE, run
+from gmus_tools.command import DONE, beside, run
 from gmus_tools.report import number_of, origin_of
 from gmus_tools.spreading import mpi as spread_mpi
 from gmus_tools.spreading.run import run as run_all
@@ -68,7 +68,7 @@ def tell_end(asked, ended):
     if os.path.exists(asked.evidence) and ended.report is not None:
         counts = ended.report.rstrip("\n").rpartition("\n")[2].split()[1:]
         see = [shlex.join([program.command(), "check", asked.file, asked.evidence]),
-               shlex.join([os.path.join(os.path.dirname(sys.argv[0]), "names.py"), asked.file])]
+               shlex.join([beside("names.py"), asked.file])]
         print(f"{asked.evidence} has {number_of(sum(map(int, counts)), 'set', 'sets')}. To read them: {' | '.join(see)}")
     if ended.status == program.LIMIT_REACHED:
         print(f"To go on: {asked.again(sets=min(2 * asked.sets, MOST))}")

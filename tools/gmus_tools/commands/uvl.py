@@ -16,7 +16,7 @@ import re
 import sys
 
 from gmus_tools import formulas
-from gmus_tools.command import Refused, WrongWords, put, run, text_of
+from gmus_tools.command import Refused, WrongWords, here, put, run, text_of
 from gmus_tools.rules import text as rule_text
 from gmus_tools.uvl.constraint import Wishes
 from gmus_tools.uvl.model import Model
@@ -129,7 +129,7 @@ def main(words):
     wishes = (files[1], text_of(files[1])) if files[1:] else None
     made, told = rules_of(files[0], text_of(files[0]), wishes, "--skip" in words)
     for line in told:
-        print(f"uvl.py: {line}", file=sys.stderr)
+        print(f"{here('uvl.py')}: {line}", file=sys.stderr)
     put(made)
 
 

@@ -39,7 +39,7 @@ import threading
 import time
 
 from gmus_tools import page, program
-from gmus_tools.command import Refused, bytes_of, remove, run, write_whole
+from gmus_tools.command import Refused, beside, bytes_of, here, remove, run, write_whole
 from gmus_tools.report import decoded, named, number_of, origin_of
 from gmus_tools.watch.journal import JournalWatch
 from gmus_tools.watch.words import MOST, Words
@@ -222,14 +222,14 @@ class Watch:
         elif said:
             tell(said)
         elif status > BY_SIGNAL:
-            tell(f"watch.py: the program was ended by signal {status - BY_SIGNAL}")
+            tell(f"{here('watch.py')}: the program was ended by signal {status - BY_SIGNAL}")
         if status == EVIDENCE_REFUSED:
-            tell(f"watch.py: {asked.evidence} was refused, and is left as it is. Another can be named: -- --evidence NAME")
+            tell(f"{here('watch.py')}: {asked.evidence} was refused, and is left as it is. Another can be named: -- --evidence NAME")
             return status
         if os.path.exists(asked.evidence):
             focus = ["--focus", asked.options["--focus"]] if "--focus" in asked.options else []
             see = [shlex.join([program.command(), "check", asked.file, asked.evidence, *focus]),
-                   shlex.join([os.path.join(os.path.dirname(sys.argv[0]), "names.py"), asked.file, *focus])]
+                   shlex.join([beside("names.py"), asked.file, *focus])]
             print(f"{asked.evidence} has {number_of(len(self.known), 'set', 'sets')}. To read them: {' | '.join(see)}")
         go_on = self.going_on(status)
         if go_on:

@@ -9,7 +9,7 @@ import signal
 import time
 
 from gmus_tools import program
-from gmus_tools.command import Refused, write_whole
+from gmus_tools.command import Refused, here, write_whole
 from gmus_tools.leash import BY_SIGNAL
 from gmus_tools.spreading.batch import Known, batch_of
 from gmus_tools.spreading.dask import Dask
@@ -77,7 +77,7 @@ def run(asked, interrupts=None, show_of=None, engine_of=None):
     except Ended as ended:
         return ended
     except OSError as error:
-        return Ended(WRITE_FAULT, f"spread.py: {error.filename or asked.evidence}: {error.strerror or error}")
+        return Ended(WRITE_FAULT, f"{here('spread.py')}: {error.filename or asked.evidence}: {error.strerror or error}")
     finally:
         coordinator.close()
 
@@ -189,7 +189,7 @@ class Coordinator:
             self.own.is_judged = False
             self.judge.ask(OWN, batch_of(self.found.sizes, texts, Known(self.found.texts)))
         if self.own.failures >= FAILURES:
-            raise Ended(self.own.failed, f"spread.py: its own run fails: {self.own.said}")
+            raise Ended(self.own.failed, f"{here('spread.py')}: its own run fails: {self.own.said}")
         if status is not None and self.own.failures:
             self.show.tell(f"its own run: {self.own.said}", self.own.said)
         is_fruitless = self.tasks.is_fruitless()
@@ -216,7 +216,7 @@ class Coordinator:
             if self.asked.report is not None or not self.interrupts.count:
                 ended.report = self.ask("check", self.asked.file, self.asked.evidence)
         if ended.status == program.LIMIT_REACHED:
-            ended.line = f"spread.py: {len(self.found)} sets are there, and {self.asked.sets} were wanted"
+            ended.line = f"{here('spread.py')}: {len(self.found)} sets are there, and {self.asked.sets} were wanted"
         if ended.report is not None:
             self.show.end(ended.report)
             if self.asked.report is not None:

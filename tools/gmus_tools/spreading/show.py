@@ -3,7 +3,7 @@ import sys
 import time
 
 from gmus_tools import page
-from gmus_tools.command import write_whole
+from gmus_tools.command import here, write_whole
 from gmus_tools.report import named, number_of
 
 PAUSE = 5.0
@@ -26,7 +26,7 @@ class Show:
         """Tells of a failure, if one of its kind was not told just now."""
         now = time.monotonic()
         if kind is None or now >= self.told.get(kind, 0.0):
-            print(f"spread.py: {line}", file=sys.stderr, flush=True)
+            print(f"{here('spread.py')}: {line}", file=sys.stderr, flush=True)
             if len(self.told) > 1000:
                 self.told.clear()
             self.told[kind] = now + QUIET
