@@ -24,9 +24,10 @@ DONE, BUDGET_SPENT, LIMIT_REACHED = program.DONE, program.BUDGET_SPENT, program.
 
 
 class GmusError(Exception):
-    """Why there is no result: its text is the line of the program on standard error, `reason` says in words why that comes, and
-    `status` is the status of the program; both are None if it was not called."""
-    status = reason = None
+    """Why there is no result: its text is the line of the program on standard error, with `detail` behind it if there is one: the
+    program's second line, which says which file or word it is and why. `reason` says in words why that comes, and `status` is the
+    status of the program. Each is None if the program was not called, or did not tell."""
+    status = reason = detail = None
 
 
 class BadArgument(GmusError, TypeError):
@@ -241,7 +242,8 @@ def spread(file, evidence, processes=None, dask=None, mpi=False, seconds=None, s
         except command.Refused as why:
             raise SpreadRefused(str(why)) from None
         if ended.status not in (DONE, LIMIT_REACHED):
-            raise error_of(ended.status, (program.line_in(ended.line) or ended.line).removeprefix("gmus: "))
+            line, detail = program.told_in(ended.line)
+            raise error_of(ended.status, line or ended.line, detail)
         return result_of(name, read_report(ended.report), ended.line)
 
 
@@ -347,9 +349,7 @@ def bytes_in(name, on="journal"):
 
 def fault(kind, on, error):
     """The exception for what the system answered, as if the program had told it."""
-    raised = kind(f"{'read' if kind is ReadFault else 'write'} fault on {on}: {error.filename}: {error.strerror}")
-    raised.on, raised.reason = on, reason_of(kind.status)
-    return raised
+    return error_of(kind.status, f"{'read' if kind is ReadFault else 'write'} fault on {on}", f"{error.filename}: {error.strerror}")
 
 
 def read_rules(rules, weights=None, keep=None):
@@ -520,9 +520,10 @@ def called(words, seconds=None):
     if ended is None:
         return None
     status, report, told = ended
-    line = next((it[len("gmus: "):] for it in reversed(told.split("\n")) if it.startswith("gmus: ")), told.strip())
+    line, detail = program.told_in(told)
+    line = told.strip() if line is None else line
     if status not in (DONE, BUDGET_SPENT, LIMIT_REACHED):
-        raise error_of(status, line)
+        raise error_of(status, line, detail)
     return report, line
 
 
@@ -539,11 +540,12 @@ def read_report(text):
         raise ProgramFailed(f"the report can't be read: {why}") from None
 
 
-def error_of(status, line):
-    """The exception for a status and the line on standard error, with what the line says as attributes."""
+def error_of(status, line, detail=None):
+    """The exception for a status and the line on standard error, with what the line says as attributes; `detail` is the second
+    line, if there is one."""
     kind = CLASSES.get(status, ProgramFailed)
-    error = kind(line or f"the program ended with {status}")
-    error.status = status
+    error = kind(": ".join(filter(None, (line or f"the program ended with {status}", detail))))
+    error.status, error.detail = status, detail
     found = kind.FORM.match(line) if hasattr(kind, "FORM") else None
     for name, value in (found.groupdict() if found else {}).items():
         setattr(error, name, int(value) if value and value.isdigit() else value)

@@ -31,6 +31,15 @@ def line_in(told):
     return next((line for line in reversed(told.split("\n")) if line.startswith("gmus: ")), None)
 
 
+def told_in(told):
+    """What that line says, and the second one, which says to a person which file or word it is and why; each may be None."""
+    line = line_in(told)
+    if line is None:
+        return None, None
+    behind = told[told.rindex(line) + len(line):].split("\n")[1:2]
+    return line[len("gmus: "):], behind[0].strip() if behind and behind[0].startswith("  ") else None
+
+
 def call(words, **how):
     """Calls the program, and gives how it ended: its status, what it wrote to standard output, and to standard error."""
     try:

@@ -124,7 +124,11 @@ clash.py: -: line 2: 'y' can't come here: a name with a blank in it stands in qu
     def test_how_the_program_ends_is_told_with_its_reason(self):
         for status, line, wanted in (
                 (5, "input refused: 5 GroupTooBig at line 2 byte 2", "input refused: 5 GroupTooBig at line 2 byte 2: a group is above the header's"),
-                (8, "out of memory", "out of memory: there is not enough memory"), (77, "it fell", "it fell")):
+                (8, "out of memory", "out of memory: there is not enough memory"), (77, "it fell", "it fell"),
+                # what the second line says stands for the reason
+                (6, "read fault on input\n  f: Permission denied (os error 13)", "read fault on input: f: Permission denied (os error 13)"),
+                (7, "write fault on evidence\n  e: No space left on device (os error 28)",
+                 "write fault on evidence: e: No space left on device (os error 28)")):
             self.write("ended", f"gmus: {line}\n")
             self.write("status", str(status))
             self.assertEqual(self.clash("first.gcnf", "--html", "page", "-o", "text"), (1, "", f"clash.py: gmus: {wanted}\n"))

@@ -371,10 +371,11 @@ exit 3
                 self.assertEqual(self.read("e").decode(), evidence)
             self.assertEqual((os.path.exists(self.at("r")), os.listdir(self.at("tasks"))), (False, []))
 
-    def test_the_library_raises_the_line_that_programs_read(self):
+    def test_the_library_raises_the_line_that_programs_read_and_what_stands_behind_it(self):
         with self.assertRaises(gmus_tools.ReadFault) as raised:
             gmus_tools.spread(self.at("no"), self.at("e"))
-        self.assertEqual((str(raised.exception), raised.exception.on), ("read fault on input", "input"))
+        detail = f"{self.at('no')}: No such file or directory"
+        self.assertEqual((str(raised.exception), raised.exception.on, raised.exception.detail), ("read fault on input: " + detail, "input", detail))
         with self.assertRaises(gmus_tools.SpreadRefused) as raised:
             gmus_tools.spread(self.at("f"), self.at("f"))
         self.assertIn("two of these are one file", str(raised.exception))

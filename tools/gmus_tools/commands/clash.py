@@ -125,7 +125,8 @@ def listed(folder, file, evidence, asked):
         found = library.listed(folder, name, range(1, (groups or 0) + 1), asked.seconds, jobs=asked.jobs, limit=None, conflicts=None,
                                   evidence=evidence, resume=None, journal=None, focus=None)
     except library.GmusError as error:
-        raise Refused(f"gmus: {error}" + (f": {error.reason}" if error.reason else "")) from None
+        why = error.reason if error.detail is None else None      # the detail says more, and stands in the error's text
+        raise Refused(f"gmus: {error}" + (f": {why}" if why else "")) from None
     return found
 
 
