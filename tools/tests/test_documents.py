@@ -17,8 +17,8 @@ DOCUMENTS = ["README.md", "CONTRIBUTING.md", "CHANGELOG.md", "examples/README.md
 
 
 # The pages whose sentences are counted.
-HELD = ["README.md", "CONTRIBUTING.md"] + [f"docs/{name}.md" for name in (
-    "ARCHITECTURE", "DECISIONS", "FORMATS", "PROVED", "REPORTING", "TRIED", "TUTORIAL")]
+HELD = ["README.md", "CONTRIBUTING.md", "CHANGELOG.md", "bench/README.md", "examples/README.md"] + [f"docs/{name}.md" for name in (
+    "ARCHITECTURE", "DECISIONS", "FORMATS", "IMPORT", "LIBRARY", "PROVED", "REPORTING", "RULES", "TRIED", "TUTORIAL")]
 
 # Parts of them that are still written: their sentences are not counted yet.
 LATER = {"CONTRIBUTING.md": ("What the gate costs", "Wrong bodies")}
