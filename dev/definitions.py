@@ -23,7 +23,7 @@ A definition is public if a contract cites it that another crate can call, or an
 """
 # What the program calls over the system, which no crate stands on.
 TOP_CALLS = {"gmus": {"run_on_system"}}
-DEFINED = re.compile(r"(?:(?:abbrev|unfoldable|opaque) )?pub (?:(?:record|data) )?([^\s:({]+)(?= *[:({])")
+DEFINED = re.compile(r"(?:(?:abbrev|unfoldable|opaque) pub|pub (?:record|data)) ([^\s:({]+)(?= *[:({])")
 
 
 def exported(crate):
@@ -64,7 +64,7 @@ def words_given():
 
 def comments_of(lines):
     """The text of lines of comment, without lines that only part a file."""
-    return " ".join(" ".join(line[2:].strip() for line in lines if not line.startswith("---")).split())
+    return " ".join(" ".join(line[2:].strip() for line in lines if not re.match(r"-- ?--", line)).split())
 
 
 def definitions_in(text):
@@ -75,7 +75,7 @@ def definitions_in(text):
     for at, line in enumerate(lines[begun:], begun):
         if line.startswith("--"):
             above = above + [line] if lines[at - 1].startswith("--") else [line]
-        elif line and not line.startswith((" ", "pub mod ")):
+        else:
             defined = DEFINED.match(line)
             if defined:
                 found.append((defined[1], comments_of(above)))

@@ -234,9 +234,17 @@ class Documents(unittest.TestCase):
 
     def test_words_of_definitions_are_those_above_them(self):
         text = "-- Head (source).\n-- More.\nuse A.{b}\n\n-- one\n-- and more\nabbrev pub A : B\nA = 1\n\nunfoldable pub c : B\n\n" \
-               "-- --\n\n-- three\npub record D (x : N) : Type where\n  -- no\n  pub e : N\n\npub data F : Type where\n"
+               "-- ---- part\n\npub lemma : c\n\n-- ---- part\n-- three\npub record D (x : N) : Type where\n  -- no\n  pub e : N\n\n" \
+               "-- no\n\npub data F : Type where\n"
         self.assertEqual(definitions.definitions_in(text), ("Head (source). More.", [
             ("A", "one and more"), ("c", ""), ("D", "three"), ("F", "")]))
+
+    def test_each_part_of_a_version_stands_once(self):
+        for version, below in sections(text_of("CHANGELOG.md"), "##"):
+            parts = [name for name, _ in sections(below, "###")]
+            self.assertEqual(len(parts), len(set(parts)), version)
+            if version == "Next":
+                self.assertEqual(parts, ["New", "Different", "Quicker, and in less memory", "For whoever changes it"])
 
     def test_the_man_page_is_the_one_that_is_made(self):
         self.assertEqual(man.page(), text_of("docs/gmus.1"), "dev/man.py > docs/gmus.1 makes it anew")
