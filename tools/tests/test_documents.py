@@ -24,6 +24,21 @@ HELD = ["README.md", "CONTRIBUTING.md", "CHANGELOG.md", "bench/README.md", "exam
 LATER = {"CONTRIBUTING.md": ("What the gate costs", "Wrong bodies")}
 
 
+# Where one looks first for an answer, and the words that give it.
+ANSWERS = {
+    "what does 0 mean for my file": ("README.md", "Suppose that `gmus list FILE` ends with 0"),
+    "may two runs have one journal": ("README.md", "or that another run has open, is refused"),
+    "what do I do after 7": ("README.md", "use none; see the second line, run again"),
+    "which numbers does --focus take": ("README.md", "numbers from 1 to 4294967295 with commas between them"),
+    "how do I add a command": ("CONTRIBUTING.md", "From its words to its page, in this order."),
+    "which crates does a change of the store cost": ("docs/ARCHITECTURE.md", "Above `clause_store`, say, stand"),
+    "what was tried for the map": ("docs/TRIED.md", "For the map these were tried: "),
+    "where is the map's order decided": ("docs/ARCHITECTURE.md", "`choice` in `cdcl_core/src/decisions.rt`"),
+    "what is trusted": ("README.md", "- Trusted: "),
+    "how do I check evidence without gmus": ("README.md", "checks evidence without `gmus`"),
+}
+
+
 def held_in(document):
     """The text of a page whose sentences are counted."""
     text = text_of(document)
@@ -175,6 +190,10 @@ class Documents(unittest.TestCase):
 
     def test_the_first_page_is_short(self):
         self.assertLessEqual(len([word for word in text_of("README.md").split() if re.search(r"\w", word)]), 1700)
+
+    def test_what_is_asked_first_is_answered_where_one_looks_first(self):
+        for question, (document, words) in ANSWERS.items():
+            self.assertIn(words, " ".join(text_of(document).split()), f"{document}: {question}?")
 
     def test_no_sentence_is_long(self):
         for document in HELD:
