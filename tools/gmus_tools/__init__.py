@@ -35,12 +35,12 @@ __all__ = [  # noqa: F822
     "WriteFault", "carry", "check", "export", "gcnf", "list_gcnf", "read_journal", "roles", "solve", "spread", "written"]
 
 
-def __getattr__(name):
+def __getattr__(name: str):
     """What the library has. It is loaded once it is asked for, since commands, which need less, begin sooner so."""
     if name not in __all__:
         raise AttributeError(f"module {__name__!r} has no attribute {name!r}")
     return getattr(import_module("gmus_tools.library"), name)
 
 
-def __dir__():
+def __dir__() -> "list[str]":
     return sorted([*globals(), *__all__])

@@ -1,4 +1,6 @@
 """What `import gmus_tools` gives: rules in, and the minimal conflicts and corrections out, as Python lists and sets."""
+from __future__ import annotations
+
 import collections
 import collections.abc
 import os
@@ -14,6 +16,16 @@ from gmus_tools.rules.after import Old
 from gmus_tools.spreading import run as spread_run, words as spread_words
 from gmus_tools.why.problem import Problem
 
+# what a checker of types takes for true
+TYPE_CHECKING = False
+if TYPE_CHECKING:
+    from typing import Dict, Iterable, List, Mapping, Optional, Set, Tuple, Union
+
+    Name = Union[str, os.PathLike[str]]                         # of a file
+    Given = Union[str, bytes, bytearray, os.PathLike[str]]      # a text, or the name of a file that has it
+    Rules = Union[Given, Mapping[str, Union[str, Iterable[str]]]]
+    Focus = Iterable[Union[str, int]]                           # rules by their names or numbers
+
 __all__ = ["BadArgument", "BadWords", "EvidenceRefused", "GmusError", "InputRefused", "JournalRefused", "NoConflict", "NotAnExtension",
            "OutOfMemory", "ProgramFailed", "ProgramNotBuilt", "ReadFault", "Result", "Roles", "RulesRefused", "SpreadRefused", "WriteFault",
            "carry", "check", "export", "gcnf", "list_gcnf", "read_journal", "roles", "solve", "spread", "written"]
@@ -27,7 +39,9 @@ class GmusError(Exception):
     """Why there is no result: its text is the line of the program on standard error, with `detail` behind it if there is one: the
     program's second line, which says which file or word it is and why. `reason` says in words why that comes, and `status` is the
     status of the program. Each is None if the program was not called, or did not tell."""
-    status = reason = detail = None
+    status: Optional[int] = None
+    reason: Optional[str] = None
+    detail: Optional[str] = None
 
 
 class BadArgument(GmusError, TypeError):
@@ -49,11 +63,15 @@ class BadWords(GmusError):
 
 class InputRefused(GmusError):
     """The GCNF file is not an accepted one: the number and the name of its first offence, the limit that it breaks if it does
-    that, and its line and byte."""
+    that, and its line and the byte in the line, each from 1."""
     status = 5
     FORM = re.compile(r"input refused: (?P<number>\d+) (?P<name>\w+)(?: (?P<limit>\w+))? "
                       r"at line (?P<line>\d+) byte (?P<byte>\d+)")
-    number = name = limit = line = byte = None
+    number: Optional[int] = None
+    name: Optional[str] = None
+    limit: Optional[str] = None
+    line: Optional[int] = None
+    byte: Optional[int] = None
 
 
 class ReadFault(GmusError):
@@ -71,35 +89,38 @@ class WriteFault(GmusError):
 
 
 class OutOfMemory(GmusError):
+    """The program got too little memory."""
     status = 8
 
 
 class EvidenceRefused(GmusError):
-    """The evidence is refused: its line, and the number and the name of the refusal."""
+    """The evidence is refused: its line, from 1, and the number and the name of the refusal."""
     status = 9
     FORM = re.compile(r"evidence refused: line (?P<line>\d+): (?P<number>\d+) (?P<name>\w+)")
-    line = number = name = None
+    line: Optional[int] = None
+    number: Optional[int] = None
+    name: Optional[str] = None
 
 
 class JournalRefused(GmusError):
-    """The journal has something that is refused: `byte` is the place of the gate, from 0."""
+    """The journal has something that is refused: `byte` is the place of the gate, in bytes from 0."""
     status = 10
     FORM = re.compile(r"journal refused at byte (?P<byte>\d+)")
-    byte = None
+    byte: Optional[int] = None
 
 
 class NoConflict(GmusError):
     """The evidence shows fewer conflicts than the `number` that was asked for."""
     status = 11
     FORM = re.compile(r"no conflict (?P<number>\d+)")
-    number = None
+    number: Optional[int] = None
 
 
 class NotAnExtension(GmusError):
     """The new file does not extend the old one: `clause` is the place of the first clause that differs, from 1, or 0."""
     status = 12
     FORM = re.compile(r"not an extension: clause (?P<clause>\d+)")
-    clause = None
+    clause: Optional[int] = None
 
 
 class ProgramNotBuilt(GmusError):
@@ -130,32 +151,32 @@ class Result:
     rules in focus. `weights` has the weight of each name, and `kept` the names of rules that are never given up.
     """
 
-    def __init__(self, report, names, why, notes=(), weights=(), kept=()):
-        self.names = names
-        self.weights = {name: dict(weights).get(number, 1) for number, name in enumerate(names, 1)}
-        self.kept = {names[group - 1] for group in kept if group <= len(names)}
-        self.numbers = {name: number for number, name in enumerate(names, 1)}
-        self.conflicts = [{names[group - 1] for group in members} for members in report.conflicts]
-        self.corrections = [{names[group - 1] for group in members} for members in report.corrections]
-        self.complete = report.is_complete
-        self.why = None if report.is_complete else why
-        self.notes = list(notes)
+    def __init__(self, report, names, why, notes=(), weights=(), kept=()) -> None:
+        self.names: List[str] = names
+        self.weights: Dict[str, int] = {name: dict(weights).get(number, 1) for number, name in enumerate(names, 1)}
+        self.kept: Set[str] = {names[group - 1] for group in kept if group <= len(names)}
+        self.numbers: Dict[str, int] = {name: number for number, name in enumerate(names, 1)}
+        self.conflicts: List[Set[str]] = [{names[group - 1] for group in members} for members in report.conflicts]
+        self.corrections: List[Set[str]] = [{names[group - 1] for group in members} for members in report.corrections]
+        self.complete: bool = report.is_complete
+        self.why: Optional[str] = None if report.is_complete else why
+        self.notes: List[str] = list(notes)
 
-    def clashes(self):
+    def clashes(self) -> Optional[bool]:
         """Whether something clashes; None if a partial report does not tell."""
         if self.conflicts or any(self.corrections):
             return True
         return False if self.corrections or self.complete else None
 
-    def weight(self, correction):
-        """What giving up these rules weighs."""
+    def weight(self, correction: Iterable[str]) -> int:
+        """What giving up these rules weighs: the sum of their weights. A name that no rule has is a KeyError."""
         return sum(self.weights[name] for name in correction)
 
-    def lightest(self):
+    def lightest(self) -> List[Set[str]]:
         """The corrections that give up no rule which is kept, by their weight; of equal weight those of few rules first."""
         return sorted((it for it in self.corrections if self.kept.isdisjoint(it)), key=lambda it: (self.weight(it), len(it)))
 
-    def __repr__(self):
+    def __repr__(self) -> str:
         kind = "complete" if self.complete else "partial"
         return f"<Result: {len(self.conflicts)} conflicts, {len(self.corrections)} corrections, {kind}>"
 
@@ -164,15 +185,19 @@ class Roles:
     """Which rules are in which conflicts, by the names of groups: `every`, `some` and `none` are lists of names, in their order.
     What a focus leaves out is in none of them."""
 
-    def __init__(self, found, names):
-        self.every, self.some, self.none = ([names[group - 1] for group in found.groups[role]] for role in ("every", "some", "none"))
+    def __init__(self, found, names) -> None:
+        self.every: List[str] = [names[group - 1] for group in found.groups["every"]]
+        self.some: List[str] = [names[group - 1] for group in found.groups["some"]]
+        self.none: List[str] = [names[group - 1] for group in found.groups["none"]]
 
-    def __repr__(self):
+    def __repr__(self) -> str:
         return f"<Roles: {len(self.every)} in every conflict, {len(self.some)} in some, {len(self.none)} in none>"
 
 
-def solve(rules, jobs=None, limit=None, conflicts=None, evidence=None, resume=None, journal=None, focus=None, timeout=None,
-          weights=None, keep=None):
+def solve(rules: Rules, jobs: Optional[int] = None, limit: Optional[int] = None, conflicts: Optional[int] = None,
+          evidence: Optional[Name] = None, resume: Optional[Name] = None, journal: Optional[Name] = None,
+          focus: Optional[Focus] = None, timeout: Optional[float] = None, weights: Optional[Mapping[str, int]] = None,
+          keep: Optional[Iterable[str]] = None) -> Result:
     """The result for rules: their text, the name of a file that has it, or a mapping from names to lines.
 
     `jobs` is how many workers share the search, `limit` how many sets may be recorded, `conflicts` how many clauses may be
@@ -180,7 +205,11 @@ def solve(rules, jobs=None, limit=None, conflicts=None, evidence=None, resume=No
     it is found and from which to go on. `focus` lists the rules that the question is about, by names or numbers; others are
     left out. After `timeout` seconds the program is ended, and what it found is a partial result; before that, what is resumed is
     checked, for which the time does not count. `weights` is a mapping from names to whole numbers, and `keep` a list of names of
-    rules that are never given up, beside those that the rules say. Raises a GmusError.
+    rules that are never given up, beside those that the rules say.
+
+    Raises RulesRefused if the rules can't be read, BadArgument and BadWords for what can't be given so, ReadFault, WriteFault,
+    EvidenceRefused for `resume`, JournalRefused for `journal`, InputRefused if the rules are above a limit, and OutOfMemory,
+    ProgramNotBuilt or ProgramFailed.
     """
     made, names = read_rules(rules, weights, keep)
     with tempfile.TemporaryDirectory(prefix="gmus-") as folder:
@@ -191,9 +220,13 @@ def solve(rules, jobs=None, limit=None, conflicts=None, evidence=None, resume=No
     return Result(report, names, why, made.notes(), weighed, [number for number, weight in enumerate(made.weights) if weight is None])
 
 
-def gcnf(rules, after=None, weights=None, keep=None):
+def gcnf(rules: Rules, after: Optional[Given] = None, weights: Optional[Mapping[str, int]] = None,
+         keep: Optional[Iterable[str]] = None) -> str:
     """The GCNF file of rules, as a text; they and their preferences are given as to `solve`. `after` is such a file of fewer rules,
-    by its name or as a text: what is made begins with all of it."""
+    by its name or as a text: what is made begins with all of it.
+
+    Raises RulesRefused if rules can't be read or are not those of `after` and more; BadArgument and BadWords as `solve` does.
+    """
     made, _ = read_rules(rules, weights, keep)
     if after is None:
         return made.gcnf()
@@ -203,8 +236,13 @@ def gcnf(rules, after=None, weights=None, keep=None):
         raise RulesRefused(str(why)) from None
 
 
-def list_gcnf(file, jobs=None, limit=None, conflicts=None, evidence=None, resume=None, journal=None, focus=None, timeout=None):
-    """The result for a GCNF file, by its name or as a text. The options are those of `solve`."""
+def list_gcnf(file: Given, jobs: Optional[int] = None, limit: Optional[int] = None, conflicts: Optional[int] = None,
+              evidence: Optional[Name] = None, resume: Optional[Name] = None, journal: Optional[Name] = None,
+              focus: Optional[Focus] = None, timeout: Optional[float] = None) -> Result:
+    """The result for a GCNF file, by its name or as a text. The options are those of `solve`; `timeout` is in seconds.
+
+    Raises what `solve` raises but RulesRefused; InputRefused if the file is not an accepted one, ReadFault if it can't be read.
+    """
     with tempfile.TemporaryDirectory(prefix="gmus-") as folder:
         name = file_of(folder, "problem.gcnf", file)
         names = names_if_readable(name)
@@ -213,8 +251,11 @@ def list_gcnf(file, jobs=None, limit=None, conflicts=None, evidence=None, resume
         return result_of(name, report, why)
 
 
-def check(file, evidence, focus=None):
-    """What evidence shows of a GCNF file. Both are names of files, or texts; `focus` is that of `solve`."""
+def check(file: Given, evidence: Given, focus: Optional[Focus] = None) -> Result:
+    """What evidence shows of a GCNF file. Both are names of files, or texts; `focus` is that of `solve`.
+
+    Raises EvidenceRefused, InputRefused, ReadFault, BadArgument, BadWords, OutOfMemory, ProgramNotBuilt or ProgramFailed.
+    """
     with tempfile.TemporaryDirectory(prefix="gmus-") as folder:
         name = file_of(folder, "problem.gcnf", file)
         words = options_of(names_if_readable(name), focus=focus)
@@ -222,19 +263,23 @@ def check(file, evidence, focus=None):
         return result_of(name, report, "the evidence is partial")
 
 
-def spread(file, evidence, processes=None, dask=None, mpi=False, seconds=None, sets=None, journal=None):
+def spread(file: Given, evidence: Name, processes: Optional[int] = None, dask: Optional[str] = None, mpi: bool = False,
+           seconds: Optional[int] = None, sets: Optional[int] = None, journal: Optional[Name] = None) -> Result:
     """The result for a GCNF file by many runs, of which none is believed, as tools/spread.py has it.
 
     `evidence` names the file that keeps what is found, and from which it goes on. The tasks run in `processes` of this machine,
     on the Dask cluster with the address `dask`, or in an MPI job. `seconds` is how long one may take, with `sets` it ends at so
     many, and `journal` is the folder for the files of tasks. An interrupt is raised once all is kept that was found.
+
+    Raises SpreadRefused if they can't be begun or gone on with, and what `list_gcnf` raises.
     """
     with tempfile.TemporaryDirectory(prefix="gmus-") as folder:
         name = file_of(folder, "problem.gcnf", file)
         want_text(evidence, "evidence")
         words = [name, "--evidence", os.path.abspath(os.fspath(evidence)), *(["--mpi"] if mpi else [])]
-        for option, value in (("processes", processes), ("dask", dask), ("round", seconds), ("sets", sets), ("journal", journal)):
-            words += [] if value is None else [f"--{option}", os.fspath(value) if option == "journal" else str(value)]
+        folder_of_tasks = None if journal is None else os.fspath(journal)
+        for option, value in (("processes", processes), ("dask", dask), ("round", seconds), ("sets", sets), ("journal", folder_of_tasks)):
+            words += [] if value is None else [f"--{option}", str(value)]
         try:
             ended = spread_run.run(spread_words.Words(words))
         except command.WrongWords as why:
@@ -247,8 +292,11 @@ def spread(file, evidence, processes=None, dask=None, mpi=False, seconds=None, s
         return result_of(name, read_report(ended.report), ended.line)
 
 
-def roles(file, jobs=None, focus=None):
-    """Which rules of a GCNF file are in every conflict, in some, or in none; it is given as to `list_gcnf`."""
+def roles(file: Given, jobs: Optional[int] = None, focus: Optional[Focus] = None) -> Roles:
+    """Which rules of a GCNF file are in every conflict, in some, or in none; it is given as to `list_gcnf`.
+
+    Raises InputRefused, ReadFault, BadArgument, BadWords, OutOfMemory, ProgramNotBuilt or ProgramFailed.
+    """
     with tempfile.TemporaryDirectory(prefix="gmus-") as folder:
         name = file_of(folder, "problem.gcnf", file)
         names = names_if_readable(name)
@@ -260,29 +308,38 @@ def roles(file, jobs=None, focus=None):
             raise ProgramFailed(f"the report can't be read: {why}") from None
 
 
-def carry(old, evidence, new, jobs=None, new_evidence=None):
+def carry(old: Given, evidence: Given, new: Given, jobs: Optional[int] = None, new_evidence: Optional[Name] = None) -> Result:
     """The result for the GCNF file `new`, which is `old` with more at its end, from evidence about `old`. Each is a name or a text;
-    `new_evidence` names a file to write evidence about `new` to."""
+    `new_evidence` names a file to write evidence about `new` to.
+
+    Raises NotAnExtension if `new` is something else, and what `check` raises; WriteFault for `new_evidence`.
+    """
     with tempfile.TemporaryDirectory(prefix="gmus-") as folder:
         names = [file_of(folder, kind, given) for kind, given in (("old.gcnf", old), ("evidence", evidence), ("new.gcnf", new))]
         report, why = asked(["carry", *names, *options_of((), jobs=jobs, evidence=new_evidence)])
         return result_of(names[2], report, why)
 
 
-def export(file, evidence, number):
+def export(file: Given, evidence: Given, number: int) -> Tuple[str, str]:
     """The conflict of this number, from 1, in the order of the report: the clauses of its groups as a CNF, and a refutation of them
-    in LRAT. Both are texts, and so or by their names are `file` and `evidence` given."""
+    in LRAT. Both are texts, and so or by their names are `file` and `evidence` given.
+
+    Raises NoConflict if the evidence shows fewer, and what `check` raises.
+    """
     want_in_range("number", number)
     with tempfile.TemporaryDirectory(prefix="gmus-") as folder:
         names = [file_of(folder, kind, given) for kind, given in (("problem.gcnf", file), ("evidence", evidence))]
         made = [os.path.join(folder, name) for name in ("cnf", "lrat")]
         called(["export", *names, str(number), *made])
-        return tuple(command.text_of(name) for name in made)
+        return command.text_of(made[0]), command.text_of(made[1])
 
 
-def read_journal(file, journal):
+def read_journal(file: Given, journal: Name) -> Result:
     """What the journal of a run has, which keeps it now or kept it: a partial result. It is not checked; a run that goes on from it
-    does that."""
+    does that.
+
+    Raises ReadFault if a file can't be read, ProgramFailed if the journal is of another file, and BadArgument.
+    """
     with tempfile.TemporaryDirectory(prefix="gmus-") as folder:
         name = file_of(folder, "problem.gcnf", file)
         names = names_if_readable(name)
@@ -357,7 +414,8 @@ def read_rules(rules, weights=None, keep=None):
     names = None
     want_text(rules, "rules", has_mapping=True)
     if isinstance(rules, collections.abc.Mapping):
-        names, text, source = *text_of_mapping(rules), "rules"
+        names, text = text_of_mapping(rules)
+        source = "rules"
     else:
         text, source = text_of(rules, "rules")
     try:

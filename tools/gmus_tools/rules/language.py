@@ -220,7 +220,7 @@ def preference_of(bare, at, begin):
     return int(number)
 
 
-def heading(name, weight=1):
+def heading(name: str, weight: "int | None" = 1) -> str:
     """The line with which the rule of this name begins; a weight of None is that of a rule which is never given up. Blanks in a
     row, and line ends, count as one blank."""
     name = " ".join(name.split())

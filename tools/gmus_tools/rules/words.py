@@ -133,7 +133,7 @@ def refuse_name(text, at):
                       NAMES_ARE)
 
 
-def written(name):
+def written(name: str) -> str:
     """The name as rules have it: plain if it may be, else in quotes."""
     if PLAIN_NAME.fullmatch(name) and name.lower() not in KEYWORDS:
         return name

@@ -101,7 +101,7 @@ class Mpi:
 
 # ---- in one of the other processes
 
-PLACE = {}
+PLACE: "dict[str, object]" = {}
 
 
 def begin(text, where):
