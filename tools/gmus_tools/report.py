@@ -221,7 +221,7 @@ CONFLICTS = ("Conflicts", "Not all rules of a conflict can be kept. Without any 
              "{} can't be kept, whatever else is given up.")
 CORRECTIONS = ("Corrections", "Give up the rules of one correction, and all others fit together. No part of it is enough.",
                "Giving up {} alone mends all.")
-LIGHT = " The one of the least weight comes first."
+LIGHT, LIGHT_SO_FAR = " The one of the least weight comes first.", " The one of the least weight that was found comes first."
 # What is said of a configuration that a correction leaves, and if none is known.
 LEFT = "left, for example: "
 NOTHING = "nothing that has a name"
@@ -249,6 +249,10 @@ class Named:
 
     def name(self, group):
         return self.origin.name_of(group)
+
+    def mark(self, group):
+        """What stands behind the name of a rule that is never given up."""
+        return " (to be kept)" if group in self.origin.kept else ""
 
     def weight_of(self, group):
         """What is told of a rule's weight: that it is kept, or how much giving it up weighs."""
@@ -281,7 +285,8 @@ class Named:
         """The two lists of sets, each behind its heading, what it means, and what is said of a set of one rule; without
         those that are empty."""
         heading, meaning, alone = CORRECTIONS
-        both = ((*CONFLICTS, self.conflicts), (heading, meaning + LIGHT * self.origin.has_weights(), alone, self.corrections))
+        light = (LIGHT if self.report.is_complete else LIGHT_SO_FAR) if self.origin.has_weights() else ""
+        both = ((*CONFLICTS, self.conflicts), (heading, meaning + light, alone, self.corrections))
         return [section for section in both if section[-1] and [] not in section[-1]]
 
     def kept_lines(self):

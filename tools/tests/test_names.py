@@ -321,7 +321,7 @@ class Program(unittest.TestCase):
                 ([LAPTOP, "--first", "x"], 2, "names.py: --first x: a number has to stand here\n"),
                 ([LAPTOP, "--first=-1"], 2, "names.py: --first -1: a number has to stand here\n"),
                 ([LAPTOP, "--first=3", "--json"], 2, "names.py: --first is for the text: --json has the whole report\n"),
-                ([LAPTOP, "--html", "--json"], 2, "names.py: --json and --html don't go together\n"),
+                ([LAPTOP, "--html", "--json"], 2, "names.py: --html and --json don't go together\n"),
                 ([LAPTOP, "--evidence"], 2, "names.py: --evidence has nothing behind it\n"),
                 ([LAPTOP, LAPTOP_REPORT, "--evidence", LAPTOP_REPORT], 1, f"names.py: {LAPTOP_REPORT}: line 1: this is no evidence of gmus"),
         ):

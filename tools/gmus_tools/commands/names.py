@@ -1,7 +1,7 @@
 """Writes a report of gmus with the names of its groups.
 
-    gmus list FILE | tools/names.py FILE [--evidence EVIDENCE] [--first N] [--json | --html] [--focus LIST] [--fail-on-conflict]
-                                         [-o TEXT]
+    gmus list FILE | tools/names.py FILE [--evidence EVIDENCE] [--first N] [--json | --html [--graph] | --dot] [--focus LIST]
+                                         [--fail-on-conflict] [-o TEXT]
     tools/names.py FILE REPORT ..
 
 FILE is the GCNF or CNF file. Its comments 'c group 7 TEXT' name its groups, in CNF clause 7; if one group has several of
@@ -23,6 +23,8 @@ says the same.
 --json writes the whole report with names as JSON. Its form stands in docs/FORMATS.md.
 --html writes it as a page that stands by itself, in which rules can be given up or kept, and what then remains is shown. There
 conflicts open to their lines.
+--dot writes a drawing of the conflicts for Graphviz: rules as nodes, and between two how many conflicts share them.
+--graph has the page show that drawing; `dot` of Graphviz makes it.
 --focus LIST: the report is of `gmus list FILE --focus LIST`; what that leaves out is told as left out.
 --fail-on-conflict: what is written stays the same, and the status is 3 if something clashes.
 
@@ -31,7 +33,7 @@ The status is 0 if the report was written, 1 if something was refused, 2 if the 
 import io
 import json
 
-from gmus_tools import page, roles_report
+from gmus_tools import graph, page, roles_report
 from gmus_tools.command import DONE, REFUSED, Refused, WrongWords, bytes_of, here, is_for_a_person, put, run, told
 from gmus_tools.commands import why
 from gmus_tools.configurations import Configurations
@@ -62,7 +64,8 @@ def as_text(shown, first=None, reasons=None):
     for heading, meaning, alone, sets in shown.sections():
         lines += ["", heading, "-" * len(heading), "", meaning]
         for at, members in enumerate(sets[:first], 1):
-            told = [shown.name(group) for group in members] if len(members) > 1 else [alone.format(shown.name(members[0]))]
+            marked = [shown.name(group) + shown.mark(group) for group in members]
+            told = marked if len(members) > 1 else [alone.format(marked[0])]
             if sets is shown.conflicts and reasons:
                 told = with_lines(told, reasons.get(tuple(members), []))
             if sets is shown.corrections:
@@ -101,7 +104,8 @@ def left_line(count, first):
 def as_json(shown):
     """The whole report as JSON, one set a line."""
     origin = shown.origin
-    head = {"version": VERSION, "file": origin.name, "sha256": origin.digest, "focus": origin.asked(), "complete": shown.report.is_complete, "groups": shown.report.groups,
+    head = {"version": VERSION, "file": origin.name, "sha256": origin.digest, "focus": origin.asked(),
+            "complete": shown.report.is_complete, "groups": shown.report.groups,
             "names": {str(group): name for group, name in sorted(origin.names.items())},
             "weights": {str(group): weight for group, weight in origin.weights.items()}, "keep": sorted(origin.kept)}
     counts = [{"group": group, "conflicts": conflicts, "corrections": corrections}
@@ -147,7 +151,8 @@ class Words:
     """The words of the command line."""
 
     def __init__(self, words):
-        self.files, self.form, self.first, self.evidence, self.fails = [], None, None, None, False
+        self.files, self.form, self.first, self.evidence = [], None, None, None
+        self.fails = self.graph = False
         words, self.focus = without_focus(words)
         while words:
             self.take(words.pop(0), words)
@@ -155,15 +160,19 @@ class Words:
             raise WrongWords("a FILE has to be named, and a REPORT may be")
         if self.files[0] == "-" and self.files[1:] in ([], ["-"]):
             raise WrongWords("FILE and REPORT can't both come from standard input")
-        if self.form and self.first is not None:
+        if self.graph and self.form != "html":
+            raise WrongWords("--graph is for the page: --html has to stand beside it")
+        if self.form in ("json", "html") and self.first is not None:
             raise WrongWords(f"--first is for the text: --{self.form} has the whole report")
 
     def take(self, word, behind):
         option, has_value, value = word.partition("=")
-        if word in ("--json", "--html"):
+        if word in ("--json", "--html", "--dot"):
             if self.form not in (None, word[2:]):
-                raise WrongWords("--json and --html don't go together")
+                raise WrongWords(f"--{self.form} and {word} don't go together")
             self.form = word[2:]
+        elif word == "--graph":
+            self.graph = True
         elif word == "--fail-on-conflict":
             self.fails = True
         elif option in ("--first", "--evidence", "--why"):
@@ -190,8 +199,9 @@ def main(words):
     origin = origin_of(held, file, asked.focus)
     first = ON_A_TERMINAL if asked.first is None and is_for_a_person() else asked.first
     if roles_report.is_roles(report):
-        if asked.evidence is not None:
-            raise Refused("--evidence: a report of roles has no sets to tell of")
+        for option, stands in (("--evidence", asked.evidence is not None), ("--dot", asked.form == "dot"), ("--graph", asked.graph)):
+            if stands:
+                raise Refused(f"{option}: a report of roles has no sets to tell of")
         shown = clashing = roles_report.Roles(origin, report)
         text = {"json": roles_report.as_json, "html": roles_report.as_html}.get(
             asked.form, lambda roles: roles_report.as_text(roles, first))(shown)
@@ -201,8 +211,10 @@ def main(words):
         reasons = None if asked.evidence is None else reasons_in(shown, file, held, asked, None if asked.form else first)
         if asked.form == "json":
             text = as_json(shown)
+        elif asked.form == "dot":
+            text = graph.dot_of(shown, asked.first)
         elif asked.form == "html":
-            text = page.as_html(shown, reasons)
+            text = page.as_html(shown, reasons, graph.svg_of(graph.dot_of(shown)) if asked.graph else None)
         else:
             text = as_text(shown, first, reasons)
     put(text)

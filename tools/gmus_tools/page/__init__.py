@@ -4,12 +4,13 @@ The report stands in it twice. Without scripts its plain lists are read. With sc
 place to decide at of the data, which is a block of JSON: only as much of it as is looked at. If scripts are there and fail,
 the plain lists come back.
 """
+import collections
 import html
 import json
 import os
 import re
 
-from gmus_tools.report import LATER_LINES, configuration_line
+from gmus_tools.report import CONFLICTS, CORRECTIONS, LATER_LINES, configuration_line
 
 HERE = os.path.dirname(os.path.abspath(__file__))
 # A name that is longer is cut in the lists, since the table of rules has it whole; and shorter, if all sets together have so
@@ -17,6 +18,7 @@ HERE = os.path.dirname(os.path.abspath(__file__))
 LONG, SHORT, MANY = 120, 40, 20000
 # So many digits at most say what corrections leave.
 MOST_DIGITS = 2 ** 24
+SCRIPTS = ("page_choices.js", "page_address.js", "page_sets.js", "page.js")
 BEGIN = """document.documentElement.className = "scripted";
 onerror = function () { document.documentElement.className = ""; };"""
 
@@ -33,9 +35,9 @@ def in_script(value):
                   json.dumps(value, ensure_ascii=False, separators=(",", ":")))
 
 
-def as_html(shown, reasons=None):
+def as_html(shown, reasons=None, drawing=None):
     """The page of a named report. `reasons` are those of conflicts, by the tuples of their groups: each a list of pairs of a
-    rule's name, or None for the background, and lines."""
+    rule's name, or None for the background, and lines. `drawing` is an SVG of the conflicts."""
     text = html.escape
     reasons = [(reasons or {}).get(tuple(members), []) for members in shown.conflicts]
     begin = [f"<script>{BEGIN}</script>"] if shown.has_choice() else []
@@ -43,15 +45,28 @@ def as_html(shown, reasons=None):
         "<!DOCTYPE html>", '<html lang="en">', "<head>", '<meta charset="utf-8">',
         '<meta name="viewport" content="width=device-width, initial-scale=1">',
         f"<title>{text(shown.title)}</title>", f"<style>\n{part('page.css')}</style>", *begin, "</head>",
-        "<body>", f"<h1>{text(shown.title)}</h1>", f"<p>{text(shown.summary())}</p>",
+        "<body>", f"<h1>{text(shown.title)}</h1>", f"<p>{summary_part(shown)}</p>",
         *notes_parts(shown.origin), *(f"<p>{text(line)}</p>" for line in shown.kept_lines()),
         '<div id="plain">', *plain_parts(shown, reasons), "</div>",
     ]
     if shown.has_choice():
         parts += ['<main id="decide"></main>', '<div id="printed"></div>',
                   f'<script type="application/json" id="data">{in_script(data(shown, reasons))}</script>',
-                  '<script>\n(function () {\n"use strict";', part("page_choices.js") + part("page.js") + "})();\n</script>"]
+                  '<script>\n(function () {\n"use strict";', "".join(map(part, SCRIPTS)) + "})();\n</script>"]
+    if drawing:
+        parts += ['<h2>Which rules clash with which</h2>', "<p>Two rules are joined if some conflict has both, by a line with how many have.</p>",
+                  f'<div class="graph" role="img" aria-label="rules, joined if a conflict has both">{drawing}</div>']
     return "".join(each + "\n" for each in [*parts, *made_of_parts(shown.origin), "</body>", "</html>"])
+
+
+def summary_part(shown):
+    """The summary, whose counts lead to the lists."""
+    summary = html.escape(shown.summary())
+    for what, heading in (("conflict", CONFLICTS[0]), ("correction", CORRECTIONS[0])):
+        if any(heading == section[0] for section in shown.sections()):
+            at = heading.lower()
+            summary = re.sub(rf"[0-9]+ {what}s?", lambda found: f'<a href="#{at}" data-to="{at}">{found[0]}</a>', summary, count=1)
+    return summary
 
 
 def notes_parts(origin):
@@ -92,7 +107,7 @@ def plain_parts(shown, reasons):
     if is_long and any(reasons):
         yield "<p>Why rules clash is shown here with scripts alone. tools/why.py writes it as a text.</p>"
     for heading, meaning, alone, sets in shown.sections():
-        yield f"<h2>{heading}</h2>\n<p>{text(meaning)}</p>\n<ol>"
+        yield f'<h2 id="{heading.lower()}">{heading}</h2>\n<p>{text(meaning)}</p>\n<ol>'
         for at, members in enumerate(sets):
             told = alone.format(names[members[0]]) if len(members) == 1 else listed([names[group] for group in members])
             why = plain_reasons(reasons[at]) if sets is shown.conflicts and not is_long else ""
@@ -106,13 +121,13 @@ def plain_parts(shown, reasons):
 
 def links(shown):
     """The names as links to the table, and how a set is told: as a list of them."""
-    names = {group: f'<a href="#g{group}">{html.escape(cut(shown.name(group)))}</a>' for group, _ in shown.counts}
+    names = {group: f'<a href="#g{group}">{html.escape(cut(shown.name(group)))}</a>{shown.mark(group)}' for group, _ in shown.counts}
     return names, lambda each: "<ul>" + "".join(f"<li>{name}</li>" for name in each) + "</ul>"
 
 
 def short_lines(shown):
     """Short names, and how a set is told: in one line of them."""
-    return {group: html.escape(cut(shown.name(group), SHORT)) for group, _ in shown.counts}, "; ".join
+    return {group: html.escape(cut(shown.name(group), SHORT)) + shown.mark(group) for group, _ in shown.counts}, "; ".join
 
 
 def plain_reasons(reasons):
@@ -140,6 +155,7 @@ def data(shown, reasons):
         "complete": shown.report.is_complete,
         "rules": [group for group, _ in shown.counts],
         "names": [shown.name(group) for group, _ in shown.counts],
+        "nth": nth_of(shown),
         "conflicts": shown.conflicts,
         "corrections": shown.corrections,
         "weights": [shown.origin.weight_of([group]) for group, _ in shown.counts] if shown.origin.has_weights() else None,
@@ -150,6 +166,15 @@ def data(shown, reasons):
         "left": left_data(shown),
         "unseen": shown.unseen(),
     }
+
+
+def nth_of(shown):
+    """Of each rule its place among the rules of the file that have its name, from 1, or 0 if no other has it."""
+    involved, nth, counts = [group for group, _ in shown.counts], {}, collections.Counter()
+    for group in sorted({*shown.origin.names, *involved}):
+        counts[shown.name(group)] += 1
+        nth[group] = counts[shown.name(group)]
+    return [nth[group] if counts[shown.name(group)] > 1 else 0 for group in involved]
 
 
 def left_data(shown):
