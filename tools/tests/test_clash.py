@@ -140,7 +140,7 @@ clash.py: -: line 2: 'y' can't come here: a name with a blank in it stands in qu
     def test_wrong_words_and_places(self):
         os.mkdir(self.at("folder"))
         for words, status, told in (
-                ([], 2, "one file of rules is wanted"), (["a", "b"], 2, "one file of rules is wanted"), (["--what", "a"], 2, "--what is no option"),
+                ([], 2, "one file of rules is wanted"), (["a", "b"], 2, "one file of rules is wanted; for more, --pages or --junit has to stand here"), (["--what", "a"], 2, "--what is no option"),
                 (["a", "--html"], 2, "--html has nothing behind it"), (["a", "--first", "x"], 2, "--first x: a number has to stand here"),
                 (["a", "--jobs", "-1"], 2, "--jobs -1: a number has to stand here"), (["a", "--html=b", "--html=c"], 2, "--html stands twice"),
                 *((["a", "--seconds", text], 2, f"--seconds {text}: a number above 0 has to stand here") for text in ("0", "0.0", "x", "-1", "1e3", "")),
