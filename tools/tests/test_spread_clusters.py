@@ -16,8 +16,9 @@ import time
 import unittest
 
 import places  # noqa: F401
+from plain_program import PLAIN
 from test_spread_run import EVERY, TOOLS, Room
-from test_spread_task import BUILT, PLAIN
+from test_spread_task import BUILT
 
 ASKED = os.environ.get("GMUS_CLUSTERS")
 PYTHON = os.environ.get("GMUS_PYTHON") or "/usr/bin/python3"

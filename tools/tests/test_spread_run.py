@@ -26,18 +26,21 @@ from gmus_tools.spreading.records import records_in
 from gmus_tools.spreading.task import perform
 from gmus_tools.spreading.words import Words
 from oracles import plain_gmus
-from test_spread_task import BUILT, PLAIN, pairs
+from plain_program import PLAIN
+from test_spread_task import BUILT, pairs
 
 TEXT = pairs(5)
 PROBLEM = check_evidence.Problem(TEXT)
 EVERY = 5 + 32
+# what is never there
+NEVER = "/dev/null/never"
 
 
 class Room(unittest.TestCase):
     def setUp(self):
         self.room = os.path.realpath(tempfile.mkdtemp())
         self.addCleanup(shutil.rmtree, self.room)
-        self.before = {name: os.environ.get(name) for name in ("GMUS", "PLAIN_PAUSE", "TMPDIR")}
+        self.before = {name: os.environ.get(name) for name in ("GMUS", "PLAIN_PAUSE", "OWN_WAITS", "TMPDIR")}
         self.addCleanup(self.put_back)
         os.environ["GMUS"] = PLAIN
         os.mkdir(self.at("tasks"))
@@ -75,13 +78,15 @@ class Room(unittest.TestCase):
 
 
 class Telling(spread_run.Silent):
-    """Keeps what it is told."""
+    """Keeps what it is told. With a name the first line makes a file of that name."""
 
-    def __init__(self):
-        self.lines = []
+    def __init__(self, told=None):
+        self.lines, self.told = [], told
 
     def tell(self, line, kind=None):
         self.lines.append(line)
+        if self.told is not None:
+            open(self.told, "w", encoding="utf-8").close()
 
 
 class Machines:
@@ -143,8 +148,11 @@ def lying(*given):
 class Coordinated(Room):
     """Runs with machines that are played here."""
 
-    def run_with(self, *ways, words=(), show=None):
-        show = show or Telling()
+    def run_with(self, *ways, words=(), show=None, own_waits=False):
+        """How it ended and what it told. The coordinator's own run may have to wait until something was told."""
+        show = show or Telling(self.at("told"))
+        if own_waits:
+            os.environ["OWN_WAITS"] = self.at("told")
         os.environ["TMPDIR"] = self.at("tasks")
         tempfile.tempdir = None
         self.addCleanup(setattr, tempfile, "tempdir", None)
@@ -154,7 +162,7 @@ class Coordinated(Room):
 
     def test_a_machine_that_lies_is_named_and_nothing_of_it_counts(self):
         os.environ["PLAIN_PAUSE"] = "0.02"
-        ended, show = self.run_with(lying, honest)
+        ended, show = self.run_with(lying, honest, own_waits=True)
         self.assertEqual((ended.status, self.read("r").decode()), (0, self.report()))
         refused = [line for line in show.lines if line.startswith("liar-")]
         self.assertRegex(refused[0], r"^liar-\ufffd\[2J\S+, task [0-9]+: refused: gmus: evidence refused: line [0-9]+: 18 WitnessFails$")
@@ -172,19 +180,23 @@ class Coordinated(Room):
                              (head % (b"4", b"null") + b"p gmev 2 5 10 9\ne partial\n", "a: refused: gmus: evidence refused: line 1: 4 OtherProblem"),
                              (head % (b"0", b"null"), None), (head % (b"8", b'"gmus: out of memory"'), "a: gmus: out of memory")):
             os.environ["PLAIN_PAUSE"] = "0.02"
-            ended, show = self.run_with(lambda *_: held)
+            ended, show = self.run_with(lambda *_: held, own_waits=wanted is not None)
             self.assertEqual((ended.status, self.read("r").decode()), (0, self.report()), held)
             self.assertEqual({re.sub("(, )?task [0-9]+", "", line) for line in show.lines}, set() if wanted is None else {wanted}, held)
             os.remove(self.at("e"))
+            os.environ.pop("OWN_WAITS", None)
+            if wanted is not None:
+                os.remove(self.at("told"))
 
     def test_an_engine_that_is_gone_is_renewed_and_its_tasks_are_done_again(self):
-        os.environ["PLAIN_PAUSE"] = "0.05"
+        os.environ["OWN_WAITS"] = self.at("third")
         numbers = []
 
         def goes_at_first(order, *given):
             numbers.append(order.number)
             if len(numbers) < 3:
                 raise ConnectionError("gone")
+            self.write("third", "")
             return honest(order, *given)
 
         ended, show = self.run_with(goes_at_first)
@@ -193,8 +205,6 @@ class Coordinated(Room):
         self.assertEqual(numbers[:1] * 3, numbers[:3])
 
     def test_for_a_machine_that_never_answers_nobody_waits(self):
-        os.environ["PLAIN_PAUSE"] = "0.05"
-
         def never(*given):
             while not given[-1]():
                 time.sleep(0.05)
@@ -203,7 +213,7 @@ class Coordinated(Room):
             self.addCleanup(setattr, spread_tasks, name, getattr(spread_tasks, name))
             setattr(spread_tasks, name, value)
         began = time.monotonic()
-        ended, show = self.run_with(never)
+        ended, show = self.run_with(never, own_waits=True)
         self.assertEqual((ended.status, self.read("r").decode()), (0, self.report()))
         self.assertRegex(show.lines[0], r"^task [0-9]+: no answer in its time$")
         self.assertLess(time.monotonic() - began, 50)
@@ -227,15 +237,16 @@ class Coordinated(Room):
         self.assertTrue(self.sets(left))
 
 
-class Whole(Room):
-    """Runs of the tool itself."""
+class Runs(Room):
+    """Runs of the tool itself. `own_waits` names the file for which the coordinator's own run waits."""
 
-    def start(self, *words, pause=None, before=(), processes="2", program=PLAIN):
-        environment = {**os.environ, "GMUS": program, "PLAIN_PAUSE": str(pause or 0)}
-        return subprocess.Popen([*before, sys.executable, os.path.join(TOOLS, "spread.py"), "f", "--evidence", "e",
-                                 "--journal", "tasks", *([] if processes is None else ["--processes", processes]), *words],
-                                cwd=self.room, env=environment, stdin=subprocess.DEVNULL, stdout=subprocess.PIPE,
-                                stderr=subprocess.PIPE, universal_newlines=True)
+    TOOL = [os.path.join(TOOLS, "spread.py")]
+
+    def start(self, *words, pause=None, before=(), processes="2", program=PLAIN, own_waits="", tool=None):
+        environment = {**os.environ, "GMUS": program, "PLAIN_PAUSE": str(pause or 0), "OWN_WAITS": own_waits, "PYTHONPATH": TOOLS}
+        places = ["f", "--evidence", "e", "--journal", "tasks", *([] if processes is None else ["--processes", processes])]
+        return subprocess.Popen([*before, sys.executable, *(tool or self.TOOL), *places, *words], cwd=self.room,
+                                env=environment, stdin=subprocess.DEVNULL, stdout=subprocess.PIPE, stderr=subprocess.PIPE, universal_newlines=True)
 
     def spread(self, *words, **how):
         child = self.start(*words, **how)
@@ -256,6 +267,8 @@ class Whole(Room):
         """Whether there is evidence, which is whole as it always has to be."""
         return os.path.exists(self.at("e")) and bool(self.sets())
 
+
+class Whole(Runs):
     def test_a_whole_list(self):
         status, output, said = self.spread("--report", "r", "--html", "page.html")
         self.assertEqual((status, said), (0, ""))
@@ -270,7 +283,7 @@ class Whole(Room):
         self.assertEqual(self.read("r2").decode(), self.report())
 
     def test_so_many_sets_and_more(self):
-        status, output, said = self.spread("--report", "r", "--sets", "9", pause=0.1)
+        status, output, said = self.spread("--report", "r", "--sets", "9", pause=0.1, own_waits=NEVER)
         self.assertEqual(status, 4, said)
         found = self.sets()
         self.assertTrue(9 <= len(found) < EVERY)
@@ -280,15 +293,17 @@ class Whole(Room):
         self.assertEqual(len(report.split("\n")) - 4, len(found))
         self.assertIn(" --sets 18 ", output.split("\n")[-2])
         texts = records_in(self.read("e"))
-        status, _, said = self.spread("--sets", str(len(found)))
+        status, _, said = self.spread("--sets", str(len(found)), own_waits=NEVER)
         self.assertEqual((status, records_in(self.read("e"))), (4, texts))
-        status, _, _ = self.spread("--sets", str(len(found) + 1), pause=0.1)
+        status, _, _ = self.spread("--sets", str(len(found) + 1), pause=0.05, own_waits=NEVER)
         self.assertIn(status, (0, 4))
         self.assertLess(found, self.sets())
 
+
+class Broken(Runs):
     def test_an_interrupt_keeps_what_is_there(self):
         for number in (signal.SIGINT, signal.SIGTERM):
-            child = self.start("--report", "r", pause=0.2)
+            child = self.start("--report", "r", pause=0.05, own_waits=NEVER)
             self.until(lambda: self.is_whole() and len(self.processes()) == 2)
             child.send_signal(number)
             output, said = child.communicate(timeout=60)
@@ -302,7 +317,7 @@ class Whole(Room):
         self.assertEqual(self.read("r").decode(), self.report())
 
     def test_a_killed_coordinator_loses_nothing_and_leaves_nothing_running(self):
-        child = self.start(pause=0.2)
+        child = self.start(pause=0.05, own_waits=NEVER)
         self.addCleanup(child.communicate)
         self.until(lambda: self.is_whole() and len(self.processes()) == 2)
         texts, processes = records_in(self.read("e")), self.processes()
@@ -318,15 +333,18 @@ class Whole(Room):
         self.assertEqual((self.files(), os.listdir(self.at("tasks"))), (["e", "f", "r", "tasks"], []))
 
     def test_a_process_that_dies_is_replaced(self):
-        child = self.start("--report", "r", pause=0.1)
+        child = self.start("--report", "r", pause=0.05, own_waits=self.at("told"))
         self.until(lambda: len(self.processes()) == 2)
         os.kill(self.processes()[0], signal.SIGKILL)
-        output, said = child.communicate(timeout=60)
+        said = child.stderr.readline()
+        self.write("told", "")
+        _, more = child.communicate(timeout=60)
+        said += more
         self.assertEqual((child.returncode, self.read("r").decode()), (0, self.report()))
         self.assertTrue(said.startswith("spread.py: the processes of the pool are gone, and what they did is done again"), said)
 
     def test_a_full_disk_takes_nothing_away(self):
-        self.assertEqual(self.spread("--sets", "9", pause=0.3)[0], 4)
+        self.assertEqual(self.spread("--sets", "9", pause=0.1, own_waits=NEVER)[0], 4)
         held = self.read("e")
         # no file may grow beyond half of a whole list's evidence
         room = len(held) // 512 + 2
@@ -338,6 +356,8 @@ class Whole(Room):
             self.assertEqual(len(self.read("r").split(b"\n")) - 4, len(self.sets()))
         self.assertEqual(os.listdir(self.at("tasks")), [])
 
+
+class Refusals(Runs):
     def test_a_program_that_writes_another_version_of_evidence(self):
         self.write("program", f"""#!/bin/sh
 case $1 in check) exec {PLAIN} "$@" ;; esac
@@ -348,7 +368,9 @@ done
 exit 3
 """)
         os.chmod(self.at("program"), 0o700)
-        status, _, said = self.spread("--report", "r", program=self.at("program"))
+        # of three failures in a row it rests behind two
+        quick = "from gmus_tools.spreading import own; own.REST = 0.1; from gmus_tools.commands.spread import as_command; as_command()"
+        status, _, said = self.spread("--report", "r", program=self.at("program"), tool=["-c", quick])
         self.assertEqual(status, 1, said)
         self.assertTrue(said.endswith("its own run fails: this is no evidence of version 1 or 2: p gmev 3 5 10 10\n"), said)
         # what the tasks found is kept: their journals have no version

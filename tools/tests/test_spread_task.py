@@ -15,8 +15,8 @@ from gmus_tools.spreading.numbering import plain
 from gmus_tools.spreading.records import records_in
 from gmus_tools.spreading.task import EVIDENCE, FRESH, JOURNAL, Nonsense, Order, answer_of, perform
 from oracles import plain_gmus
+from plain_program import PLAIN
 
-PLAIN = os.path.join(TOP, "oracles", "plain_gmus.py")
 BUILT = os.environ.get("GMUS") or os.path.join(TOP, "crates", "gmus", "out", "gmus")
 
 
