@@ -361,22 +361,12 @@ addEventListener("load", async () => {
 </script>"""
 
 
-@unittest.skipUnless(BROWSER, "no Chromium is there to try the page in")
-class Browser(unittest.TestCase):
-    """What a reader sees, and does by clicks."""
+class Pages(unittest.TestCase):
+    """Pages in a browser: each in a frame, with clicks, and what it then shows."""
 
     @classmethod
     def setUpClass(cls):
         cls.room = tempfile.TemporaryDirectory()
-        many = "".join(f"u {at} {at + 1} 0\n" for at in range(1, 1001))
-        for name, made, reasons in (
-                ("laptop", laptop(), {(1, 2): [(None, ["touch implies glossy"]), ("a touch screen", ["touch", "<b>"])]}),
-                ("partial", shown("p gmus 4\ns PARTIAL\nu 1 2 0\nm 1 3 0\ne 1 1\n"), None), ("hostile", hostile(), None),
-                ("many", shown(f"p gmus 1001\ns PARTIAL\n{many}e 1000 0\n"), None)):
-            if name == "laptop":
-                made.left = Left({(1, 3, 5): [7], (1, 3, 6): [], (2, 3, 5): list(range(1, 31))})
-            cls.write(name + ".html", page.as_html(made, reasons))
-        cls.write("broken.html", page.as_html(laptop()).replace("\nlayOut();\n", "\nnoSuchCall();\n"))
 
     @classmethod
     def tearDownClass(cls):
@@ -398,8 +388,8 @@ class Browser(unittest.TestCase):
 
     def tried(self, rows):
         """What each row's frame shows, once its clicks were made."""
-        frames = "".join(f'<iframe id="f{at}" width="{row.get("width", 768)}" height="{row.get("height", 700)}" style="border: 0" src="{row["src"]}"></iframe>'
-                         for at, row in enumerate(rows))
+        frames = "".join(f'<iframe id="f{at}" width="{row.get("width", 768)}" height="{row.get("height", 700)}" style="border: 0" '
+                         f'src="{row["src"]}"></iframe>' for at, row in enumerate(rows))
         steps = [{"clicks": row.get("clicks", []), "prints": row.get("prints", False)} for row in rows]
         self.write("try.html", HARNESS % (frames, json.dumps(steps)))
         dumped = self.browse("--dump-dom", "--virtual-time-budget=9000", "file://" + self.at("try.html"))
@@ -419,6 +409,24 @@ class Browser(unittest.TestCase):
             if "height" in row:
                 self.assertLessEqual(told["down"], 1, row)
                 self.assertEqual(told["scrolled"] > 100, row["src"] == "many.html", row)
+
+
+@unittest.skipUnless(BROWSER, "no Chromium is there to try the page in")
+class Browser(Pages):
+    """What a reader sees, and does by clicks."""
+
+    @classmethod
+    def setUpClass(cls):
+        super().setUpClass()
+        many = "".join(f"u {at} {at + 1} 0\n" for at in range(1, 1001))
+        for name, made, reasons in (
+                ("laptop", laptop(), {(1, 2): [(None, ["touch implies glossy"]), ("a touch screen", ["touch", "<b>"])]}),
+                ("partial", shown("p gmus 4\ns PARTIAL\nu 1 2 0\nm 1 3 0\ne 1 1\n"), None), ("hostile", hostile(), None),
+                ("many", shown(f"p gmus 1001\ns PARTIAL\n{many}e 1000 0\n"), None)):
+            if name == "laptop":
+                made.left = Left({(1, 3, 5): [7], (1, 3, 6): [], (2, 3, 5): list(range(1, 31))})
+            cls.write(name + ".html", page.as_html(made, reasons))
+        cls.write("broken.html", page.as_html(laptop()).replace("\nlayOut();\n", "\nnoSuchCall();\n"))
 
     def test_what_a_reader_sees_and_finds(self):
         rows = (

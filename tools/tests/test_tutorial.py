@@ -42,7 +42,7 @@ class Tutorial(unittest.TestCase):
 
     @unittest.skipUnless(PROGRAMS, "no built program: the commands of the first page and the tutorial are not replayed")
     def test_each_command_prints_what_the_page_says(self):
-        for page, count in (("README.md", 3), ("docs/TUTORIAL.md", 22)):
+        for page, count in (("README.md", 3), ("docs/TUTORIAL.md", 23)):
             files, commands = steps_in(text_of(page))
             self.assertEqual(len(commands), count, page)
             with tempfile.TemporaryDirectory() as room:
@@ -51,6 +51,7 @@ class Tutorial(unittest.TestCase):
                 shutil.copy(PROGRAMS[0], os.path.join(room, "gmus"))
                 os.chmod(os.path.join(room, "gmus"), 0o755)
                 for name, text in files.items():
+                    os.makedirs(os.path.dirname(os.path.join(room, name)), exist_ok=True)
                     with open(os.path.join(room, name), "w", encoding="utf-8") as file:
                         file.write(text)
                 for words, wanted in commands:
