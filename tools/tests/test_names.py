@@ -161,6 +161,7 @@ class Texts(unittest.TestCase):
                        "    2          1            2        keep  b\n", "No part of it is enough. The one of the least weight comes first.\n\n1.    a\n      group 4\n"
                        "      (weight 6)\n\n2.    a\n      group 3\n      (weight 8)\n\n2 corrections are left out: each gives up a rule that is to be kept.\n"):
             self.assertIn(wanted, made)
+        self.assertIn("1.    a\n      b (to be kept)\n\n2.    group 3\n      group 4\n", made)
         data = json.loads(names.as_json(found))
         self.assertEqual([data[key] for key in ("weights", "keep", "left_out", "sums", "corrections")],
                          [{"1": 5, "3": 3}, [2], 2, [6, 8], [[1, 4], [1, 3]]])

@@ -172,6 +172,7 @@ class Preferences(unittest.TestCase):
             self.assertEqual(made.count(wanted), 1, wanted)
         self.assertEqual([json.loads(Elements(page.as_html(laptop())).data)[key] for key in ("weights", "kept")], [None, []])
         self.assertNotIn("weight</th>", page.as_html(laptop()))
+        self.assertIn('<ul><li><a href="#g1">a</a></li><li><a href="#g2">b</a> (to be kept)</li></ul>', made)
 
 
 class Scripts(unittest.TestCase):
@@ -343,6 +344,7 @@ addEventListener("load", async () => {
                 Array.from(it.querySelectorAll("li"), rule => rule.innerText).join("; ")].join(" | ")),
             missing: inside.getElementById("missing")?.innerText, found: inside.getElementById("found")?.innerText,
             rows: all(".scroll tbody tr").filter(it => it.checkVisibility()).map(it => it.firstChild.innerText),
+            copied: all(".copy").filter(it => /^(Copied|Selected)$/.test(it.textContent)).map(it => it.getAttribute("aria-label").replace(/^\\w+: /, "")),
             marks: all(".mark").map(it => it.textContent).filter(it => it),
             focus: inside.activeElement.getAttribute("aria-label") || inside.activeElement.innerText,
             ...placed(frame),
@@ -491,6 +493,7 @@ class Browser(Pages):
         rows = [
             ({"src": "laptop.html", "clicks": [["summary", "Why"]]}, {
                 "reasons": ["always", "touch implies glossy Copy", "a touch screen", "touch Copy", "<b> Copy"], "bold": 0}),
+            ({"src": "laptop.html", "clicks": [["summary", "Why"], [BUTTON, "copy: <b>"]]}, {"copied": ["<b>"], "bold": 0}),
             ({"src": "laptop.html#give=3", "prints": True}, {"printed": 2 + 6}),
             ({"src": "laptop.html", "clicks": [["summary", "Left"]]}, {"left": [
                 "Left, for example: n7", "Left, for example: nothing that has a name",

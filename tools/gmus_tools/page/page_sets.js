@@ -92,21 +92,26 @@ function drawChoices(inside) {
 
 // Conflicts, with the lines on which they rest.
 
-/** Puts a text on the clipboard. A page that may not write there has the text selected and copied as by hand. */
+/** Puts a text on the clipboard, and tells what became of it. If the page may not write there the text is selected, and copied as
+    by hand if that is allowed. */
 async function copy(text, element) {
     try {
         await navigator.clipboard.writeText(text);
+        return "Copied";
     } catch {
         getSelection().selectAllChildren(element);
-        document.execCommand("copy");
+        return document.execCommand("copy") ? "Copied" : "Selected";
     }
 }
 
 function lineItem(line) {
     const text = make("span", {}, line);
-    const copied = button("Copy", `copy: ${line}`, async () => { await copy(line, text); copied.textContent = "Copied"; });
-    copied.className = "copy";
-    return make("dd", {}, text, " ", copied);
+    const act = button("Copy", `copy: ${line}`, async () => {
+        act.textContent = await copy(line, text);
+        act.setAttribute("aria-label", `${act.textContent}: ${line}`);
+    });
+    act.className = "copy";
+    return make("dd", {}, text, " ", act);
 }
 
 function whyParts(at) {
