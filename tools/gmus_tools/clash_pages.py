@@ -72,8 +72,8 @@ def result_of(source, name, asked):
     with tempfile.TemporaryDirectory(prefix="gmus-") as folder:
         try:
             answer = answered(source, folder, asked.is_strict, asked.seconds, asked.jobs, None if asked.pages is not None else asked.first)
-        except (Refused, OSError) as why:
-            line = f"{why.filename}: {why.strerror}" if isinstance(why, OSError) else str(why)
+        except (Refused, OSError, RecursionError) as why:
+            line = refusal_of(why, source)
             told(f"clash.py: {line}", REFUSED)
             return Result(source, WRONG, line, line, None, name, None, "", 0.0)
     shown = answer.shown
@@ -82,6 +82,13 @@ def result_of(source, name, asked):
     made = page.as_html(shown, answer.reasons) if asked.pages is not None else None
     return Result(source, state, f"{state}. {shown.summary()}", names.as_text(shown, asked.first, answer.reasons), made, name,
                   len(shown.conflicts), smallest_in(shown), answer.seconds)
+
+
+def refusal_of(why, source):
+    """What is told of a file that has no answer."""
+    if isinstance(why, RecursionError):
+        return f"{source}: what was given is too deep"
+    return f"{why.filename}: {why.strerror}" if isinstance(why, OSError) else str(why)
 
 
 def smallest_in(shown):

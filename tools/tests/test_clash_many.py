@@ -8,6 +8,7 @@ import shutil
 import tempfile
 import unittest
 import xml.etree.ElementTree as ElementTree
+from unittest import mock
 
 from places import TOP
 from checks.trying import tried
@@ -68,6 +69,13 @@ class Many(Room):
         self.assertEqual(sorted(os.listdir(self.at("pages"))), ["door.rules.html", "index.html"])
         self.assertIn("<tr><td>no.rules</td><td>refused</td><td class=\"n\"></td><td>no.rules: No such file or directory</td>",
                       self.read("pages/index.html"))
+
+    def test_what_is_too_deep_stops_no_other(self):
+        self.assertEqual(clash_pages.refusal_of(RecursionError(), "f"), "f: what was given is too deep")
+        self.assertEqual(clash_pages.refusal_of(OSError(2, "No such file", "g"), "f"), "g: No such file")
+        with mock.patch.object(clash_pages, "answered", side_effect=RecursionError):
+            status, output, said = self.clash("door.rules", "fits.rules", "--junit", "found.xml")
+        self.assertEqual((status, output.count("what was given is too deep"), said.count("what was given is too deep")), (1, 2, 2))
 
     def test_how_it_ends(self):
         for words, status in ((["door.rules", "fits.rules"], 0), (["door.rules", "fits.rules", "--fail-on-conflict"], 3), (["fits.rules"], 0),
