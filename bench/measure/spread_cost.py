@@ -226,10 +226,12 @@ def rounds_of(given, problem, file, engine):
     took, reports = {"one": [], "four": [], "spread": []}, {}
     for _ in range(given.rounds):
         for jobs, name in (("1", "one"), ("4", "four")):
-            spent, reports[name] = timed([given.program, "list", file, "--jobs", jobs, *limit], limit=given.longest)
+            spent, report = timed([given.program, "list", file, "--jobs", jobs, *limit], limit=given.longest)
             took[name].append(spent)
-        spent, reports["spread"] = engine.listing(problem, file)
+            reports[name] = report or reports.get(name, b"")
+        spent, report = engine.listing(problem, file)
         took["spread"].append(spent)
+        reports["spread"] = report or reports.get("spread", b"")
         if given.has_ended():
             break
     return took, reports
