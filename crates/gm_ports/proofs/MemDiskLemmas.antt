@@ -1,9 +1,10 @@
 -- What the calls of a disk in memory do to what it tells.
 use Rattle.std.proofs.Common.{◌≡◌, ◌⊎◌, inl, inr, ⊎_elim, ℕ, suc, ◌+◌, ◌≤◌, ◌<◌, Bool, true, false, nat_lt, if◌then◌else◌, List, [], ◌∷◌, ◌++◌, length, take, drop, Some, refl, sym, ◌∙◌, ap, subst, arith, length-append, length-drop}
+use Rattle.std.specs.Prelude.{Result, Ok, Err, OnErr}
 use Rattle.std.proofs.lemmas.List.{take_all, take-append-le, drop-append-le, append-nil, length_push}
 use Rattle.std.proofs.lemmas.Bool.{cases_lt}
 use Rattle.std.proofs.lemmas.Bool.Decides.{nat_tests}
-use Rattle.gm_ports.specs.DiskState.{Looks, Writes, Only, Torn, written}
+use Rattle.gm_ports.specs.DiskState.{IsUnopened, Looks, Writes, Only, Torn, written}
 use Rattle.gm_ports.specs.MemDisk.{Change, Wrote, Synced, Nothing, text_after, MayLeave, MemDiskState, disk_state, IsInStep, moved, bytes_of, sizes, changes_of, with_call, with_fault, after_fault, after_look, after_write, after_sync}
 use Rattle.gm_ports.specs.Schedule.{ScheduleState}
 use Rattle.gm_ports.specs.Schedule as schedule
@@ -40,18 +41,20 @@ sizes-push (c ∷ calls) call = omega (arith, sizes-push calls call)
 -- ---- what the calls do
 
 -- a call that only looked or failed, kept or not
-pub looks : (s t : MemDiskState) → t.first ≡ s.first → (t.changes ≡ s.changes ++ Nothing ∷ []) ⊎ (t.changes ≡ s.changes) → Looks (disk_state s) (disk_state t)
-looks s t first_is (inl more) = record {
+pub looks : (s t : MemDiskState) → t.first ≡ s.first → t.name ≡ s.name → (t.changes ≡ s.changes ++ Nothing ∷ []) ⊎ (t.changes ≡ s.changes) → Looks (disk_state s) (disk_state t)
+looks s t first_is name_is (inl more) = record {
   reads = ap Some ((λ i. text_after (first_is i) (more i)) ∙ text_after-push s.first s.changes Nothing);
   crash = λ c left.
       let moved = subst (λ (l : List Change). MayLeave s.first l c) more (subst (λ (l : List ℕ). MayLeave l t.changes c) first_is left) in
       subst (λ (P : List ℕ → Type 0). P c) (outcomes_after-push (λ d. d ≡ s.first) s.first s.changes Nothing) moved;
   time = Elapses-call s t Nothing first_is more;
+  name = ap Some name_is;
 }
-looks s t first_is (inr same) = record {
+looks s t first_is name_is (inr same) = record {
   reads = ap Some (λ i. text_after (first_is i) (same i));
   crash = λ c left. subst (λ (l : List Change). MayLeave s.first l c) same (subst (λ (l : List ℕ). MayLeave l t.changes c) first_is left);
   time = Elapses-none s t first_is same;
+  name = ap Some name_is;
 }
 
 pub Torn-none : (at n : ℕ) (c : List ℕ) → Torn at n c c
@@ -60,34 +63,37 @@ Torn-none at n c =
     record { no_shorter = omega arith; before = ap (λ (l : List ℕ). take at l) whole; after = ap (λ (l : List ℕ). drop (at + n) l) whole }
 
 -- a write that failed
-pub not_written : (s t : MemDiskState) (at n : ℕ) → t.first ≡ s.first → (t.changes ≡ s.changes ++ Nothing ∷ []) ⊎ (t.changes ≡ s.changes) → Writes at n (disk_state s) (disk_state t)
-not_written s t at n first_is changes_are =
-    let looked = looks s t first_is changes_are in
+pub not_written : (s t : MemDiskState) (at n : ℕ) → t.first ≡ s.first → t.name ≡ s.name → (t.changes ≡ s.changes ++ Nothing ∷ []) ⊎ (t.changes ≡ s.changes) → Writes at n (disk_state s) (disk_state t)
+not_written s t at n first_is name_is changes_are =
+    let looked = looks s t first_is name_is changes_are in
     record {
       tells = (λ h. refl, λ h. refl);
       crash = λ c left. (c, looked.crash c left, Torn-none at n c);
       time = looked.time;
+      name = ap Some name_is;
     }
 
-pub wrote : (s t : MemDiskState) (at : ℕ) (piece : List ℕ) → t.first ≡ s.first → t.changes ≡ s.changes ++ Wrote at piece ∷ [] → Writes at (length piece) (disk_state s) (disk_state t)
-wrote s t at piece first_is more = record {
+pub wrote : (s t : MemDiskState) (at : ℕ) (piece : List ℕ) → t.first ≡ s.first → t.name ≡ s.name → t.changes ≡ s.changes ++ Wrote at piece ∷ [] → Writes at (length piece) (disk_state s) (disk_state t)
+wrote s t at piece first_is name_is more = record {
   tells = (λ h. refl, λ h. refl);
   crash = λ c left.
       let moved = subst (λ (l : List Change). MayLeave s.first l c) more (subst (λ (l : List ℕ). MayLeave l t.changes c) first_is left) in
       subst (λ (P : List ℕ → Type 0). P c) (outcomes_after-push (λ d. d ≡ s.first) s.first s.changes (Wrote at piece)) moved;
   time = Elapses-call s t (Wrote at piece) first_is more;
+  name = ap Some name_is;
 }
 
 pub wrote_text : (s t : MemDiskState) (at : ℕ) (piece : List ℕ) → t.first ≡ s.first → t.changes ≡ s.changes ++ Wrote at piece ∷ []
     → text_after t.first t.changes ≡ written (text_after s.first s.changes) at piece
 wrote_text s t at piece first_is more = (λ i. text_after (first_is i) (more i)) ∙ text_after-push s.first s.changes (Wrote at piece)
 
-pub synced : (s t : MemDiskState) → t.first ≡ s.first → t.changes ≡ s.changes ++ Synced ∷ [] → Looks (disk_state s) (disk_state t) × Only (text_after s.first s.changes) (MayLeave t.first t.changes)
-synced s t first_is more = (
+pub synced : (s t : MemDiskState) → t.first ≡ s.first → t.name ≡ s.name → t.changes ≡ s.changes ++ Synced ∷ [] → Looks (disk_state s) (disk_state t) × Only (text_after s.first s.changes) (MayLeave t.first t.changes)
+synced s t first_is name_is more = (
   record {
     reads = ap Some ((λ i. text_after (first_is i) (more i)) ∙ text_after-push s.first s.changes Synced);
     crash = λ c left. subst (MayLeave s.first s.changes) (sym (only c left)) (lawful s).as_read;
     time = Elapses-call s t Synced first_is more;
+    name = ap Some name_is;
   },
   only,
 )
@@ -202,24 +208,34 @@ fault_cases s = elim (cases_lt (length s.changes) s.call_room) [
 ]
 
 pub looks_fault : (s t : MemDiskState) → t ≡ after_fault s → Looks (disk_state s) (disk_state t)
-looks_fault s t is = looks s t (ap (λ (u : MemDiskState). u.first) is)
+looks_fault s t is = looks s t (ap (λ (u : MemDiskState). u.first) is) (ap (λ (u : MemDiskState). u.name) is)
     (⊎_elim (λ more. inl (ap (λ (u : MemDiskState). u.changes) is ∙ more)) (λ same. inr (ap (λ (u : MemDiskState). u.changes) is ∙ same)) (fault_cases s))
 
 pub looks_look : (s t : MemDiskState) → t ≡ after_look s → Looks (disk_state s) (disk_state t)
-looks_look s t is = looks s t (ap (λ (u : MemDiskState). u.first) is) (inl (ap (λ (u : MemDiskState). u.changes) is))
+looks_look s t is = looks s t (ap (λ (u : MemDiskState). u.first) is) (ap (λ (u : MemDiskState). u.name) is) (inl (ap (λ (u : MemDiskState). u.changes) is))
+
+-- a disk that could not be opened is as it was
+pub unopened_fault : (s t : MemDiskState) → t ≡ after_fault s → IsUnopened (disk_state s) (disk_state t)
+unopened_fault s t is =
+    let looked = looks_fault s t is in
+    record { looks = looked; held = λ name. looked.reads }
+
+pub on_err : {T E P : Type 0} (r : Result T E) → P → OnErr r P
+on_err (Ok x) p = tt
+on_err (Err e) p = p
 
 pub writes_fault : (s t : MemDiskState) (at n : ℕ) → t ≡ after_fault s → Writes at n (disk_state s) (disk_state t)
-writes_fault s t at n is = not_written s t at n (ap (λ (u : MemDiskState). u.first) is)
+writes_fault s t at n is = not_written s t at n (ap (λ (u : MemDiskState). u.first) is) (ap (λ (u : MemDiskState). u.name) is)
     (⊎_elim (λ more. inl (ap (λ (u : MemDiskState). u.changes) is ∙ more)) (λ same. inr (ap (λ (u : MemDiskState). u.changes) is ∙ same)) (fault_cases s))
 
 pub writes_write : (s t : MemDiskState) (at : ℕ) (piece : List ℕ) → t ≡ after_write s at piece → Writes at (length piece) (disk_state s) (disk_state t)
-writes_write s t at piece is = wrote s t at piece (ap (λ (u : MemDiskState). u.first) is) (ap (λ (u : MemDiskState). u.changes) is)
+writes_write s t at piece is = wrote s t at piece (ap (λ (u : MemDiskState). u.first) is) (ap (λ (u : MemDiskState). u.name) is) (ap (λ (u : MemDiskState). u.changes) is)
 
 pub text_write : (s t : MemDiskState) (at : ℕ) (piece : List ℕ) → t ≡ after_write s at piece → (disk_state t).reads ≡ Some (written (text_after s.first s.changes) at piece)
 text_write s t at piece is = ap Some (wrote_text s t at piece (ap (λ (u : MemDiskState). u.first) is) (ap (λ (u : MemDiskState). u.changes) is))
 
 pub syncs : (s t : MemDiskState) → t ≡ after_sync s → Looks (disk_state s) (disk_state t) × Only (text_after s.first s.changes) (disk_state t).may_leave
-syncs s t is = synced s t (ap (λ (u : MemDiskState). u.first) is) (ap (λ (u : MemDiskState). u.changes) is)
+syncs s t is = synced s t (ap (λ (u : MemDiskState). u.first) is) (ap (λ (u : MemDiskState). u.name) is) (ap (λ (u : MemDiskState). u.changes) is)
 
 pub text_look : (s t : MemDiskState) → t ≡ after_look s → text_after t.first t.changes ≡ text_after s.first s.changes
 text_look s t is = ap (λ (u : MemDiskState). text_after u.first u.changes) is ∙ text_after-push s.first s.changes Nothing

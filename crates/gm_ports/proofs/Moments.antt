@@ -42,6 +42,7 @@ Looks-none s = record {
   reads = refl;
   crash = λ c left. left;
   time = record { later = omega arith; nothing_else = λ t c le left. inl left; keeps = λ t c le left. left };
+  name = refl;
 }
 
 -- what the first call may leave, it could leave before, and so since any earlier moment
@@ -59,4 +60,5 @@ Looks-then old mid new lawful first second =
             (λ now. inr now) (second.time.nothing_else t c (omega arith) left);
         keeps = λ t c le left. second.time.keeps t c (omega arith) (first.time.keeps t c le left);
       };
+      name = second.name ∙ first.name;
     }

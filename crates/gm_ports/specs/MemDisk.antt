@@ -58,6 +58,8 @@ pub record MemDiskState : Type 0 where
   pub call_room : ℕ
   pub byte_room : ℕ
   pub calls : ScheduleState
+  -- the name under which it was opened last, and none of a byte before
+  pub name : List ℕ
 
 -- it tells everything, and holds the same under each name
 abbrev pub disk_state : MemDiskState → DiskState
@@ -67,6 +69,7 @@ disk_state s = record {
   moment = length s.changes;
   left_since = LeftSince s.first s.changes;
   held = λ name. Some (text_after s.first s.changes);
+  name = Some s.name;
   faults = s.calls.faults;
 }
 
@@ -116,6 +119,10 @@ after_fault s = record s { changes = with_fault s; calls = schedule.after_fault 
 -- after a call that only looked, one that wrote, and one that synced
 abbrev pub after_look : MemDiskState → MemDiskState
 after_look s = record s { changes = s.changes ++ Nothing ∷ []; calls = after_call s.calls }
+
+-- after it was opened under this name
+abbrev pub after_open : MemDiskState → List ℕ → MemDiskState
+after_open s name = record (after_look s) { name = name }
 
 abbrev pub after_write : MemDiskState → ℕ → List ℕ → MemDiskState
 after_write s at piece = record s { changes = s.changes ++ Wrote at piece ∷ []; taken = s.taken + length piece; calls = after_call s.calls }

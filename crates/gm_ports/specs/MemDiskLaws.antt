@@ -77,6 +77,10 @@ lawful s = record {
   only_now = λ c left.
       let all : length s.changes ≤ left.calls = left.since in
       subst (λ (l : List Change). MayLeave s.first l c) (take_all left.calls s.changes all) left.left;
+  ordered = λ t u c le left.
+      let since : u ≤ left.calls = left.since in
+      record { calls = left.calls; since = omega arith; until = left.until; left = left.left };
+  named = refl;
 }
 
 pub Elapses-none : (s t : MemDiskState) → t.first ≡ s.first → t.changes ≡ s.changes → Elapses (disk_state s) (disk_state t)

@@ -6,7 +6,7 @@
 //! and while a sync runs among what could be left before, so the moments between calls stand for those within them too.
 ghost use Rattle.std.specs.Prelude.{◌≡◌, ◌+◌, ◌^◌, ◌<◌, ◌≤◌, ℕ, List, Some, IfOk, OnOk, OnErr, IfSome, length, take, drop};
 ghost use Rattle.gm_ports.specs.Faults.{HasCause};
-ghost use Rattle.gm_ports.specs.DiskState.{DiskState, IsLawful, Looks, Writes, TellsStill, Only, written};
+ghost use Rattle.gm_ports.specs.DiskState.{DiskState, IsLawful, IsOpenAs, IsUnopened, Looks, Writes, TellsStill, Only, written};
 
 use crate::Failed;
 
@@ -18,6 +18,8 @@ pub trait Disk {
     /// Opens the disk of this name, which makes an empty one where there is none.
     fn open_disk(&mut self, name: &str) -> Result<(), Failed>
         ensures opened { OnOk result ((state self.new).reads ≡ (state self.old).held name.now) }
+        ensures named { OnOk result (IsOpenAs (state self.new) name.now) }
+        ensures unopened { OnErr result (IsUnopened (state self.old) (state self.new)) }
         ensures tells { TellsStill (state self.old) (state self.new) }
         ensures cause { HasCause (state self.old).faults (state self.new).faults result };
 

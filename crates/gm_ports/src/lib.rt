@@ -31,6 +31,7 @@ mod failed;
 mod file_list;
 mod files;
 mod gate;
+mod kept_name;
 mod mem_disk;
 mod mem_file;
 mod mem_files;

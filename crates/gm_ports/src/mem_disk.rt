@@ -6,19 +6,20 @@
 ghost use Rattle.std.specs.Prelude.{◌≡◌, ◌↔◌, ◌⊎◌, ◌+◌, ◌-◌, ◌^◌, ◌<◌, ◌≤◌, ◌++◌, ◌∷◌, [], false, Some, IfOk, OnOk, OnErr, IsErr, IsOk, IsTrue, length, take, drop, min, vec_len};
 ghost use Rattle.std.specs.Vec.{vec_capacity};
 ghost use Rattle.gm_ports.specs.Faults.{HasCause};
-ghost use Rattle.gm_ports.specs.DiskState.{Looks, Writes, TellsStill, Only, written};
+ghost use Rattle.gm_ports.specs.DiskState.{IsOpenAs, IsUnopened, Looks, Writes, TellsStill, Only, written};
 ghost use Rattle.gm_ports.specs.MemDiskLaws.{lawful};
-ghost use Rattle.gm_ports.specs.MemDisk.{disk_state, Wrote, Synced, Nothing, text_after, WillFail, HasPlace, with_call, after_fault, after_look, after_write, after_sync};
+ghost use Rattle.gm_ports.specs.MemDisk.{disk_state, Wrote, Synced, Nothing, text_after, WillFail, HasPlace, with_call, after_fault, after_look, after_open, after_write, after_sync};
 ghost use Rattle.gm_ports.specs.Schedule.{after_call};
 
 use crate::disk_call::DiskCall;
+use crate::kept_name::KeptName;
 use crate::schedule::Schedule;
 use crate::{Calls, Disk, Failed};
 use std::alloc::{AllocError, Global};
 use std::marker::Model;
 
-/// One disk, the same under every name, that tells all. It fails at the calls that it was told to fail at and where it
-/// has no room, and such a call changes nothing of it.
+/// One disk, the same under every name, that tells all, the last name too. It fails at the calls that it was told to fail
+/// at and where it has no room, and such a call changes nothing of it.
 #[derive(Drop)]
 pub struct MemDisk {
     first: Vec<u8>,
@@ -29,6 +30,8 @@ pub struct MemDisk {
     call_room: u64,
     byte_room: u64,
     calls: Schedule,
+    // under which it was opened last
+    name: KeptName,
 }
 
 impl Model for MemDisk {
@@ -45,6 +48,7 @@ impl Model for MemDisk {
       call_room = d.call_room;
       byte_room = d.byte_room;
       calls = d.calls;
+      name = d.name;
     } };
 
     ghost invariant = { λ d. IsInStep d.first.items d.bytes.items d.pieces.items d.kept.items d.call_room d.byte_room (vec_capacity d.kept) (vec_capacity d.bytes) (vec_capacity d.pieces) };
@@ -69,6 +73,7 @@ impl MemDisk {
               call_room = call_room;
               byte_room = byte_room;
               calls = record { failing = failing; calls = 0; faults = 0 };
+              name = [];
             }) }
     {
         let mut bytes = Vec::from_slice(alloc, text)?;
@@ -81,6 +86,7 @@ impl MemDisk {
             call_room,
             byte_room,
             calls: Schedule::new(failing),
+            name: KeptName::new(alloc)?,
         })
     }
 
@@ -205,16 +211,19 @@ fn copy_out(text: &[u8], at: u64, into: &mut [u8]) -> usize
 impl Disk for MemDisk {
     ghost state = { disk_state };
 
-    fn open_disk(&mut self, _name: &str) -> Result<(), Failed>
+    fn open_disk(&mut self, name: &str) -> Result<(), Failed>
         ensures fails { IsErr result ↔ WillFail self.old }
-        ensures ok { OnOk result (self.new ≡ after_look self.old) }
+        ensures ok { OnOk result (self.new ≡ after_open self.old name.now) }
         ensures err { OnErr result (self.new ≡ after_fault self.old) }
-        ensures opened { OnOk result ((disk_state self.new).reads ≡ (disk_state self.old).held _name.now) }
+        ensures opened { OnOk result ((disk_state self.new).reads ≡ (disk_state self.old).held name.now) }
+        ensures named { OnOk result (IsOpenAs (disk_state self.new) name.now) }
+        ensures unopened { OnErr result (IsUnopened (disk_state self.old) (disk_state self.new)) }
         ensures tells { TellsStill (disk_state self.old) (disk_state self.new) }
         ensures cause { HasCause self.old.calls.faults self.new.calls.faults result }
     {
         self.begin(true)?;
         self.look();
+        self.name.keep(name);
         Ok(())
     }
 
