@@ -17,3 +17,4 @@ pub record IsReadied {D : Type 0} (state : D → DiskState) (old new : D) (last 
   pub since : (c : List ℕ) → (state new).left_since (state old).moment c → (state old).may_leave c ⊎ (state new).left_since (state mid).moment c
   pub with_gate : last ≢ None → Looks (state old) (state new) × (new ≡ mid)
   pub tells : TellsStill (state old) (state new)
+  pub name : (state new).name ≡ (state old).name

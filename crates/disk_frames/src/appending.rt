@@ -23,6 +23,7 @@ pub fn append<D: Disk>(disk: &mut D, gate: u64, text: &FramedText) -> Result<u64
     ensures written { OnOk result (IfSome (D.state disk.old).reads (λ bytes. gate < length bytes
         → (D.state disk.new).reads ≡ Some (written (written bytes (gate + 1) (piece_of text.now)) gate (1 ∷ [])))) }
     ensures tells { TellsStill (D.state disk.old) (D.state disk.new) }
+    ensures name { (D.state disk.new).name ≡ (D.state disk.old).name }
     ensures cause { HasCause (D.state disk.old).faults (D.state disk.new).faults result }
 {
     disk.write_at(gate + 1, text.piece())?;
