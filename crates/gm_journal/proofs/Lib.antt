@@ -4,5 +4,7 @@ pub mod SalvagingLemmas
 mod HistoryLemmas
 mod RoomLemmas
 mod KeptLemmas
+pub mod TracedLemmas
 mod Orders
+mod SameLemmas
 mod StartLemmas

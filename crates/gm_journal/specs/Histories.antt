@@ -35,6 +35,23 @@ kept_by appended.Memory w = []
 abbrev pub kept_in : List EntryView → List Written
 kept_in entries = flat_map (λ (e : EntryView). kept_by e.reply e.text) entries
 
+-- what an entry appended, be it acknowledged or not
+abbrev pub tried_by : Appended → Written → List Written
+tried_by appended.Ok w = w ∷ []
+tried_by appended.Already w = []
+tried_by appended.Closed w = []
+tried_by (appended.Failed count) w = w ∷ []
+tried_by appended.Memory w = []
+
+-- what was appended, in order: what was put into the journal, and then what failed
+abbrev pub tried_in : List EntryView → List Written
+tried_in entries = flat_map (λ (e : EntryView). tried_by e.reply e.text) entries
+
+-- the disk's moment at the end of the last of these entries, and where there is none this one
+abbrev pub last_moment : ℕ → List EntryView → ℕ
+last_moment moment [] = moment
+last_moment moment (e ∷ es) = last_moment e.moment es
+
 -- the kinds and the sets that the journal has: the opening's, and then those that were put into it
 abbrev pub founds_in : OpeningView → List EntryView → List Found
 founds_in o before = founds o.records ++ map (λ (w : Written). w.found) (kept_in before)

@@ -2,7 +2,7 @@
 --
 -- All seats' appends are one history, each one entry; it is legal where each answer is the one that a journal with the entries
 -- before gives (linearizability: Herlihy and Wing 1990).
-use Rattle.std.specs.Prelude.{◌≡◌, ℕ, ◌<◌, ◌^◌, List, [], ◌∷◌, ◌++◌, length, Some}
+use Rattle.std.specs.Prelude.{◌≡◌, ℕ, ◌<◌, ◌^◌, List, [], ◌∷◌, ◌++◌, length, Some, IsSome}
 use Rattle.gm_base.specs.Problem.{Problem}
 use Rattle.gm_ports.specs.Faults.{Rose}
 use Rattle.gm_ports.specs.DiskState.{DiskState}
@@ -19,7 +19,7 @@ use Rattle.gm_journal.specs.declared.journal.JournalClosing.{JournalClosing}
 use Rattle.gm_journal.specs.declared.journal.JournalClosing.TheVariants as closing
 use Rattle.gm_journal.specs.Entries.{OpeningView, EntryView, who_of}
 use Rattle.gm_journal.specs.Histories.{count_in, MayAppend, Answers, IsLegal}
-use Rattle.gm_journal.specs.Books.{BookState, IsKept, IsKeptOpen}
+use Rattle.gm_journal.specs.Books.{BookState, IsKept, IsKeptOpen, IsOpenedOn, IsGoneOn, IsWhole}
 
 -- ---- appending
 
@@ -47,17 +47,21 @@ pub record IsAppend (o : OpeningView) (s : SeatView EntryView OpeningView) (w : 
 
 -- ---- starting
 
--- the journal is one of the problem and the salvaged records, with the disk's count of faults
-abbrev pub opening_of : Problem → List Record → ℕ → ℕ → OpeningView
-opening_of p records seats faults = record { problem = p; records = records; seats = seats; faults = faults }
+-- the journal is one of this problem and of these records, with so many seats
+pub record IsOpeningFor (p : Problem) (rs : List Record) (count : ℕ) (o : OpeningView) : Type 0 where
+  pub problem : o.problem ≡ p
+  pub records : o.records ≡ rs
+  pub seats : o.seats ≡ count
 
--- what a start answers, where the disk was this one: of the disk that it leaves, and of the journal with its seats
+-- what a start answers, where the disk was this one: of the disk that it leaves, and of the journal with its seats, which was opened
+-- on that very disk
 abbrev pub TellsStarted : {D : Type 0} → (D → DiskState) → D → Problem → Salvaged → ℕ → Started D → Type 0
 TellsStarted {D} state disk p s count (started.Opened journal seats records) =
-    (journal.opening ≡ opening_of p s.records count (state disk).faults)
+    IsOpeningFor p s.records count journal.opening
     × AreNew journal count seats.items
     × (records ≡ s.records)
-    × ((now : D) × IsReadied state disk now s.last
+    × ((now : D) × IsOpenedOn (state now) journal.opening
+    × IsReadied state disk now s.last
     × IsMade (state disk) (state now) s.gate s.last
     × ((state now).faults ≡ (state disk).faults)
     × ((bytes : List ℕ) → (state now).reads ≡ Some bytes → IsKept (state now) journal.opening [] s.gate))
@@ -72,14 +76,17 @@ IsShared book count records (started.Memory now) = now ≡ book.disk
 
 -- ---- closing
 
--- one history has the appends of all seats and nothing else. The disk's count of faults is the opening's, or the one that an
--- append answered; and until one failed the disk, where it tells, has the opening's records and what was put behind them
+-- One history has the appends of all seats and nothing else. The disk's count of faults is the opening's, or the one that an
+-- append answered; and until one failed the disk, where it tells, has the opening's records and what was put behind them. Whatever
+-- failed, it is the disk of the opening gone on; and where it tells, no record is lost that was acknowledged, and none is made up
 pub record IsLeft (disk : DiskState) (o : OpeningView) (seats : List (SeatView EntryView OpeningView)) : Type 0 where
   pub history : List EntryView
   pub seats_are : HasAll who_of IsLegal o seats history
   pub gate : ℕ
   pub kept : IsKeptOpen disk o history gate
   pub count : disk.faults ≡ count_in o.faults history
+  pub gone_on : IsGoneOn disk o history
+  pub whole : IsSome disk.reads → IsWhole disk o history
 
 -- closing needs no memory, so that the journal is held is no answer
 abbrev pub TellsClosing : {D : Type 0} → (D → DiskState) → OpeningView → List (SeatView EntryView OpeningView) → JournalClosing D → Type 0

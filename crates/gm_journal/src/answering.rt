@@ -33,6 +33,7 @@ pub(crate) fn answer<D: Disk>(
     ensures small { IsSmallText text.text result }
     ensures untouched { IsUnasked result → disk.new ≡ disk.old }
     ensures tells { TellsStill (D.state disk.old) (D.state disk.new) }
+    ensures name { (D.state disk.new).name ≡ (D.state disk.old).name }
     ensures cause { AppendHasCause (D.state disk.old).faults (D.state disk.new).faults result }
 {
     if *is_closed {

@@ -3,14 +3,14 @@
 //! It keeps the disk, the sets of the records that are on it, the gate at which they end, whether an append failed, and its
 //! entries. While none failed, the frames of its records stand on the disk, and nothing is pending; afterwards the disk is
 //! not touched any more, so what the failure left stays.
-ghost use Rattle.std.specs.Prelude.{◌≡◌, ◌+◌, ◌<◌, ◌^◌, ◌++◌, ◌∷◌, [], false, ℕ, List, Some, IfOk, IfErr, length};
+ghost use Rattle.std.specs.Prelude.{◌≡◌, ◌+◌, ◌<◌, ◌^◌, ◌++◌, ◌∷◌, [], false, ℕ, List, Some, IfOk, IfErr, IsSome, length};
 ghost use Rattle.gm_ports.specs.DiskState.{TellsStill, AtEachMoment};
 ghost use Rattle.turn_lock.specs.Calls.{calls_by};
 ghost use Rattle.evidence_rec.specs.Index.{IsIndex};
 ghost use Rattle.evidence_text.specs.Readable.{IsSmall};
 ghost use Rattle.gm_journal.specs.Entries.{EntryView, who_of};
 ghost use Rattle.gm_journal.specs.Histories.{kept_in, has_failed, count_in, MayAppend, Tells, IsLegal, IsUnasked, AppendHasCause};
-ghost use Rattle.gm_journal.specs.Books.{KeepsWithOrWithout, IsKept, IsKeptOpen};
+ghost use Rattle.gm_journal.specs.Books.{KeepsWithOrWithout, IsKept, IsKeptOpen, IsOpenedOn, IsGoneOn, IsWhole};
 
 use crate::answering::answer;
 use crate::entry::{Appended, Entry, Opening};
@@ -36,8 +36,8 @@ pub struct JournalBook<D: Disk> {
     gate: u64,
     is_closed: bool,
     seats: u32,
-    opening: Opening,
-    history: Vec<Entry>,
+    opening: Opening<D>,
+    history: Vec<Entry<D>>,
 }
 
 impl<D: Disk> Model for JournalBook<D> {
@@ -59,14 +59,14 @@ impl<D: Disk> JournalBook<D> {
         held: Held,
         gate: u64,
         seats: u32,
-        opening: Opening,
+        opening: Opening<D>,
     ) -> Result<JournalBook<D>, Unopened<D>>
         requires small { IsSmall opening.problem }
         requires gate { gate + 1 < 2 ^ 64 }
         requires seats { seats ≡ opening.seats }
         requires held { IsIndex held opening.records }
         requires kept { (bytes : List ℕ) → (D.state disk).reads ≡ Some bytes → IsKept (D.state disk) opening [] gate }
-        requires count { (D.state disk).faults ≡ opening.faults }
+        requires disk { IsOpenedOn (D.state disk) opening }
         ensures ok { IfOk result (λ book. book ≡ record { disk = disk; gate = gate; opening = opening; history = [] }) }
         ensures err { IfErr result (λ e. e.disk ≡ disk) }
     {
@@ -84,11 +84,14 @@ impl<D: Disk> JournalBook<D> {
         }
     }
 
-    /// The disk. Where it tells and no append failed, it has all records and nothing is pending.
+    /// The disk. Where it tells and no append failed, it has all records and nothing is pending; and where one did, it has all that
+    /// were acknowledged, and maybe that one.
     pub fn into_disk(self) -> D
         ensures disk { result ≡ self.disk }
         ensures kept { IsKeptOpen (D.state result) self.opening self.history self.gate }
         ensures count { (D.state result).faults ≡ count_in self.opening.faults self.history }
+        ensures gone_on { IsGoneOn (D.state result) self.opening self.history }
+        ensures whole { IsSome (D.state result).reads → IsWhole (D.state result) self.opening self.history }
     {
         self.disk
     }
@@ -99,9 +102,9 @@ impl<D: Disk> Book for JournalBook<D> {
 
     type Reply = Appended;
 
-    type Entry = Entry;
+    type Entry = Entry<D>;
 
-    type Opening = Opening;
+    type Opening = Opening<D>;
 
     ghost opening = { λ b. b.opening };
 
@@ -129,16 +132,17 @@ impl<D: Disk> Book for JournalBook<D> {
         // While no append has failed, all records are on the disk between two entries.
         ensures kept { IsKeptOpen (D.state self.new.disk) self.new.opening self.new.history self.new.gate }
         ensures untouched { IsUnasked result → self.new.disk ≡ self.old.disk }
+
+        // Whatever failed, what a crash leaves since an earlier entry has each record that was acknowledged by then.
+        ensures gone_on { IsGoneOn (D.state self.new.disk) self.new.opening self.new.history }
+        ensures whole { IsSome (D.state self.new.disk).reads → IsWhole (D.state self.new.disk) self.new.opening self.new.history }
         ensures tells { TellsStill (D.state self.old.disk) (D.state self.new.disk) }
         ensures cause { AppendHasCause (D.state self.old.disk).faults (D.state self.new.disk).faults result }
     {
         let text = Snapshot::of(&op);
         if self.history.reserve(self.seats as usize + 1).is_err() {
-            self.history.push_reserved(Entry {
-                who,
-                text,
-                reply: Appended::Memory,
-            });
+            self.history
+                .push_reserved(Entry::at_end(who, text, Appended::Memory, &self.disk));
             return Appended::Memory;
         }
         let reply = answer(
@@ -148,7 +152,8 @@ impl<D: Disk> Book for JournalBook<D> {
             &mut self.is_closed,
             op,
         );
-        self.history.push_reserved(Entry { who, text, reply });
+        self.history
+            .push_reserved(Entry::at_end(who, text, reply, &self.disk));
         reply
     }
 }

@@ -22,7 +22,7 @@ use std::sync::Wait;
 use turn_lock::{Book, LockClosing, NoRoom, TurnLock};
 
 /// The right to append, one record after the other.
-pub type Seat = turn_lock::Seat<Entry, Opening>;
+pub type Seat<D> = turn_lock::Seat<Entry<D>, Opening<D>>;
 
 /// A book behind a lock of its own, whatever the book is: so it is seen that threads may share it.
 #[derive(Drop)]
@@ -47,7 +47,7 @@ pub enum Started<D: Disk> {
     /// The journal, its seats, numbered from 0 in the order of the list, and the records that were salvaged.
     Opened {
         journal: Journal<D>,
-        seats: Vec<Seat>,
+        seats: Vec<Seat<D>>,
         records: Records,
     },
     /// The disk failed.
@@ -65,7 +65,7 @@ pub enum Started<D: Disk> {
 pub enum JournalClosing<D: Disk> {
     Ended(D),
     /// There was no memory for it: the journal goes on, with all its seats. `close` needs none, so this is never answered.
-    Held(Journal<D>, Vec<Seat>),
+    Held(Journal<D>, Vec<Seat<D>>),
 }
 
 impl<D: Disk + Drop> Journal<D> {
@@ -93,15 +93,15 @@ impl<D: Disk + Drop> Journal<D> {
         let Ok(held) = sets_of(alloc, records.as_slice()) else {
             return Started::Memory { disk };
         };
+        if disk_frames::start(&mut disk, End { gate, last }).is_err() {
+            return Started::Failed { disk };
+        }
         let opening = Opening {
             problem: Snapshot::of(problem),
             records: Snapshot::of(&records),
             seats,
-            faults: disk.faults(),
+            disk: Snapshot::of(&disk),
         };
-        if disk_frames::start(&mut disk, End { gate, last }).is_err() {
-            return Started::Failed { disk };
-        }
         match JournalBook::open(alloc, disk, held, gate, seats, opening) {
             Ok(book) => share(alloc, book, seats, records),
             Err(Unopened { disk }) => Started::Memory { disk },
@@ -112,7 +112,7 @@ impl<D: Disk + Drop> Journal<D> {
 impl<D: Disk> Journal<D> {
     /// Puts the record behind those that the journal has, and answers when it is on the disk. It may wait for other seats'
     /// turns.
-    pub fn append<R: Wait>(&self, rt: &R, seat: &mut Seat, text: RecordText) -> Appended
+    pub fn append<R: Wait>(&self, rt: &R, seat: &mut Seat<D>, text: RecordText) -> Appended
         requires { MayCall self.now seat.old text }
         ensures { IsAppend self.now.opening seat.old text result seat.new }
     {
@@ -120,7 +120,7 @@ impl<D: Disk> Journal<D> {
     }
 
     /// Ends the journal and gives its disk. It takes all seats that `start` gave, in their order, and no memory.
-    pub fn close(self, seats: Vec<Seat>) -> JournalClosing<D>
+    pub fn close(self, seats: Vec<Seat<D>>) -> JournalClosing<D>
         requires { AreAll self seats.items }
         ensures { TellsClosing D.state self.opening seats.items result }
     {

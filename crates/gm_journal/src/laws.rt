@@ -3,7 +3,7 @@ ghost use Rattle.std.specs.Prelude.{◌≡◌, ℕ, List, Some};
 ghost use Rattle.evidence_text.specs.Alone.{Written};
 ghost use Rattle.gm_journal.specs.Entries.{OpeningView};
 ghost use Rattle.gm_journal.specs.Books.{IsKept, Keeps};
-ghost use Rattle.gm_journal.specs.Laws.{SalvagedInOneWay, SalvagedAreNotForeign, ForeignAtOnePlace, HeldTextsAreSalvaged};
+ghost use Rattle.gm_journal.specs.Laws.{SalvagedInOneWay, SalvagedAreNotForeign, ForeignAtOnePlace, HeldTextsAreSalvaged, AppendedAreOfRecords, KeptTextsAreOfTheirRecords, FrontTextsAreOfTheirRecords};
 
 use gm_ports::Disk;
 
@@ -14,6 +14,14 @@ pub fn salvage_is_one()
     ensures not_foreign { SalvagedAreNotForeign }
     ensures one_place { ForeignAtOnePlace }
     ensures crash { HeldTextsAreSalvaged }
+{}
+
+/// What is appended are the texts of records. Where they were put into a journal, or a front part of them, a salvage gives these
+/// records, and not others of the same sets.
+pub fn texts_are_of_their_records()
+    ensures appended { AppendedAreOfRecords }
+    ensures kept { KeptTextsAreOfTheirRecords }
+    ensures front { FrontTextsAreOfTheirRecords }
 {}
 
 /// A disk that keeps a journal's records is salvaged with just these, as it reads and as a crash leaves it.

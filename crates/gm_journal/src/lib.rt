@@ -37,6 +37,7 @@
 
 mod answering;
 mod book;
+mod crossing;
 mod entry;
 mod journal;
 mod judging;

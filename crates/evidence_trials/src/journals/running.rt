@@ -22,7 +22,7 @@ use trial_script::{Step, show};
 pub(crate) struct Running {
     problem: Problem,
     journal: Journal<MemDisk>,
-    seat: Seat,
+    seat: Seat<MemDisk>,
     may_append: bool,
     ghost of: { journal.opening.problem ≡ problem },
     ghost seated: { IsSeated journal may_append seat },

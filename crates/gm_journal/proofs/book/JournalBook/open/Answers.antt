@@ -9,7 +9,7 @@ use Rattle.gm_journal.proofs.book.JournalBook.open.Goals as goal
 pub invariant_of-result : goal.invariant_of-result
 invariant_of-result g c = (
   subst (λ (es : List EntryView). IsInOrder (g.D.Disk.state c.args.disk) c.args.held c.args.gate false c.args.opening es (vec_capacity c.in-Ok.history)) (sym c.in-Ok.ensures.items)
-      (opened_order (g.D.Disk.state c.args.disk) c.args.held c.args.gate c.args.opening (vec_capacity c.in-Ok.history) c.requires.small c.requires.kept c.requires.held c.requires.count c.requires.gate
+      (opened_order (g.D.Disk.state c.args.disk) c.args.held c.args.gate c.args.opening (vec_capacity c.in-Ok.history) c.requires.small (g.met.D.Disk.lawful c.args.disk) c.requires.kept c.requires.held c.requires.disk c.requires.gate
       (subst (λ (n : ℕ). c.args.opening.seats ≤ n) (sym c.in-Ok.ensures.exact) (subst (λ (n : ℕ). n ≤ c.args.seats) c.requires.seats (omega arith)))),
   c.requires.seats,
 )

@@ -12,3 +12,4 @@ returns-in-Closed g c =
     let opening = c.in-Closed.ensures.opening ∙ ap (λ (b : LockView OpeningView). b.opening) c.self.view_is in
     let has = subst (λ (b : LockView OpeningView). HasAll who_of IsLegal b.opening c.args.seats.items book.history) c.self.view_is c.in-Closed.ensures.history in
     is_left (g.D.Disk.state c.into_disk.result) c.args.self.opening book.opening c.args.seats.items book.history book.gate opening has c.into_disk.ensures.kept c.into_disk.ensures.count
+    c.into_disk.ensures.gone_on c.into_disk.ensures.whole
