@@ -96,11 +96,12 @@ impl<D: Disk + Drop> Journal<D> {
         if disk_frames::start(&mut disk, End { gate, last }).is_err() {
             return Started::Failed { disk };
         }
+        let ready = Snapshot::of(&disk);
         let opening = Opening {
             problem: Snapshot::of(problem),
             records: Snapshot::of(&records),
             seats,
-            disk: Snapshot::of(&disk),
+            disk: ready,
         };
         match JournalBook::open(alloc, disk, held, gate, seats, opening) {
             Ok(book) => share(alloc, book, seats, records),
