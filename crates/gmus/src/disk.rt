@@ -2,11 +2,8 @@
 ghost use Rattle.std.specs.Prelude.{None, ⊤, ◌+◌, ◌<◌, ◌≤◌, ◌-◌, ◌^◌, OnOk, length};
 ghost use Rattle.gm_ports.specs.Faults.{Rose};
 
-use crate::clash::no_clash;
-use crate::fault::{Fault, nothing_opened};
-use crate::journal_file::open_journal;
-use crate::names::Names;
 use gm_ports::{Disk, Failed};
+use os_files::{Fault, Names, no_clash, nothing_opened, open_journal};
 use std::alloc::Global;
 use std::fs::File;
 use std::io;

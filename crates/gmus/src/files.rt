@@ -2,11 +2,8 @@
 ghost use Rattle.std.specs.Prelude.{◌≡◌, None, ◌≤◌, ◌-◌, ◌^◌};
 ghost use Rattle.gm_ports.specs.Faults.{Rose};
 
-use crate::clash::no_clash;
-use crate::fault::{Fault, nothing_opened, nothing_taken};
-use crate::names::Names;
-use crate::output::{Maker, Output};
 use gm_ports::{Failed, Files};
+use os_files::{Fault, Maker, Names, Output, no_clash, nothing_opened, nothing_taken};
 use std::alloc::Global;
 use std::io::Read;
 use std::{fs, io, rt};

@@ -1,14 +1,8 @@
 //! The program: the real files and streams, the words of the command line, and one call of `run`.
 #![tactic(auto)]
 
-mod clash;
 mod disk;
-mod fault;
 mod files;
-mod journal_file;
-mod leads;
-mod names;
-mod output;
 mod second_line;
 mod sinks;
 mod system;
@@ -19,7 +13,7 @@ use disk::RealDisk;
 use files::RealFiles;
 use gm_ports::write_all;
 use gm_words::read_words;
-use names::Names;
+use os_files::Names;
 use second_line::{fault_of, tell_of_bytes, tell_of_fault, tell_of_words};
 use sinks::StreamSink;
 use std::alloc::{AllocError, Global};

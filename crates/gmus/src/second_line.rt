@@ -3,11 +3,11 @@
 //!
 //! `run` writes the first line, which programs read. The second begins with two blanks, and never with `gmus: `.
 use crate::disk::RealDisk;
-use crate::fault::Fault;
 use crate::files::RealFiles;
 use crate::sinks::StreamSink;
 use gm_ports::write_all;
 use gm_words::why_unread;
+use os_files::Fault;
 use std::alloc::Global;
 use std::env::{Env, FillError};
 use std::fmt::{Display, Formatter};

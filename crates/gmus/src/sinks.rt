@@ -1,8 +1,8 @@
 //! The standard streams of the system. What they got is not told.
 ghost use Rattle.std.specs.Prelude.{None, ◌≤◌, ◌-◌, ◌^◌};
 
-use crate::fault::{Fault, nothing_taken};
 use gm_ports::{Failed, Sink};
+use os_files::{Fault, nothing_taken};
 use std::io;
 use std::io::Print;
 

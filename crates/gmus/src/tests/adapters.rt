@@ -1,8 +1,8 @@
 //! Calls of the adapters in a row, and what they answered.
 use crate::files::RealFiles;
-use crate::names::Names;
 use crate::sinks::StreamSink;
 use gm_ports::{Files, Reading, Sink, read_whole};
+use os_files::Names;
 use std::alloc::Global;
 use std::io::Print;
 use std::{fs, rt};

@@ -1,7 +1,7 @@
 //! Calls of a file as a disk in a row, and what they answered.
 use crate::disk::RealDisk;
-use crate::names::Names;
 use gm_ports::Disk;
+use os_files::Names;
 use std::fs;
 
 // The text that is written at the front, as a journal begins, and what is written over its end.

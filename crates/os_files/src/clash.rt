@@ -27,16 +27,7 @@ pub fn no_clash<'n, R: rt::Files>(
     names: &Names<'n>,
 ) -> Result<(), Fault<'n>> {
     let mut taken = Taken::new(rt, alloc);
-    taken.add(Some(STANDARD_OUTPUT))?;
-    taken.add(Some(STANDARD_ERROR))?;
-    taken.look(names.input)?;
-    taken.look(names.other_input)?;
-    taken.look(names.renewed)?;
-    taken.add(names.input)?;
-    taken.add(names.other_input)?;
-    taken.look(names.output)?;
-    taken.add(names.output)?;
-    taken.look(names.other_output)
+    taken.look_over(names)
 }
 
 /// Files to which no other name may lead.
@@ -61,6 +52,20 @@ impl<'r, R: rt::Files> Taken<'r, R> {
             alloc,
             files: Vec::new(alloc),
         }
+    }
+
+    /// Adds and looks at the names of a command line, in this order.
+    fn look_over<'n>(&mut self, names: &Names<'n>) -> Result<(), Fault<'n>> {
+        self.add(Some(STANDARD_OUTPUT))?;
+        self.add(Some(STANDARD_ERROR))?;
+        self.look(names.input)?;
+        self.look(names.other_input)?;
+        self.look(names.renewed)?;
+        self.add(names.input)?;
+        self.add(names.other_input)?;
+        self.look(names.output)?;
+        self.add(names.output)?;
+        self.look(names.other_output)
     }
 
     /// Adds the file that this name leads to.

@@ -2,6 +2,9 @@
 //!
 //! Links are followed. Two names are one file if both lead to one regular file: its device and its inode tell. A name under which
 //! no file stands leads to where one would be made: a folder, and the name in it.
+ghost use Rattle.std.specs.Prelude.{◌↔◌, IsTrue};
+ghost use Rattle.os_files.specs.Leads.{AreOne};
+
 use std::alloc::Global;
 use std::io::ErrorKind;
 use std::os::unix::fs::MetadataExt;
@@ -28,7 +31,9 @@ pub enum Leads {
 
 impl Leads {
     /// Whether both lead to one regular file, or would.
-    pub fn is_one_with(&self, other: &Leads) -> bool {
+    pub fn is_one_with(&self, other: &Leads) -> bool
+        ensures { IsTrue result ↔ AreOne self.now other.now }
+    {
         match (self, other) {
             (
                 Leads::File { device, inode },
