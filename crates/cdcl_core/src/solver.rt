@@ -81,7 +81,7 @@ impl Solver {
         ensures { IfOk result (λ solver. solver ≡ record { vars = vars; log = []; true_first = true_first; broken = false }) }
     {
         let plan = Plan::new(alloc, vars)?;
-        let trail = Trail::new(alloc, vars)?;
+        let trail = Trail::untouched(alloc, vars)?;
         let store = Store::new(alloc, vars)?;
         let search = Search {
             log,

@@ -100,6 +100,20 @@ admitted_new vars touched heap none is = λ i. (λ has. absurd (omega (arith, ha
     not_touched : (i : ℕ) → slice_index_or touched i false ≡ false
     not_touched i = ap (λ (bs : List Bool). slice_index_or bs i false) is ∙ replicated vars i
 
+-- the variables are touched one by one
+pub touched_step : (index vars : ℕ) → index < vars
+    → set (replicate index true ++ replicate (vars - index) false) index true ≡ replicate (index + 1) true ++ replicate (vars - (index + 1)) false
+touched_step index vars h =
+    let left : vars - index ≡ suc (vars - (index + 1)) = omega (arith, h) in
+    let more : suc index ≡ index + 1 = omega arith in
+    ap (λ (n : ℕ). set (replicate index true ++ replicate n false) index true) left
+    ∙ next index (vars - (index + 1))
+    ∙ ap (λ (n : ℕ). replicate n true ++ replicate (vars - (index + 1)) false) more
+  where
+    next : (index rest : ℕ) → set (replicate index true ++ replicate (suc rest) false) index true ≡ replicate (suc index) true ++ replicate rest false
+    next zero rest = refl
+    next (suc index) rest = ap (λ (bs : List Bool). true ∷ bs) (next index rest)
+
 -- the literal of a variable takes the place of the one before
 pub held_note : (vars : ℕ) (held : List ℤ) (lit : ℤ) → IsLiteral vars lit → length held ≡ vars → AreOfVars vars held
     → AreOfVars vars (set held (var_of lit - 1) lit)

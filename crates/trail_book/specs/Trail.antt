@@ -25,12 +25,20 @@ positive_from first zero = []
 positive_from first (suc count) = pos first ∷ positive_from (first + 1) count
 
 -- no literal was ever true, and no variable is touched
+abbrev pub untouched_trail : ℕ → Trail
+untouched_trail vars = record { vars = vars; entries = []; done = 0; ranking = unranked vars; held = positive_from 1 vars; touched = replicate vars false }
+
+-- no literal was ever true, and every variable is touched
 abbrev pub new_trail : ℕ → Trail
-new_trail vars = record { vars = vars; entries = []; done = 0; ranking = unranked vars; held = positive_from 1 vars; touched = replicate vars false }
+new_trail vars = record (untouched_trail vars) { touched = replicate vars true }
 
 -- the variable of the literal is touched
 abbrev pub IsTouched : List Bool → ℤ → Type 0
 IsTouched touched lit = slice_index_or touched (var_of lit - 1) false ≡ true
+
+-- every variable is touched
+abbrev pub AreAllTouched : Trail → Type 0
+AreAllTouched trail = (lit : ℤ) → IsLiteral trail.vars lit → IsTouched trail.touched lit
 
 -- the literals that are true
 abbrev pub trues : List Entry → List ℤ

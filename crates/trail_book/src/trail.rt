@@ -6,11 +6,11 @@
 //! and backtracking takes slots from the end while theirs is too high. Room for one slot a variable is taken at the
 //! start, and no variable stands twice, so nothing that comes later can want memory.
 //!
-//! No decision is made on a variable until it is touched. Each touched variable without value waits in a heap, the first in
-//! the order of decisions at its top. A variable that gets a value stays there until it comes to the top, since most lose
-//! their value again before that. One that loses its value is taken in without order. Only a decision asks for order, and
-//! what has a value by then is let go before. A variable that is not touched costs a decision nothing: the heap does not
-//! admit it.
+//! Decisions are made on touched variables alone: on all of them, unless the trail began untouched. Each touched variable
+//! without value waits in a heap, the first in the order of decisions at its top. A variable that gets a value stays there
+//! until it comes to the top, since most lose their value again before that. One that loses its value is taken in without
+//! order. Only a decision asks for order, and what has a value by then is let go before. A variable that is not touched
+//! costs a decision nothing: the heap does not admit it.
 //!
 //! Where there are at most 64 variables, the true literals are kept as a set besides, in two words.
 //!
@@ -24,7 +24,7 @@ ghost use Rattle.lit_words.specs.Words.{AreWordsOf};
 ghost use Rattle.trail_book.specs.declared.entry.Entry.{Entry};
 ghost use Rattle.trail_book.specs.Slots.{entry_of};
 ghost use Rattle.trail_book.specs.Order.{IsPositive, activity_of, bumped, halved, grown, turned};
-ghost use Rattle.trail_book.specs.Trail.{trues, top, keep, oldest, IsTrail, IsPlace, with_unit, positive_from, new_trail, IsTouched, IsFirst, IsReordered};
+ghost use Rattle.trail_book.specs.Trail.{trues, top, keep, oldest, IsTrail, IsPlace, with_unit, positive_from, new_trail, untouched_trail, IsTouched, AreAllTouched, IsFirst, IsReordered};
 
 use crate::entry::Entry;
 use crate::heap::Heap;
@@ -72,10 +72,23 @@ impl Model for Trail {
 }
 
 impl Trail {
-    /// No literal is true, and no variable is touched. All memory that the trail will ever need is taken here.
+    /// No literal is true, and decisions are made on every variable. All memory that the trail will ever need is taken here.
     pub fn new(alloc: Global, vars: u32) -> Result<Trail, AllocError>
         requires { vars < 2 ^ 31 }
-        ensures { IfOk result (λ trail. trail ≡ new_trail vars) }
+        ensures trail { IfOk result (λ trail. trail ≡ new_trail vars) }
+        ensures touched { IfOk result AreAllTouched }
+    {
+        let mut trail = Trail::untouched(alloc, vars)?;
+        for index in 0..vars {
+            trail.touch(index + 1);
+        }
+        Ok(trail)
+    }
+
+    /// The same, but no variable is touched: decisions are made on those that are touched later, and on no others.
+    pub fn untouched(alloc: Global, vars: u32) -> Result<Trail, AllocError>
+        requires { vars < 2 ^ 31 }
+        ensures { IfOk result (λ trail. trail ≡ untouched_trail vars) }
     {
         Ok(Trail {
             vars,
@@ -368,13 +381,14 @@ impl Trail {
     }
 
     /// A literal that has no value, for the next decision. Its variable is the first of the touched ones in the order of
-    /// decisions, and it is as it was last held.
+    /// decisions, and it is as it was last held. Where all are touched, there is none exactly where every variable has a value.
     pub fn pick(&mut self) -> Option<Lit>
         ensures some { IfSome result (λ lit. IsUnset (trues self.old.entries) lit × IsLiteral self.old.vars lit) }
         ensures touched { IfSome result (IsTouched self.old.touched) }
         ensures first { IfSome result (λ lit. IsFirst self.old lit) }
         ensures held { IfSome result (λ lit. lit ≡ slice_index_or self.old.held (var_of lit - 1) (pos 0)) }
         ensures none { IfNone result ((lit : ℤ) → IsLiteral self.old.vars lit → IsTouched self.old.touched lit → HasValue (trues self.old.entries) lit) }
+        ensures every { IfNone result (AreAllTouched self.old → (lit : ℤ) → IsLiteral self.old.vars lit → HasValue (trues self.old.entries) lit) }
         ensures same { self.new ≡ self.old }
     {
         let index = self.first_unset()?;

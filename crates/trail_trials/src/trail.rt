@@ -2,6 +2,7 @@
 //!
 //! ```text
 //! trail 4                    a new trail over four variables
+//! untouched 4                the same, but no variable is touched
 //! touch 2 3                  decisions are made on 2 and 3 from now on
 //! decide 2                   2 is true at a new level
 //! assign -3 7                -3 is true by clause 7
@@ -47,6 +48,25 @@ impl TrailPlayer {
             None => Ok(false),
         }
     }
+
+    fn make_untouched(&mut self, alloc: Global, step: &Step<'_>) -> Result<bool, AllocError> {
+        match vars_at(step, 1) {
+            Some(vars) => hold(&mut self.trail, Trail::untouched(alloc, vars)),
+            None => Ok(false),
+        }
+    }
+
+    fn go_on(
+        &mut self,
+        alloc: Global,
+        step: &Step<'_>,
+        out: &mut String,
+    ) -> Result<bool, AllocError> {
+        match &mut self.trail {
+            Some(trail) => on_trail(alloc, trail, step, out),
+            None => Ok(false),
+        }
+    }
 }
 
 impl Player for TrailPlayer {
@@ -61,12 +81,10 @@ impl Player for TrailPlayer {
         step: &Step<'_>,
         out: &mut String,
     ) -> Result<bool, AllocError> {
-        if step.word(0) == "trail" {
-            return self.make(alloc, step);
-        }
-        match &mut self.trail {
-            Some(trail) => on_trail(alloc, trail, step, out),
-            None => Ok(false),
+        match step.word(0) {
+            "trail" => self.make(alloc, step),
+            "untouched" => self.make_untouched(alloc, step),
+            _ => self.go_on(alloc, step, out),
         }
     }
 }
