@@ -12,6 +12,7 @@ use Rattle.evidence_rec.specs.Records.{founds}
 use Rattle.evidence_text.specs.Alone.{Written}
 use Rattle.evidence_text.specs.Readable.{IsSmall}
 use Rattle.evidence_rec.specs.declared.held.Held.{Held}
+use Rattle.gm_journal.specs.declared.entry.Appended.{Appended}
 use Rattle.gm_journal.specs.declared.entry.Appended.TheVariants as appended
 use Rattle.gm_journal.specs.Entries.{OpeningView, EntryView, who_of}
 use Rattle.gm_journal.specs.Histories.{kept_in, founds_in, has_failed, count_after, count_in, last_moment, MayAppend, Answers, IsLegal, IsUnasked, AppendHasCause}
@@ -57,7 +58,8 @@ module _ (disk new : DiskState) (held held' : Held) (gate gate' : ℕ) (closed c
       (settled (texts_of (o.records ++ k.records)) k.settled is) in
       subst (λ ws. IsKept new o ws gate') (sym (kept_in-push es e) ∙ ap kept_in (sym all_are)) now
 
-  pub in_order_after : IsGoneOn new o all → (closed' ≡ false → IsHeldAfter e.text.found e.reply held held') → gate' + 1 < 2 ^ 64 → AppendHasCause disk.faults new.faults e.reply
+  pub in_order_after : IsGoneOn new o all → (closed' ≡ false → IsHeldAfter e.text.found e.reply held held') → gate' + 1 < 2 ^ 64
+      → AppendHasCause disk.faults new.faults e.reply
       → length all + seats_left o.seats all ≤ room → IsInOrder new held' gate' closed' o all room
   in_order_after gone held_is fits cause space = record {
     small = order.small;
@@ -84,10 +86,18 @@ module _ (disk new : DiskState) (held held' : Held) (gate gate' : ℕ) (closed c
       (each (texts_of (o.records ++ k.records)) k.settled)
       (keeps_by_answer o es (kept_in es) k.records k.are k.next e.text may.text order.small refl e.reply answers size)
 
+-- the entry as it was written down
+pub one_more : (new items old : List EntryView) (x : EntryView) (who : ℕ) (text w : Written) (r : Appended) (moment : ℕ)
+    → new ≡ items ++ x ∷ [] → items ≡ old → x ≡ record { who = who; text = text; reply = r; moment = moment } → text ≡ w
+    → new ≡ old ++ (record { who = who; text = w; reply = r; moment = moment }) ∷ []
+one_more new items old x who text w r moment is same entry text_is =
+    is ∙ (λ i. same i ++ (entry ∙ ap (λ (v : Written). record { who = who; text = v; reply = r; moment = moment }) text_is) i ∷ [])
+
 -- the disk goes on, whatever the entry was answered
 pub gone_after : {D : Type 0} (state : D → DiskState) (disk new : D) (o : OpeningView) (es all : List EntryView) (e : EntryView) (gate : ℕ)
     → IsLawful (state disk) → IsLawful (state new) → all ≡ es ++ e ∷ [] → IsGoneOn (state disk) o es → Answers o es e.text e.reply
-    → (has_failed es ≡ false → (bytes : List ℕ) → (state disk).reads ≡ Some bytes → AtEachMoment (state disk) (state new) (KeepsWithOrWithout o (kept_in es) e.text))
+    → (has_failed es ≡ false → (bytes : List ℕ) → (state disk).reads ≡ Some bytes
+    → AtEachMoment (state disk) (state new) (KeepsWithOrWithout o (kept_in es) e.text))
     → IsKeptOpen (state new) o all gate → (IsUnasked e.reply → new ≡ disk) → e.moment ≡ (state new).moment → (state new).name ≡ (state disk).name
     → TellsStill (state disk) (state new) → IsGoneOn (state new) o all
 gone_after state disk new o es all e gate lawful now_lawful all_are gone answers each kept untouched now name_is tells = record {
@@ -117,28 +127,30 @@ gone_after state disk new o es all e gate lawful now_lawful all_are gone answers
 module _ (disk : DiskState) (held : Held) (gate : ℕ) (closed : Bool) (o : OpeningView) (es all : List EntryView) (who : ℕ) (w : Written) (at capacity room : ℕ)
     (order : IsInOrder disk held gate closed o es capacity) (all_are : all ≡ es ++ (record { who = who; text = w; reply = appended.Memory; moment = at }) ∷ [])
     (may : MayAppend o who w (calls_by who_of who es)) where
+  abbrev stopped : EntryView
+  stopped = record { who = who; text = w; reply = appended.Memory; moment = at }
+
   stays : (texts : List (List ℕ)) → IsSettled disk texts gate → closed ≡ false → IsSettled disk (texts ++ []) gate
   stays texts settled is = subst (λ (ts : List (List ℕ)). IsSettled disk ts gate) (sym (append-nil texts)) settled
 
   pub stopped_legal : IsLegal o all
-  stopped_legal = legal_after disk disk held held gate gate closed closed o es all (record { who = who; text = w; reply = appended.Memory; moment = at }) capacity room
+  stopped_legal = legal_after disk disk held held gate gate closed closed o es all stopped capacity room
       order all_are may tt refl stays tt ((λ x. x), (λ x. x))
 
   pub stopped_kept : IsKeptOpen disk o all gate
-  stopped_kept = kept_after disk disk held held gate gate closed closed o es all (record { who = who; text = w; reply = appended.Memory; moment = at }) capacity room
+  stopped_kept = kept_after disk disk held held gate gate closed closed o es all stopped capacity room
       order all_are may tt refl stays tt ((λ x. x), (λ x. x))
 
   pub stopped_order : IsGoneOn disk o all → capacity ≤ room → IsInOrder disk held gate closed o all room
   stopped_order gone longer =
-      let e : EntryView = record { who = who; text = w; reply = appended.Memory; moment = at } in
-      let less = one_less o.seats es e may.seat may.going refl in
-      let size : length all ≡ length es + 1 = ap length all_are ∙ length-append es (e ∷ []) in
-      let left : seats_left o.seats all ≡ seats_left o.seats (es ++ e ∷ []) = ap (seats_left o.seats) all_are in
-      in_order_after disk disk held held gate gate closed closed o es all e capacity room order all_are may tt refl stays tt ((λ x. x), (λ x. x))
+      let less = one_less o.seats es stopped may.seat may.going refl in
+      let size : length all ≡ length es + 1 = ap length all_are ∙ length-append es (stopped ∷ []) in
+      let left : seats_left o.seats all ≡ seats_left o.seats (es ++ stopped ∷ []) = ap (seats_left o.seats) all_are in
+      in_order_after disk disk held held gate gate closed closed o es all stopped capacity room order all_are may tt refl stays tt ((λ x. x), (λ x. x))
       gone (λ is. record { at = λ k q. refl }) order.gate_fits refl (omega (arith, order.room, less, size, left, longer))
 
   pub stopped_moments : IsLawful disk → has_failed es ≡ false → (bytes : List ℕ) → disk.reads ≡ Some bytes → AtEachMoment disk disk (KeepsWithOrWithout o (kept_in es) w)
-  stopped_moments lawful = moments disk disk held held gate gate closed closed o es all (record { who = who; text = w; reply = appended.Memory; moment = at }) capacity room
+  stopped_moments lawful = moments disk disk held held gate gate closed closed o es all stopped capacity room
       order all_are may tt refl stays tt ((λ x. x), (λ x. x))
       (λ texts settled. AtEachMoment-none disk (HoldsTexts texts) lawful (settled_leaves disk texts gate settled))
 

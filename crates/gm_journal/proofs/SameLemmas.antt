@@ -28,7 +28,8 @@ next_these p before after [] read next = next ∙ sym (append-nil before)
 next_these p before after (r ∷ rs) read next =
     let one = next.1.fits in
     let same : one.found ≡ r = texts-of_one p (record_text r) one.found r one.small one.is_text read.0 in
-    next_these p next.0 after rs read.1 next.2 ∙ ap (λ (l : List Record). l ++ rs) (one.after_is ∙ ap (λ (q : Record). before ++ q ∷ []) same) ∙ append_assoc before (r ∷ []) rs
+    next_these p next.0 after rs read.1 next.2 ∙ ap (λ (l : List Record). l ++ rs) (one.after_is ∙ ap (λ (q : Record). before ++ q ∷ []) same)
+    ∙ append_assoc before (r ∷ []) rs
 
 -- as many records are behind as there are texts
 record Grown (before after : List Record) (texts : List (List ℕ)) : Type 0 where
@@ -55,20 +56,23 @@ next_split p before after (t ∷ ts) us next =
     (rest.0, (next.0, next.1, rest.1), rest.2)
 
 -- so the records behind the opening's are these
-pub holds_these : (o : OpeningView) (rs : List Record) (bytes : List ℕ) → AllByRecursion (λ r. IsTextOf o.problem r (record_text r)) rs → Keeps o (map written_of rs) bytes
+pub holds_these : (o : OpeningView) (rs : List Record) (bytes : List ℕ) → AllByRecursion (λ r. IsTextOf o.problem r (record_text r)) rs
+    → Keeps o (map written_of rs) bytes
     → (gate : ℕ) × (last : Option ℕ) × HoldsRecords o.problem bytes (o.records ++ rs) gate last
 holds_these o rs bytes read keeps =
     let ks = keeps.records in
     let texts : texts_of ks ≡ texts_of rs =
     sym (texts_written ks) ∙ ap (λ (ws : List Written). map (λ (w : Written). w.text) ws) keeps.are ∙ texts_written rs in
-    let all : texts_of (o.records ++ ks) ≡ texts_of o.records ++ texts_of rs = map-append record_text o.records ks ∙ ap (λ (ts : List (List ℕ)). texts_of o.records ++ ts) texts in
+    let all : texts_of (o.records ++ ks) ≡ texts_of o.records ++ texts_of rs =
+    map-append record_text o.records ks ∙ ap (λ (ts : List (List ℕ)). texts_of o.records ++ ts) texts in
     let cut = next_split o.problem [] (o.records ++ ks) (texts_of o.records) (texts_of rs)
     (subst (λ (ts : List (List ℕ)). AreNext (MayFollow o.problem) [] ts (o.records ++ ks)) all keeps.holds.next) in
     let first = next_grows o.problem [] cut.0 (texts_of o.records) cut.1 in
     let behind : o.records ++ ks ≡ cut.0 ++ rs = next_these o.problem cut.0 (o.records ++ ks) rs read cut.2 in
     let long : length cut.0 ≡ length o.records = ap length first.parts ∙ first.many ∙ length-map o.records record_text in
     let same : ks ≡ rs =
-    sym (drop_at o.records ks (length o.records) refl) ∙ ap (λ (l : List Record). drop (length o.records) l) behind ∙ drop_at cut.0 rs (length o.records) long in
+    sym (drop_at o.records ks (length o.records) refl) ∙ ap (λ (l : List Record). drop (length o.records) l) behind
+    ∙ drop_at cut.0 rs (length o.records) long in
     (keeps.gate, keeps.last, subst (λ (l : List Record). HoldsRecords o.problem bytes (o.records ++ l) keeps.gate keeps.last) same keeps.holds)
 
 -- ---- a front part of them
@@ -78,13 +82,14 @@ AllByRecursion-take P zero xs all = tt
 AllByRecursion-take P (suc n) [] all = tt
 AllByRecursion-take P (suc n) (x ∷ xs) all = (all.0, AllByRecursion-take P n xs all.1)
 
-pub holds_front : (o : OpeningView) (acknowledged history : List EntryView) (rs : List Record) (bytes : List ℕ) → AllByRecursion (λ r. IsTextOf o.problem r (record_text r)) rs
-    → map written_of rs ≡ tried_in history → KeepsFront o acknowledged history bytes → HoldsFront o.problem o.records rs (length (kept_in acknowledged)) bytes
+pub holds_front : (o : OpeningView) (acknowledged history : List EntryView) (rs : List Record) (bytes : List ℕ)
+    → AllByRecursion (λ r. IsTextOf o.problem r (record_text r)) rs → map written_of rs ≡ tried_in history → KeepsFront o acknowledged history bytes → HoldsFront o.problem o.records rs (length (kept_in acknowledged)) bytes
 holds_front o acknowledged history rs bytes read are front =
     let ws : List Written = kept_in acknowledged ++ front.more in
     let n = length ws in
     let parts : map written_of rs ≡ ws ++ front.rest = are ∙ front.parts in
-    let these : ws ≡ map written_of (take n rs) = sym (take_at ws front.rest n refl) ∙ ap (λ (l : List Written). take n l) (sym parts) ∙ take-map written_of n rs in
+    let these : ws ≡ map written_of (take n rs) =
+    sym (take_at ws front.rest n refl) ∙ ap (λ (l : List Written). take n l) (sym parts) ∙ take-map written_of n rs in
     let held = holds_these o (take n rs) bytes (AllByRecursion-take (λ r. IsTextOf o.problem r (record_text r)) n rs read)
     (subst (λ (l : List Written). Keeps o l bytes) these front.keeps) in
     record {
@@ -133,7 +138,8 @@ made_in o before (e ∷ es) all =
     }
 
 pub appended_of : (o : OpeningView) (history : List EntryView) → IsLegal o history
-    → (records : List Record) × (map written_of records ≡ tried_in history) × AllByRecursion (λ r. IsAcceptedAlone o.problem r × IsTextOf o.problem r (record_text r)) records
+    → (records : List Record) × (map written_of records ≡ tried_in history)
+    × AllByRecursion (λ r. IsAcceptedAlone o.problem r × IsTextOf o.problem r (record_text r)) records
 appended_of o history legal =
     let made = made_in o [] history legal in
     (made.records, made.are, made.read)

@@ -67,7 +67,14 @@ shared_started state disk now p s count book records (started.Opened journal sea
   },
   h.1,
   h.2 ∙ records_are,
-  (now, subst (IsOpenedOn (state now)) (sym (h.0 ∙ opening_is)) (record { faults = refl; name = refl; reads = refl; moment = refl }), readied, made, quiet, λ bytes is. subst (λ (o : OpeningView). IsKept (state now) o [] s.gate) (sym (h.0 ∙ opening_is)) (kept bytes is)),
+  (
+    now,
+    subst (IsOpenedOn (state now)) (sym (h.0 ∙ opening_is)) (record { faults = refl; name = refl; reads = refl; moment = refl }),
+    readied,
+    made,
+    quiet,
+    λ bytes is. subst (λ (o : OpeningView). IsKept (state now) o [] s.gate) (sym (h.0 ∙ opening_is)) (kept bytes is),
+  ),
 )
 shared_started state disk now p s count book records (started.Failed other) h disk_is opening_is records_are readied made quiet kept = absurd h
 shared_started state disk now p s count book records (started.Memory other) h disk_is opening_is records_are readied made quiet kept = (

@@ -22,7 +22,8 @@ last_moment-push n (x ∷ xs) e = last_moment-push x.moment xs e
 
 tried_in-push : (es : List EntryView) (e : EntryView) → tried_in (es ++ e ∷ []) ≡ tried_in es ++ tried_by e.reply e.text
 tried_in-push es e =
-    flat_map-append (λ (x : EntryView). tried_by x.reply x.text) es (e ∷ []) ∙ ap (λ (ws : List Written). tried_in es ++ ws) (append-nil (tried_by e.reply e.text))
+    flat_map-append (λ (x : EntryView). tried_by x.reply x.text) es (e ∷ [])
+    ∙ ap (λ (ws : List Written). tried_in es ++ ws) (append-nil (tried_by e.reply e.text))
 
 kept_in-append : (es fs : List EntryView) → kept_in (es ++ fs) ≡ kept_in es ++ kept_in fs
 kept_in-append es fs = flat_map-append (λ (x : EntryView). kept_by x.reply x.text) es fs
@@ -44,17 +45,20 @@ tried_kept (x ∷ xs) is =
 -- ---- a front part of it
 
 -- one entry more
-KeepsFront-push : (o : OpeningView) (before es : List EntryView) (e : EntryView) (bytes : List ℕ) → KeepsFront o before es bytes → KeepsFront o before (es ++ e ∷ []) bytes
+KeepsFront-push : (o : OpeningView) (before es : List EntryView) (e : EntryView) (bytes : List ℕ) → KeepsFront o before es bytes
+    → KeepsFront o before (es ++ e ∷ []) bytes
 KeepsFront-push o before es e bytes h = record {
   more = h.more;
   rest = h.rest ++ tried_by e.reply e.text;
   parts =
-      tried_in-push es e ∙ ap (λ (ws : List Written). ws ++ tried_by e.reply e.text) h.parts ∙ append_assoc (kept_in before ++ h.more) h.rest (tried_by e.reply e.text);
+      tried_in-push es e ∙ ap (λ (ws : List Written). ws ++ tried_by e.reply e.text) h.parts
+      ∙ append_assoc (kept_in before ++ h.more) h.rest (tried_by e.reply e.text);
   keeps = h.keeps;
 }
 
 -- as many that were acknowledged
-KeepsFront-same : (o : OpeningView) (before after es : List EntryView) (bytes : List ℕ) → kept_in before ≡ kept_in after → KeepsFront o before es bytes → KeepsFront o after es bytes
+KeepsFront-same : (o : OpeningView) (before after es : List EntryView) (bytes : List ℕ) → kept_in before ≡ kept_in after
+    → KeepsFront o before es bytes → KeepsFront o after es bytes
 KeepsFront-same o before after es bytes same h = record {
   more = h.more;
   rest = h.rest;
@@ -126,7 +130,8 @@ module _ (o : OpeningView) (es : List EntryView) (e : EntryView) where
   module _ (disk new : DiskState) (now : e.moment ≡ new.moment) (lawful : IsLawful new) (traced : IsTraced disk o es) where
     -- by what a crash leaves at its end, and what it left since an earlier moment
     traced_by : disk.moment ≤ new.moment → ((bytes : List ℕ) → new.may_leave bytes → KeepsFront o longer longer bytes)
-        → ((k : ℕ) (bytes : List ℕ) → k ≤ length es → new.left_since (moment_after o es k) bytes → KeepsFront o (take k es) longer bytes) → IsTraced new o longer
+        → ((k : ℕ) (bytes : List ℕ) → k ≤ length es → new.left_since (moment_after o es k) bytes → KeepsFront o (take k es) longer bytes)
+        → IsTraced new o longer
     traced_by later here since = record {
       passed = λ k le.
           elim (cases_lt (length es) k) [
@@ -188,7 +193,8 @@ traced_opened disk o gate lawful now kept = record {
   passed = λ k le. omega (arith, none k, now);
   since = λ k bytes le left.
       let at : disk.left_since disk.moment bytes = subst (λ (t : ℕ). disk.left_since t bytes) (none k ∙ sym now) left in
-      subst (λ (l : List EntryView). KeepsFront o l [] bytes) (sym (no_entries k)) (KeepsFront-all o [] bytes refl (left_keeps disk o [] gate kept bytes (lawful.only_now bytes at)));
+      subst (λ (l : List EntryView). KeepsFront o l [] bytes) (sym (no_entries k))
+      (KeepsFront-all o [] bytes refl (left_keeps disk o [] gate kept bytes (lawful.only_now bytes at)));
 }
   where
     no_entries : (k : ℕ) → ◌≡◌ {A = List EntryView} (take k []) []

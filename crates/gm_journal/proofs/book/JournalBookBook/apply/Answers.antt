@@ -8,7 +8,8 @@ use Rattle.gm_journal.specs.Histories.{kept_in, has_failed, MayAppend, Answers, 
 use Rattle.gm_journal.specs.Books.{BookState, KeepsWithOrWithout, IsGoneOn}
 use Rattle.gm_journal.proofs.HistoryLemmas.{answers_of}
 use Rattle.gm_journal.proofs.RoomLemmas.{seats_left-most}
-use Rattle.gm_journal.proofs.Orders.{legal_after, kept_after, in_order_after, moments, gone_after, stopped_legal, stopped_kept, stopped_order, stopped_moments, has_place}
+use Rattle.gm_journal.proofs.Orders.{one_more, legal_after, kept_after, in_order_after, moments, gone_after}
+use Rattle.gm_journal.proofs.Orders.{stopped_legal, stopped_kept, stopped_order, stopped_moments, has_place}
 use Rattle.gm_journal.proofs.TracedLemmas.{whole_by}
 use Rattle.gm_journal.proofs.book.JournalBookBook.apply.Goals as goal
 
@@ -27,12 +28,11 @@ invariant_of-self g c =
     let at = (g.D.Disk.state c.self.inside.disk).moment in
     let e : EntryView = record { who = c.args.who; text = c.args.op; reply = appended.Memory; moment = at } in
     let all_are : c.push_reserved.new.self.items ≡ c.self.inside.history.items ++ e ∷ [] =
-    c.push_reserved.ensures.items
-    ∙ (λ i. c.reserve.ensures.items i ++ (c.at_end.ensures ∙ (λ j. record { who = c.args.who; text = c.of-text.ensures j; reply = appended.Memory; moment = at })) i ∷ []) in
+    one_more _ _ _ _ c.args.who _ c.args.op appended.Memory at c.push_reserved.ensures.items c.reserve.ensures.items c.at_end.ensures c.of-text.ensures in
     let lawful = g.met.D.Disk.lawful c.self.inside.disk in
     let gone : IsGoneOn (g.D.Disk.state c.self.inside.disk) c.self.inside.opening c.push_reserved.new.self.items =
-    gone_after g.D.Disk.state c.self.inside.disk c.self.inside.disk c.self.inside.opening c.self.inside.history.items _ e c.self.inside.gate lawful lawful all_are
-    c.self.invariant.0.gone_on tt
+    gone_after g.D.Disk.state c.self.inside.disk c.self.inside.disk c.self.inside.opening c.self.inside.history.items _ e c.self.inside.gate
+    lawful lawful all_are c.self.invariant.0.gone_on tt
     (stopped_moments _ _ _ _ _ _ _ c.args.who c.args.op at _ 0 c.self.invariant.0 all_are may lawful)
     (stopped_kept _ _ _ _ _ _ _ c.args.who c.args.op at _ 0 c.self.invariant.0 all_are may) (λ un. refl) refl refl ((λ x. x), (λ x. x)) in
     (stopped_order _ _ _ _ _ _ _ c.args.who c.args.op at _ _ c.self.invariant.0 all_are may gone (omega arith), c.self.invariant.1)
@@ -44,8 +44,7 @@ returns-then-is_err-clause-legal g c =
     let at = (g.D.Disk.state c.self.inside.disk).moment in
     let e : EntryView = record { who = c.args.who; text = c.args.op; reply = appended.Memory; moment = at } in
     let all_are : c.push_reserved.new.self.items ≡ c.self.inside.history.items ++ e ∷ [] =
-    c.push_reserved.ensures.items
-    ∙ (λ i. c.reserve.ensures.items i ++ (c.at_end.ensures ∙ (λ j. record { who = c.args.who; text = c.of-text.ensures j; reply = appended.Memory; moment = at })) i ∷ []) in
+    one_more _ _ _ _ c.args.who _ c.args.op appended.Memory at c.push_reserved.ensures.items c.reserve.ensures.items c.at_end.ensures c.of-text.ensures in
     stopped_legal _ _ _ _ _ _ _ c.args.who c.args.op at _ 0 c.self.invariant.0 all_are may
 
 pub returns-then-is_err-clause-any_moment : goal.returns-then-is_err-clause-any_moment
@@ -55,8 +54,7 @@ returns-then-is_err-clause-any_moment g c =
     let at = (g.D.Disk.state c.self.inside.disk).moment in
     let e : EntryView = record { who = c.args.who; text = c.args.op; reply = appended.Memory; moment = at } in
     let all_are : c.push_reserved.new.self.items ≡ c.self.inside.history.items ++ e ∷ [] =
-    c.push_reserved.ensures.items
-    ∙ (λ i. c.reserve.ensures.items i ++ (c.at_end.ensures ∙ (λ j. record { who = c.args.who; text = c.of-text.ensures j; reply = appended.Memory; moment = at })) i ∷ []) in
+    one_more _ _ _ _ c.args.who _ c.args.op appended.Memory at c.push_reserved.ensures.items c.reserve.ensures.items c.at_end.ensures c.of-text.ensures in
     subst (λ (b : BookState _). has_failed b.history ≡ false → (bytes : List ℕ) → (g.D.Disk.state b.disk).reads ≡ Some bytes
     → AtEachMoment (g.D.Disk.state b.disk) (g.D.Disk.state c.self.inside.disk) (KeepsWithOrWithout b.opening (kept_in b.history) c.args.op)) c.self.view_is
     (stopped_moments _ _ _ _ _ _ _ c.args.who c.args.op at _ 0 c.self.invariant.0 all_are may (g.met.D.Disk.lawful c.self.inside.disk))
@@ -68,12 +66,11 @@ returns-then-is_err-clause-gone_on g c =
     let at = (g.D.Disk.state c.self.inside.disk).moment in
     let e : EntryView = record { who = c.args.who; text = c.args.op; reply = appended.Memory; moment = at } in
     let all_are : c.push_reserved.new.self.items ≡ c.self.inside.history.items ++ e ∷ [] =
-    c.push_reserved.ensures.items
-    ∙ (λ i. c.reserve.ensures.items i ++ (c.at_end.ensures ∙ (λ j. record { who = c.args.who; text = c.of-text.ensures j; reply = appended.Memory; moment = at })) i ∷ []) in
+    one_more _ _ _ _ c.args.who _ c.args.op appended.Memory at c.push_reserved.ensures.items c.reserve.ensures.items c.at_end.ensures c.of-text.ensures in
     let lawful = g.met.D.Disk.lawful c.self.inside.disk in
     let gone : IsGoneOn (g.D.Disk.state c.self.inside.disk) c.self.inside.opening c.push_reserved.new.self.items =
-    gone_after g.D.Disk.state c.self.inside.disk c.self.inside.disk c.self.inside.opening c.self.inside.history.items _ e c.self.inside.gate lawful lawful all_are
-    c.self.invariant.0.gone_on tt
+    gone_after g.D.Disk.state c.self.inside.disk c.self.inside.disk c.self.inside.opening c.self.inside.history.items _ e c.self.inside.gate
+    lawful lawful all_are c.self.invariant.0.gone_on tt
     (stopped_moments _ _ _ _ _ _ _ c.args.who c.args.op at _ 0 c.self.invariant.0 all_are may lawful)
     (stopped_kept _ _ _ _ _ _ _ c.args.who c.args.op at _ 0 c.self.invariant.0 all_are may) (λ un. refl) refl refl ((λ x. x), (λ x. x)) in
     gone
@@ -85,12 +82,11 @@ returns-then-is_err-clause-whole g c =
     let at = (g.D.Disk.state c.self.inside.disk).moment in
     let e : EntryView = record { who = c.args.who; text = c.args.op; reply = appended.Memory; moment = at } in
     let all_are : c.push_reserved.new.self.items ≡ c.self.inside.history.items ++ e ∷ [] =
-    c.push_reserved.ensures.items
-    ∙ (λ i. c.reserve.ensures.items i ++ (c.at_end.ensures ∙ (λ j. record { who = c.args.who; text = c.of-text.ensures j; reply = appended.Memory; moment = at })) i ∷ []) in
+    one_more _ _ _ _ c.args.who _ c.args.op appended.Memory at c.push_reserved.ensures.items c.reserve.ensures.items c.at_end.ensures c.of-text.ensures in
     let lawful = g.met.D.Disk.lawful c.self.inside.disk in
     let gone : IsGoneOn (g.D.Disk.state c.self.inside.disk) c.self.inside.opening c.push_reserved.new.self.items =
-    gone_after g.D.Disk.state c.self.inside.disk c.self.inside.disk c.self.inside.opening c.self.inside.history.items _ e c.self.inside.gate lawful lawful all_are
-    c.self.invariant.0.gone_on tt
+    gone_after g.D.Disk.state c.self.inside.disk c.self.inside.disk c.self.inside.opening c.self.inside.history.items _ e c.self.inside.gate
+    lawful lawful all_are c.self.invariant.0.gone_on tt
     (stopped_moments _ _ _ _ _ _ _ c.args.who c.args.op at _ 0 c.self.invariant.0 all_are may lawful)
     (stopped_kept _ _ _ _ _ _ _ c.args.who c.args.op at _ 0 c.self.invariant.0 all_are may) (λ un. refl) refl refl ((λ x. x), (λ x. x)) in
     λ told. whole_by (g.D.Disk.state c.self.inside.disk) c.self.inside.opening c.push_reserved.new.self.items lawful (gone.traced told)
@@ -103,8 +99,8 @@ invariant_of-self-2 g c =
     let at = (g.D.Disk.state c.answer-reply.new.disk).moment in
     let e : EntryView = record { who = c.args.who; text = c.args.op; reply = c.answer-reply.result; moment = at } in
     let all_are : c.push_reserved-2.new.self.items ≡ c.self.inside.history.items ++ e ∷ [] =
-    c.push_reserved-2.ensures.items
-    ∙ (λ i. c.reserve.ensures.items i ++ (c.at_end-2.ensures ∙ (λ j. record { who = c.args.who; text = c.of-text.ensures j; reply = c.answer-reply.result; moment = at })) i ∷ []) in
+    one_more _ _ _ _ c.args.who _ c.args.op c.answer-reply.result at
+    c.push_reserved-2.ensures.items c.reserve.ensures.items c.at_end-2.ensures c.of-text.ensures in
     let answers : Answers c.self.inside.opening c.self.inside.history.items c.args.op c.answer-reply.result =
     answers_of c.self.inside.opening c.self.inside.history.items c.self.inside.held c.self.inside.is_closed _ _ c.args.op c.answer-reply.result
     c.self.invariant.0.closed_is c.self.invariant.0.index c.self.invariant.0.count c.answer-reply.ensures.answers c.answer-reply.ensures.cause in
@@ -131,8 +127,8 @@ returns-clause-entry g c =
     let at = (g.D.Disk.state c.answer-reply.new.disk).moment in
     let e : EntryView = record { who = c.args.who; text = c.args.op; reply = c.answer-reply.result; moment = at } in
     let all_are : c.push_reserved-2.new.self.items ≡ c.self.inside.history.items ++ e ∷ [] =
-    c.push_reserved-2.ensures.items
-    ∙ (λ i. c.reserve.ensures.items i ++ (c.at_end-2.ensures ∙ (λ j. record { who = c.args.who; text = c.of-text.ensures j; reply = c.answer-reply.result; moment = at })) i ∷ []) in
+    one_more _ _ _ _ c.args.who _ c.args.op c.answer-reply.result at
+    c.push_reserved-2.ensures.items c.reserve.ensures.items c.at_end-2.ensures c.of-text.ensures in
     let answers : Answers c.self.inside.opening c.self.inside.history.items c.args.op c.answer-reply.result =
     answers_of c.self.inside.opening c.self.inside.history.items c.self.inside.held c.self.inside.is_closed _ _ c.args.op c.answer-reply.result
     c.self.invariant.0.closed_is c.self.invariant.0.index c.self.invariant.0.count c.answer-reply.ensures.answers c.answer-reply.ensures.cause in
@@ -146,8 +142,8 @@ returns-clause-legal g c =
     let at = (g.D.Disk.state c.answer-reply.new.disk).moment in
     let e : EntryView = record { who = c.args.who; text = c.args.op; reply = c.answer-reply.result; moment = at } in
     let all_are : c.push_reserved-2.new.self.items ≡ c.self.inside.history.items ++ e ∷ [] =
-    c.push_reserved-2.ensures.items
-    ∙ (λ i. c.reserve.ensures.items i ++ (c.at_end-2.ensures ∙ (λ j. record { who = c.args.who; text = c.of-text.ensures j; reply = c.answer-reply.result; moment = at })) i ∷ []) in
+    one_more _ _ _ _ c.args.who _ c.args.op c.answer-reply.result at
+    c.push_reserved-2.ensures.items c.reserve.ensures.items c.at_end-2.ensures c.of-text.ensures in
     let answers : Answers c.self.inside.opening c.self.inside.history.items c.args.op c.answer-reply.result =
     answers_of c.self.inside.opening c.self.inside.history.items c.self.inside.held c.self.inside.is_closed _ _ c.args.op c.answer-reply.result
     c.self.invariant.0.closed_is c.self.invariant.0.index c.self.invariant.0.count c.answer-reply.ensures.answers c.answer-reply.ensures.cause in
@@ -161,8 +157,8 @@ returns-clause-any_moment g c =
     let at = (g.D.Disk.state c.answer-reply.new.disk).moment in
     let e : EntryView = record { who = c.args.who; text = c.args.op; reply = c.answer-reply.result; moment = at } in
     let all_are : c.push_reserved-2.new.self.items ≡ c.self.inside.history.items ++ e ∷ [] =
-    c.push_reserved-2.ensures.items
-    ∙ (λ i. c.reserve.ensures.items i ++ (c.at_end-2.ensures ∙ (λ j. record { who = c.args.who; text = c.of-text.ensures j; reply = c.answer-reply.result; moment = at })) i ∷ []) in
+    one_more _ _ _ _ c.args.who _ c.args.op c.answer-reply.result at
+    c.push_reserved-2.ensures.items c.reserve.ensures.items c.at_end-2.ensures c.of-text.ensures in
     let answers : Answers c.self.inside.opening c.self.inside.history.items c.args.op c.answer-reply.result =
     answers_of c.self.inside.opening c.self.inside.history.items c.self.inside.held c.self.inside.is_closed _ _ c.args.op c.answer-reply.result
     c.self.invariant.0.closed_is c.self.invariant.0.index c.self.invariant.0.count c.answer-reply.ensures.answers c.answer-reply.ensures.cause in
@@ -179,8 +175,8 @@ returns-clause-kept g c =
     let at = (g.D.Disk.state c.answer-reply.new.disk).moment in
     let e : EntryView = record { who = c.args.who; text = c.args.op; reply = c.answer-reply.result; moment = at } in
     let all_are : c.push_reserved-2.new.self.items ≡ c.self.inside.history.items ++ e ∷ [] =
-    c.push_reserved-2.ensures.items
-    ∙ (λ i. c.reserve.ensures.items i ++ (c.at_end-2.ensures ∙ (λ j. record { who = c.args.who; text = c.of-text.ensures j; reply = c.answer-reply.result; moment = at })) i ∷ []) in
+    one_more _ _ _ _ c.args.who _ c.args.op c.answer-reply.result at
+    c.push_reserved-2.ensures.items c.reserve.ensures.items c.at_end-2.ensures c.of-text.ensures in
     let answers : Answers c.self.inside.opening c.self.inside.history.items c.args.op c.answer-reply.result =
     answers_of c.self.inside.opening c.self.inside.history.items c.self.inside.held c.self.inside.is_closed _ _ c.args.op c.answer-reply.result
     c.self.invariant.0.closed_is c.self.invariant.0.index c.self.invariant.0.count c.answer-reply.ensures.answers c.answer-reply.ensures.cause in
@@ -194,8 +190,8 @@ returns-clause-gone_on g c =
     let at = (g.D.Disk.state c.answer-reply.new.disk).moment in
     let e : EntryView = record { who = c.args.who; text = c.args.op; reply = c.answer-reply.result; moment = at } in
     let all_are : c.push_reserved-2.new.self.items ≡ c.self.inside.history.items ++ e ∷ [] =
-    c.push_reserved-2.ensures.items
-    ∙ (λ i. c.reserve.ensures.items i ++ (c.at_end-2.ensures ∙ (λ j. record { who = c.args.who; text = c.of-text.ensures j; reply = c.answer-reply.result; moment = at })) i ∷ []) in
+    one_more _ _ _ _ c.args.who _ c.args.op c.answer-reply.result at
+    c.push_reserved-2.ensures.items c.reserve.ensures.items c.at_end-2.ensures c.of-text.ensures in
     let answers : Answers c.self.inside.opening c.self.inside.history.items c.args.op c.answer-reply.result =
     answers_of c.self.inside.opening c.self.inside.history.items c.self.inside.held c.self.inside.is_closed _ _ c.args.op c.answer-reply.result
     c.self.invariant.0.closed_is c.self.invariant.0.index c.self.invariant.0.count c.answer-reply.ensures.answers c.answer-reply.ensures.cause in
@@ -217,8 +213,8 @@ returns-clause-whole g c =
     let at = (g.D.Disk.state c.answer-reply.new.disk).moment in
     let e : EntryView = record { who = c.args.who; text = c.args.op; reply = c.answer-reply.result; moment = at } in
     let all_are : c.push_reserved-2.new.self.items ≡ c.self.inside.history.items ++ e ∷ [] =
-    c.push_reserved-2.ensures.items
-    ∙ (λ i. c.reserve.ensures.items i ++ (c.at_end-2.ensures ∙ (λ j. record { who = c.args.who; text = c.of-text.ensures j; reply = c.answer-reply.result; moment = at })) i ∷ []) in
+    one_more _ _ _ _ c.args.who _ c.args.op c.answer-reply.result at
+    c.push_reserved-2.ensures.items c.reserve.ensures.items c.at_end-2.ensures c.of-text.ensures in
     let answers : Answers c.self.inside.opening c.self.inside.history.items c.args.op c.answer-reply.result =
     answers_of c.self.inside.opening c.self.inside.history.items c.self.inside.held c.self.inside.is_closed _ _ c.args.op c.answer-reply.result
     c.self.invariant.0.closed_is c.self.invariant.0.index c.self.invariant.0.count c.answer-reply.ensures.answers c.answer-reply.ensures.cause in

@@ -15,8 +15,10 @@ open-requires-clause-kept g c =
     subst (λ (p : Problem). IfSome (g.D.Disk.state c.args.disk).reads (λ b. HoldsRecords p b c.of-2.result.value c.args.salvaged.gate c.args.salvaged.last)) (sym c.of.ensures)
     (subst (λ (rs : List Record). IfSome (g.D.Disk.state c.args.disk).reads (λ b. HoldsRecords c.args.problem.now b rs c.args.salvaged.gate c.args.salvaged.last)) (sym c.of-2.ensures) c.requires.read) in
     let opened : (texts : List (List ℕ)) → IsReadTo (g.D.Disk.state c.args.disk) texts c.args.salvaged.gate c.args.salvaged.last → IsSettled (g.D.Disk.state c.start.new.disk) texts c.args.salvaged.gate = search rules in
-    kept_opened (g.D.Disk.state c.args.disk) (g.D.Disk.state c.start.new.disk) (opening_of c.of.result.value c.of-2.result.value c.args.seats (g.D.Disk.state c.of-ready.result.value))
+    kept_opened (g.D.Disk.state c.args.disk) (g.D.Disk.state c.start.new.disk)
+    (opening_of c.of.result.value c.of-2.result.value c.args.seats (g.D.Disk.state c.of-ready.result.value))
     c.args.salvaged.gate c.args.salvaged.last read opened c.start.ensures.readied.tells
 
 pub open-requires-clause-disk : goal.open-requires-clause-disk
-open-requires-clause-disk g c = opened_on g.D.Disk.state c.start.new.disk c.of-ready.result.value c.of.result.value c.of-2.result.value c.args.seats c.of-ready.ensures
+open-requires-clause-disk g c =
+    opened_on g.D.Disk.state c.start.new.disk c.of-ready.result.value c.of.result.value c.of-2.result.value c.args.seats c.of-ready.ensures
