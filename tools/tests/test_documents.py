@@ -20,9 +20,6 @@ DOCUMENTS = ["README.md", "CONTRIBUTING.md", "CHANGELOG.md", "examples/README.md
 HELD = ["README.md", "CONTRIBUTING.md", "CHANGELOG.md", "bench/README.md", "examples/README.md"] + [f"docs/{name}.md" for name in (
     "ARCHITECTURE", "DECISIONS", "FORMATS", "IMPORT", "LIBRARY", "PROVED", "REPORTING", "RULES", "TRIED", "TUTORIAL")]
 
-# Parts of them that are still written: their sentences are not counted yet.
-LATER = {"CONTRIBUTING.md": ("What the gate costs", "Wrong bodies")}
-
 
 # Where one looks first for an answer, and the words that give it.
 ANSWERS = {
@@ -37,15 +34,6 @@ ANSWERS = {
     "what is trusted": ("README.md", "- Trusted: "),
     "how do I check evidence without gmus": ("README.md", "checks evidence without `gmus`"),
 }
-
-
-def held_in(document):
-    """The text of a page whose sentences are counted."""
-    text = text_of(document)
-    for heading in LATER.get(document, ()):
-        before, mark, behind = text.partition(f"\n## {heading}\n")
-        text = before + (behind[behind.index("\n## "):] if mark else "")
-    return text
 
 
 def sections(text, mark):
@@ -197,7 +185,7 @@ class Documents(unittest.TestCase):
 
     def test_no_sentence_is_long(self):
         for document in HELD:
-            found = [words for words in sentences_in(held_in(document)) if words]
+            found = [words for words in sentences_in(text_of(document)) if words]
             for words in found:
                 self.assertLessEqual(len(words), 40, f"{document}: {' '.join(words)}")
                 told = [re.sub(r"\W", "", word).lower() for word in words]
@@ -206,7 +194,7 @@ class Documents(unittest.TestCase):
 
     def test_no_word_stops_a_reader(self):
         for document in HELD:
-            text = held_in(document).partition("\n**English.**")[0]
+            text = text_of(document).partition("\n**English.**")[0]
             for word in ("want of memory", "wants? memory", "memory (?:is|was|may be) wanting", "dear(?:er|est)?"):
                 self.assertEqual([text[at.start() - 40:at.end()] for at in re.finditer(rf"\b(?:{word})\b", text)], [], document)
 
