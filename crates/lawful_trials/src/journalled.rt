@@ -89,7 +89,7 @@ fn journal_of(
     problem: &Problem,
     step: &Step<'_>,
     count: u32,
-) -> Result<(Journal<MemDisk>, Vec<Seat>), Lacking>
+) -> Result<(Journal<MemDisk>, Vec<Seat<MemDisk>>), Lacking>
     requires { 0 < count }
     ensures problem { IfOk result (λ x. x.0.opening.problem ≡ problem.now) }
     ensures records { IfOk result (λ x. x.0.opening.records ≡ []) }

@@ -123,7 +123,7 @@ fn enumerated<R: Threads + Wait + Sync>(
         9,
         goal,
         &OpenGate,
-        None::<(Journal<NoDisk>, Vec<gm_journal::Seat>)>,
+        None::<(Journal<NoDisk>, Vec<gm_journal::Seat<NoDisk>>)>,
     ))
 }
 

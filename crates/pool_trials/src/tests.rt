@@ -77,7 +77,7 @@ fn list_in_meeting<R: Threads + Wait + Sync>(
         9,
         Goal::All,
         &OpenGate,
-        None::<(Journal<NoDisk>, Vec<gm_journal::Seat>)>,
+        None::<(Journal<NoDisk>, Vec<gm_journal::Seat<NoDisk>>)>,
     ))
 }
 

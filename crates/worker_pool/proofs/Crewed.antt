@@ -51,16 +51,16 @@ pub told_of : {A B : Type 0} (f : A → B) (ws more : List A) (rest new : List B
 told_of f ws more rest new w all was next pushed =
     ap (λ l. map f l ++ new) pushed ∙ ap (λ l. l ++ new) (map-append f ws (w ∷ [])) ∙ append_assoc (map f ws) (f w ∷ []) new ∙ ap (λ l. map f ws ++ l) (sym next) ∙ was
 
-module _ {O : Type 0} (j : Option JournalView) (b : LockView Opening) (p : Problem) (state : O → OracleState) (count : ℕ) (seats : List (SeatView Entry Opening)) (new : AreNew b count seats) (workers : b.opening.workers ≡ count) where
-  seat_at : (ws : List (Worker O)) → map seat_of ws ≡ seats → (k : ℕ) (d : Worker O) → k < length ws → (get_or ws k d).seat ≡ new_seat b.id b.opening (made_at k count) k
+module _ {O D : Type 0} (j : Option JournalView) (b : LockView Opening) (p : Problem) (state : O → OracleState) (count : ℕ) (seats : List (SeatView Entry Opening)) (new : AreNew b count seats) (workers : b.opening.workers ≡ count) where
+  seat_at : (ws : List (Worker O D)) → map seat_of ws ≡ seats → (k : ℕ) (d : Worker O D) → k < length ws → (get_or ws k d).seat ≡ new_seat b.id b.opening (made_at k count) k
   seat_at ws same k d low =
       let size = length-map ws seat_of in
       let all = ap length same in
       sym (get_or-map seat_of ws k d (seat_of d) low) ∙ (ap (λ (z : List (SeatView Entry Opening)). get_or z k (seat_of d)) same ∙ new.each k (seat_of d) (omega arith))
 
   -- a worker for each new seat, with a fresh oracle
-  pub all_new : (oracles : List O) (ws : List (Worker O)) → All (λ o. IsFresh p (state o)) oracles → map oracle_of ws ≡ oracles → map seat_of ws ≡ seats
-      → All (λ (w : Worker O). IsNew b p (state w.oracle) w.seat) ws
+  pub all_new : (oracles : List O) (ws : List (Worker O D)) → All (λ o. IsFresh p (state o)) oracles → map oracle_of ws ≡ oracles → map seat_of ws ≡ seats
+      → All (λ (w : Worker O D). IsNew b p (state w.oracle) w.seat) ws
   all_new oracles ws fresh from same k d low =
       let seat = seat_at ws same k d low in
       let number = ap (λ (s : SeatView Entry Opening). s.number) seat in
@@ -78,15 +78,15 @@ module _ {O : Type 0} (j : Option JournalView) (b : LockView Opening) (p : Probl
       }
 
   -- the worker at a place, when it is over: its seat has the number of the place
-  abbrev IsOverAt : ℕ → Worker O → Type 0
+  abbrev IsOverAt : ℕ → Worker O D → Type 0
   IsOverAt k t = (t.seat.number ≡ k) × (t.seat.made ≡ made_at k count) × IsOver (is_some j) b p (state t.oracle) t.seat
 
-  over_at : (ws ts : List (Worker O)) → map seat_of ws ≡ seats → length ts ≡ length ws → ((k : ℕ) (d : Worker O) → k < length ws → HasWorked j b p state (get_or ws k d) (get_or ts k d))
-      → (k : ℕ) → k < length ts → (t : Worker O) × IsOverAt k t × ((d : SeatView Entry Opening) → get_or (map seat_of ts) k d ≡ t.seat) × ((d : List LogStep) → get_or (map (log_of state) ts) k d ≡ (state t.oracle).log)
+  over_at : (ws ts : List (Worker O D)) → map seat_of ws ≡ seats → length ts ≡ length ws → ((k : ℕ) (d : Worker O D) → k < length ws → HasWorked j b p state (get_or ws k d) (get_or ts k d))
+      → (k : ℕ) → k < length ts → (t : Worker O D) × IsOverAt k t × ((d : SeatView Entry Opening) → get_or (map seat_of ts) k d ≡ t.seat) × ((d : List LogStep) → get_or (map (log_of state) ts) k d ≡ (state t.oracle).log)
   over_at ws ts same size each k low =
       let a = at_place seat_of ts k low in
       let l = at_place (log_of state) ts k low in
-      let t : Worker O = a.0 in
+      let t : Worker O D = a.0 in
       let inside : k < length ws = omega arith in
       let seat = seat_at ws same k t inside in
       let worked : HasWorked j b p state (get_or ws k t) t = subst (HasWorked j b p state (get_or ws k t)) (a.1 t) (each k t inside) in
@@ -98,8 +98,8 @@ module _ {O : Type 0} (j : Option JournalView) (b : LockView Opening) (p : Probl
       )
 
   -- all workers are over
-  pub are_over : (ws ts : List (Worker O)) (ends : List (SeatView Entry Opening)) (logs : List (List LogStep)) → 0 < count → b.opening.problem ≡ p → map seat_of ws ≡ seats → length ts ≡ length ws
-      → ((k : ℕ) (d : Worker O) → k < length ws → HasWorked j b p state (get_or ws k d) (get_or ts k d)) → ends ≡ map seat_of ts → logs ≡ map (log_of state) ts → All (IsHonestOver p) logs → AreOver (is_some j) b ends logs
+  pub are_over : (ws ts : List (Worker O D)) (ends : List (SeatView Entry Opening)) (logs : List (List LogStep)) → 0 < count → b.opening.problem ≡ p → map seat_of ws ≡ seats → length ts ≡ length ws
+      → ((k : ℕ) (d : Worker O D) → k < length ws → HasWorked j b p state (get_or ws k d) (get_or ts k d)) → ends ≡ map seat_of ts → logs ≡ map (log_of state) ts → All (IsHonestOver p) logs → AreOver (is_some j) b ends logs
   are_over ws ts ends logs some of same size each ends_are logs_are honest =
       let at = over_at ws ts same size each in
       let total : length ends ≡ count = ap length ends_are ∙ length-map ts seat_of ∙ size ∙ sym (length-map ws seat_of) ∙ ap length same ∙ new.count_is in

@@ -33,12 +33,12 @@ no_news r posted.Limit new = refl
 no_news r posted.Memory new = refl
 
 -- what is kept is so from an earlier moment on
-pub kept_from : {O : Type 0} {j : Option JournalView} (v w t : Worker O) → IsSamePen v.pen w.pen → HasKept j w t → HasKept j v t
+pub kept_from : {O D : Type 0} {j : Option JournalView} (v w t : Worker O D) → IsSamePen v.pen w.pen → HasKept j w t → HasKept j v t
 kept_from v w t same k = record { pen = same_pens v.pen w.pen t.pen same k.pen; written = k.written; broken = k.broken }
 
-module _ {O : Type 0} {j : Option JournalView} {p : Problem} where
+module _ {O D : Type 0} {j : Option JournalView} {p : Problem} where
   -- a call that makes no record new and is no retirement for the journal changes nothing of what it keeps
-  pub keeps_on : {o : Opening} {call : Call} {used : ℕ} {reply : Reply} (w t : Worker O) → IsKeeping j p w → t.pen ≡ w.pen → t.broken ≡ w.broken → IsCall o w.seat call used reply t.seat → news_by call reply ≡ []
+  pub keeps_on : {o : Opening} {call : Call} {used : ℕ} {reply : Reply} (w t : Worker O D) → IsKeeping j p w → t.pen ≡ w.pen → t.broken ≡ w.broken → IsCall o w.seat call used reply t.seat → news_by call reply ≡ []
       → is_for_journal call ≡ false → IsKeeping j p t
   keeps_on w t k pen broken c none other =
       record {
@@ -48,11 +48,11 @@ module _ {O : Type 0} {j : Option JournalView} {p : Problem} where
       }
 
   -- who goes on has kept all
-  pub has_kept : (w t : Worker O) → IsKeeping j p t → IsSamePen w.pen t.pen → HasKept j w t
+  pub has_kept : (w t : Worker O D) → IsKeeping j p t → IsSamePen w.pen t.pen → HasKept j w t
   has_kept w t k same = record { pen = same; written = has_written k.written; broken = k.whole ∙ sym (none_failed (written_by t.pen) k.written.there) }
 
   -- before its first call it has found nothing
-  pub new_keeps : (w : Worker O) → HasNewPen j p w → w.seat.mine ≡ [] → IsKeeping j p w
+  pub new_keeps : (w : Worker O D) → HasNewPen j p w → w.seat.mine ≡ [] → IsKeeping j p w
   new_keeps w n none =
       record {
         pen = n.pen;
@@ -66,7 +66,7 @@ module _ {O : Type 0} {j : Option JournalView} {p : Problem} where
       }
 
   -- behind a post that was new its record is due
-  pub is_due : {o : Opening} {used : ℕ} (w t : Worker O) (r : Record) (text : Option Written) → IsKeeping j p w → t.pen ≡ w.pen → t.broken ≡ w.broken → IsCall o w.seat (Post (kind_of r) (set_of r)) used New t.seat
+  pub is_due : {o : Opening} {used : ℕ} (w t : Worker O D) (r : Record) (text : Option Written) → IsKeeping j p w → t.pen ≡ w.pen → t.broken ≡ w.broken → IsCall o w.seat (Post (kind_of r) (set_of r)) used New t.seat
       → IsAcceptedAlone p r → IsTextFor p r (is_some j) text → IsDue j p t text
   is_due w t r text k pen broken c accepted is =
       let made : news_by c.entry.call c.entry.reply ≡ found_of r ∷ [] = ap (λ (x : Call). news_by x c.entry.reply) c.call_is ∙ ap (news_by (Post (kind_of r) (set_of r))) c.reply_is in

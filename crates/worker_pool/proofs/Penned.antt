@@ -88,21 +88,21 @@ first-alone : (a : Option ℕ) → first_some (a ∷ []) ≡ a
 first-alone None = refl
 first-alone (Some n) = refl
 
-module _ {O : Type 0} where
-  pub pens_back : (pens more : List PenView) (old rest : List (Worker O)) (w : Worker O) (all : List PenView) → pens ++ all_some (map pen_of old) ≡ all → old ≡ w ∷ rest → more ≡ pens ++ all_some (w.pen ∷ [])
+module _ {O D : Type 0} where
+  pub pens_back : (pens more : List PenView) (old rest : List (Worker O D)) (w : Worker O D) (all : List PenView) → pens ++ all_some (map pen_of old) ≡ all → old ≡ w ∷ rest → more ≡ pens ++ all_some (w.pen ∷ [])
       → more ++ all_some (map pen_of rest) ≡ all
   pens_back pens more old rest w all was next pushed =
       ap (λ l. l ++ all_some (map pen_of rest)) pushed ∙ append_assoc pens (all_some (w.pen ∷ [])) (all_some (map pen_of rest)) ∙ ap (λ l. pens ++ l) (sym (all_some-first w.pen (map pen_of rest)))
       ∙ ap (λ l. pens ++ all_some (map pen_of l)) (sym next) ∙ was
 
   -- there is room for the pen
-  pub pen_room : {room : ℕ} (pens : List PenView) (old rest : List (Worker O)) (w : Worker O) → length pens + length (all_some (map pen_of old)) ≤ room → old ≡ w ∷ rest → length pens + length (all_some (w.pen ∷ [])) ≤ room
+  pub pen_room : {room : ℕ} (pens : List PenView) (old rest : List (Worker O D)) (w : Worker O D) → length pens + length (all_some (map pen_of old)) ≤ room → old ≡ w ∷ rest → length pens + length (all_some (w.pen ∷ [])) ≤ room
   pen_room pens old rest w was next =
       let split = ap length (ap (λ l. all_some (map pen_of l)) next ∙ all_some-first w.pen (map pen_of rest)) in
       let both = length-append (all_some (w.pen ∷ [])) (all_some (map pen_of rest)) in
       omega arith
 
-  pub pens_room : {room now : ℕ} (pens more : List PenView) (old rest : List (Worker O)) (w : Worker O) → length pens + length (all_some (map pen_of old)) ≤ room → old ≡ w ∷ rest → more ≡ pens ++ all_some (w.pen ∷ []) → now ≡ room
+  pub pens_room : {room now : ℕ} (pens more : List PenView) (old rest : List (Worker O D)) (w : Worker O D) → length pens + length (all_some (map pen_of old)) ≤ room → old ≡ w ∷ rest → more ≡ pens ++ all_some (w.pen ∷ []) → now ≡ room
       → length more + length (all_some (map pen_of rest)) ≤ now
   pens_room pens more old rest w was next pushed same =
       let split = ap length (ap (λ l. all_some (map pen_of l)) next ∙ all_some-first w.pen (map pen_of rest)) in
@@ -111,24 +111,24 @@ module _ {O : Type 0} where
       let sum = length-append pens (all_some (w.pen ∷ [])) in
       omega arith
 
-  pub all_back : (pens : List PenView) (rest : List (Worker O)) (all : List PenView) → pens ++ all_some (map pen_of rest) ≡ all → length rest ≡ 0 → pens ≡ all
+  pub all_back : (pens : List PenView) (rest : List (Worker O D)) (all : List PenView) → pens ++ all_some (map pen_of rest) ≡ all → length rest ≡ 0 → pens ≡ all
   all_back pens [] all was none = sym (append-nil pens) ∙ was
   all_back pens (w ∷ rest) all was none = absurd (omega (arith, none))
 
-  pub broken_back : (first more : Option ℕ) (old rest : List (Worker O)) (w : Worker O) (all : Option ℕ) → first_some (first ∷ map broken_of old) ≡ all → old ≡ w ∷ rest → more ≡ first_some (first ∷ w.broken ∷ [])
+  pub broken_back : (first more : Option ℕ) (old rest : List (Worker O D)) (w : Worker O D) (all : Option ℕ) → first_some (first ∷ map broken_of old) ≡ all → old ≡ w ∷ rest → more ≡ first_some (first ∷ w.broken ∷ [])
       → first_some (more ∷ map broken_of rest) ≡ all
   broken_back first more old rest w all was next is =
       ap (λ x. first_some (x ∷ map broken_of rest)) is ∙ first-both first w.broken (map broken_of rest) ∙ ap (λ l. first_some (first ∷ map broken_of l)) (sym next) ∙ was
 
-  pub first_left : (first : Option ℕ) (rest : List (Worker O)) (all : Option ℕ) → first_some (first ∷ map broken_of rest) ≡ all → length rest ≡ 0 → first ≡ all
+  pub first_left : (first : Option ℕ) (rest : List (Worker O D)) (all : Option ℕ) → first_some (first ∷ map broken_of rest) ≡ all → length rest ≡ 0 → first ≡ all
   first_left first [] all was none = sym (first-alone first) ∙ was
   first_left first (w ∷ rest) all was none = absurd (omega (arith, none))
 
 -- ---- new pens
 
 -- each worker has one, or none where there is no journal
-pub all_new_pens : {O : Type 0} (o : Opening) (p : Problem) (j : Option JournalView) (pens : List PenView) (ws : List (Worker O)) (n : ℕ) → o.problem ≡ p → length ws ≡ n → o.workers ≡ n → ArePensFor o j pens
-    → map pen_of ws ≡ one_each n pens → All (λ (w : Worker O). w.broken ≡ None) ws → All (λ (w : Worker O). HasNewPen j p w) ws
+pub all_new_pens : {O D : Type 0} (o : Opening) (p : Problem) (j : Option JournalView) (pens : List PenView) (ws : List (Worker O D)) (n : ℕ) → o.problem ≡ p → length ws ≡ n → o.workers ≡ n → ArePensFor o j pens
+    → map pen_of ws ≡ one_each n pens → All (λ (w : Worker O D). w.broken ≡ None) ws → All (λ (w : Worker O D). HasNewPen j p w) ws
 all_new_pens o p None pens ws n of size all none are whole k d low =
     let inside : k < n = omega arith in
     let pen : (get_or ws k d).pen ≡ None = sym (get_or-map pen_of ws k d (pen_of d) low) ∙ ap (λ l. get_or l k (pen_of d)) are ∙ ap (λ l. get_or (one_each n l) k (pen_of d)) none ∙ none-each n k (pen_of d) inside in
@@ -158,24 +158,24 @@ the_pen s None same = absurd same
 the_pen s (Some t) same = (t, refl, same)
 
 -- what is said of them when the board is closed
-pub tells_pens : {O : Type 0} (o : Opening) (b : LockView Opening) (p : Problem) (state : O → OracleState) (j : Option JournalView) (pens left : List PenView) (ws ts : List (Worker O)) (n : ℕ)
+pub tells_pens : {O D : Type 0} (o : Opening) (b : LockView Opening) (p : Problem) (state : O → OracleState) (j : Option JournalView) (pens left : List PenView) (ws ts : List (Worker O D)) (n : ℕ)
     (ends : List (SeatView Entry Opening)) (closing : Closing) (broken : Option ℕ) → 0 < n → length ws ≡ n → length ts ≡ length ws → o.workers ≡ n → ArePensFor o j pens → map pen_of ws ≡ one_each n pens
-    → ((k : ℕ) (d : Worker O) → k < length ws → HasWorked j b p state (get_or ws k d) (get_or ts k d)) → left ≡ all_some (map pen_of ts) → broken ≡ first_some (map broken_of ts)
+    → ((k : ℕ) (d : Worker O D) → k < length ws → HasWorked j b p state (get_or ws k d) (get_or ts k d)) → left ≡ all_some (map pen_of ts) → broken ≡ first_some (map broken_of ts)
     → ends ≡ map seat_of ts → HaveCalls closing.history ends → TellsPens o j pens closing broken left
-tells_pens {O} o b p state None pens left ws ts n ends closing broken some size same all none are each left_is broken_is ends_are calls =
-    broken_is ∙ ap first_some (same-map broken_of (λ (t : Worker O). None) ts (λ k d low.
+tells_pens {O} {D} o b p state None pens left ws ts n ends closing broken some size same all none are each left_is broken_is ends_are calls =
+    broken_is ∙ ap first_some (same-map broken_of (λ (t : Worker O D). None) ts (λ k d low.
     let inside : k < n = omega arith in
     let kept = (each k d (omega arith)).kept in
     let pen : (get_or ws k d).pen ≡ None = sym (get_or-map pen_of ws k d (pen_of d) (omega arith)) ∙ ap (λ l. get_or l k (pen_of d)) are ∙ ap (λ l. get_or (one_each n l) k (pen_of d)) none ∙ none-each n k (pen_of d) inside in
     let back = no_pen (get_or ts k d).pen (subst (λ x. IsSamePen x (get_or ts k d).pen) pen kept.pen) in
     kept.broken ∙ ap (λ x. failure_in (written_by x)) back)) ∙ none-first ts
-tells_pens {O} o b p state (Some j) pens left ws ts n ends closing broken some size same all ready are each left_is broken_is ends_are calls =
+tells_pens {O} {D} o b p state (Some j) pens left ws ts n ends closing broken some size same all ready are each left_is broken_is ends_are calls =
     let count = ready.all.count_is in
     let e : PenView = new_seat j.id j.opening 0 0 in
-    let pen : (k : ℕ) (d : Worker O) → k < length ts → (get_or ws k d).pen ≡ Some (new_seat j.id j.opening (made_at k n) k) = λ k d low.
+    let pen : (k : ℕ) (d : Worker O D) → k < length ts → (get_or ws k d).pen ≡ Some (new_seat j.id j.opening (made_at k n) k) = λ k d low.
     sym (get_or-map pen_of ws k d (pen_of d) (omega arith)) ∙ ap (λ l. get_or l k (pen_of d)) are ∙ some-each n k pens (pen_of d) e (omega arith) (omega arith)
     ∙ ap (λ (s : PenView). Some s) (ready.all.each k e (omega arith) ∙ ap (λ (m : ℕ). new_seat j.id j.opening (made_at k m) k) all) in
-    let back : (k : ℕ) (d : Worker O) → k < length ts → (t : PenView) × ((get_or ts k d).pen ≡ Some t) × IsSameSeat (new_seat j.id j.opening (made_at k n) k) t = λ k d low.
+    let back : (k : ℕ) (d : Worker O D) → k < length ts → (t : PenView) × ((get_or ts k d).pen ≡ Some t) × IsSameSeat (new_seat j.id j.opening (made_at k n) k) t = λ k d low.
     the_pen (new_seat j.id j.opening (made_at k n) k) (get_or ts k d).pen (subst (λ x. IsSamePen x (get_or ts k d).pen) (pen k d low) (each k d (omega arith)).kept.pen) in
     let mapped = length-map ts pen_of in
     let there : map Some left ≡ map pen_of ts = ap (map Some) left_is ∙ all-there (map pen_of ts) (λ k low.
@@ -184,11 +184,11 @@ tells_pens {O} o b p state (Some j) pens left ws ts n ends closing broken some s
     let t = back k a.0 inside in
     (t.0, a.2 None ∙ ap pen_of (sym (a.1 a.0)) ∙ t.1)) in
     let total : length left ≡ length ts = sym (length-map left Some) ∙ ap length there ∙ mapped in
-    let left_at : (k : ℕ) (d : PenView) (f : Worker O) → k < length ts → Some (get_or left k d) ≡ (get_or ts k f).pen = λ k d f low.
+    let left_at : (k : ℕ) (d : PenView) (f : Worker O D) → k < length ts → Some (get_or left k d) ≡ (get_or ts k f).pen = λ k d f low.
     sym (get_or-map Some left k d (Some d) (omega arith)) ∙ ap (λ l. get_or l k (Some d)) there ∙ (at_place pen_of ts k low).2 (Some d) ∙ ap pen_of (sym ((at_place pen_of ts k low).1 f)) in
-    let same_at : (k : ℕ) (d : PenView) (f : Worker O) → k < length ts → IsSameSeat (new_seat j.id j.opening (made_at k n) k) (get_or left k d) = λ k d f low.
+    let same_at : (k : ℕ) (d : PenView) (f : Worker O D) → k < length ts → IsSameSeat (new_seat j.id j.opening (made_at k n) k) (get_or left k d) = λ k d f low.
     let t = back k f low in subst (λ (s : PenView). IsSameSeat (new_seat j.id j.opening (made_at k n) k) s) (inner (sym (left_at k d f low ∙ t.1))) t.2 in
-    let worker_at : (k : ℕ) → k < length ts → Worker O = λ k low. (at_place pen_of ts k low).0 in
+    let worker_at : (k : ℕ) → k < length ts → Worker O D = λ k low. (at_place pen_of ts k low).0 in
     record {
       same = refl;
       all =
@@ -199,7 +199,7 @@ tells_pens {O} o b p state (Some j) pens left ws ts n ends closing broken some s
             made = λ k d low. let i : k < length ts = omega arith in (same_at k d (worker_at k i) i).made ∙ ap (made_at k) (omega arith);
           };
       count = omega arith;
-      broken_is = broken_is ∙ ap first_some (same-map broken_of (λ (t : Worker O). failure_in (written_by t.pen)) ts (λ k d low. (each k d (omega arith)).kept.broken)
+      broken_is = broken_is ∙ ap first_some (same-map broken_of (λ (t : Worker O D). failure_in (written_by t.pen)) ts (λ k d low. (each k d (omega arith)).kept.broken)
           ∙ sym (map-of (λ x. failure_in (written_by x)) pen_of ts) ∙ ap (map (λ x. failure_in (written_by x))) (sym there) ∙ map-of (λ x. failure_in (written_by x)) Some left);
       written =
           record {
@@ -235,8 +235,8 @@ same_count (Some x ∷ xs) (None ∷ ys) size each = absurd (each 0 None None (o
 same_count (Some x ∷ xs) (Some y ∷ ys) size each = ap suc (same_count xs ys (omega (arith, size)) (λ k d e low. each (suc k) d e (omega arith)))
 
 -- as many come back as were handed out
-pub back_few : {O : Type 0} (pens : List PenView) (n : ℕ) (ws ts : List (Worker O)) → length ts ≡ length ws → map pen_of ws ≡ one_each n pens
-    → ((k : ℕ) (d : Worker O) → k < length ws → IsSamePen (get_or ws k d).pen (get_or ts k d).pen) → length (all_some (map pen_of ts)) ≤ length pens
+pub back_few : {O D : Type 0} (pens : List PenView) (n : ℕ) (ws ts : List (Worker O D)) → length ts ≡ length ws → map pen_of ws ≡ one_each n pens
+    → ((k : ℕ) (d : Worker O D) → k < length ws → IsSamePen (get_or ws k d).pen (get_or ts k d).pen) → length (all_some (map pen_of ts)) ≤ length pens
 back_few pens n ws ts size are each =
     let old = length-map ws pen_of in
     let new = length-map ts pen_of in

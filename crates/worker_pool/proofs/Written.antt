@@ -26,7 +26,7 @@ use Rattle.gm_journal.specs.Histories.{IsOfRecord, is_want, has_ended}
 use Rattle.gm_journal.specs.Journals.{MayCall, IsAppend}
 use Rattle.board.specs.Boards.{SeatView, IsCall}
 use Rattle.worker_pool.specs.declared.worker.Worker.{Worker}
-use Rattle.worker_pool.specs.Pens.{JournalView, PenView, written_by, set_in, is_there, is_refused, failure_or, failure_in, HasWritten, IsWriting, IsPenOf, IsSamePen}
+use Rattle.worker_pool.specs.Pens.{JournalView, PenView, written_by, set_in, is_there, is_refused, failure_or, failure_in, AreThereBefore, HasWritten, IsWriting, IsPenOf, IsSamePen}
 use Rattle.worker_pool.specs.Handing.{IsForJournal, set_of_text, MayWrite, TellsWritten, failure_of, retirement_by}
 
 -- a journal is there however it is seen
@@ -97,9 +97,19 @@ going_on (x ∷ xs) all = or_from (is_want x.reply) (has_ended xs) (there_not_wa
     there_not_want (appended.Failed count) is = refl
     there_not_want appended.Memory is = absurd (cc)
 
+before-push : (ws : List EntryView) (e : EntryView) → AllByRecursion (λ (x : EntryView). is_there x.reply ≡ true) ws → AreThereBefore (ws ++ e ∷ [])
+before-push [] e all = tt
+before-push (x ∷ []) e all = (all.0, tt)
+before-push (x ∷ y ∷ ys) e all = (all.0, before-push (y ∷ ys) e all.1)
+
+all_before : (ws : List EntryView) → AllByRecursion (λ (x : EntryView). is_there x.reply ≡ true) ws → AreThereBefore ws
+all_before [] all = tt
+all_before (x ∷ []) all = tt
+all_before (x ∷ y ∷ ys) all = (all.0, all_before (y ∷ ys) all.1)
+
 -- who goes on has written what it found
 pub has_written : {keeps : Bool} {mine : List Entry} {ws : List EntryView} → IsWriting keeps mine ws → HasWritten keeps mine ws
-has_written {ws = ws} w = record { news = w.news; cut_off = w.going ∙ sym (none_refused ws w.there); there = λ _. w.there }
+has_written {ws = ws} w = record { news = w.news; cut_off = w.going ∙ sym (none_refused ws w.there); there = λ _. w.there; before = all_before ws w.there }
 
 -- a call that makes no record new and is no retirement for the journal changes nothing of it
 pub still_writing : {keeps : Bool} {o : Opening} {s t : SeatView Entry Opening} {call : Call} {used : ℕ} {reply : Reply} {ws : List EntryView} → IsWriting keeps s.mine ws → IsCall o s call used reply t
@@ -222,6 +232,7 @@ ends_writing (Some j) (Some p) (Some w) (Some r) (Some q) {s = s} {t = t} why al
       refl,
       record {
         news = λ keeps. ap (map set_in) told.mine ∙ sets-push p.mine told.entry (new_in s.mine) told.text_is (news keeps) ∙ sym none;
+        before = subst AreThereBefore (sym told.mine) (before-push p.mine told.entry all);
         cut_off = refused ∙ sym last;
         there = λ not. absurd (apart (sym retired ∙ not));
       },

@@ -36,7 +36,7 @@ set_of_text None = []
 set_of_text (Some w) = w.found ∷ []
 
 -- a worker all of whose new records the journal has, but for the last one, whose text this is
-pub record IsDue {O : Type 0} (j : Option JournalView) (p : Problem) (w : Worker O) (text : Option Written) : Type 0 where
+pub record IsDue {O D : Type 0} (j : Option JournalView) (p : Problem) (w : Worker O D) (text : Option Written) : Type 0 where
   pub pen : IsPenOf p j w.pen
   pub is_text : IsForJournal p j text
   pub news : is_some j ≡ true → map set_in (written_by w.pen) ++ set_of_text text ≡ new_in w.seat.mine

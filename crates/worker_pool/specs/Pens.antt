@@ -70,12 +70,20 @@ first_some (Some n ∷ rest) = Some n
 abbrev pub failure_among : List PenView → Option ℕ
 failure_among pens = first_some (map (λ (pen : PenView). failure_in pen.mine) pens)
 
+-- the journal has all of these but maybe the last
+abbrev pub AreThereBefore : List EntryView → Type 0
+AreThereBefore [] = Unit {0}
+AreThereBefore (e ∷ []) = Unit {0}
+AreThereBefore (e ∷ f ∷ es) = (is_there e.reply ≡ true) × AreThereBefore (f ∷ es)
+
 -- What a worker wrote that made these entries at the board, where it keeps a journal: its new records, in their order. It
--- retired for the journal exactly where an append was refused; and where it did not retire, the journal has them all
+-- retired for the journal exactly where an append was refused; and where it did not retire, the journal has them all, and else
+-- all but maybe the last
 pub record HasWritten (keeps : Bool) (mine : List Entry) (written : List EntryView) : Type 0 where
   pub news : keeps ≡ true → map set_in written ≡ new_in mine
   pub cut_off : is_cut_off mine ≡ list_any (λ (e : EntryView). is_refused e.reply) written
   pub there : list_any (λ (e : Entry). is_retirement e.reply) mine ≡ false → AllByRecursion (λ (e : EntryView). is_there e.reply ≡ true) written
+  pub before : AreThereBefore written
 
 -- the same of a worker that goes on
 pub record IsWriting (keeps : Bool) (mine : List Entry) (written : List EntryView) : Type 0 where

@@ -25,7 +25,7 @@ pub record IsNew (b : LockView Opening) (p : Problem) (o : OracleState) (s : Sea
   pub none_yet : s.mine ≡ []
 
 -- a pen of the journal, where there is one, with which nothing was appended
-pub record HasNewPen {O : Type 0} (j : Option JournalView) (p : Problem) (w : Worker O) : Type 0 where
+pub record HasNewPen {O D : Type 0} (j : Option JournalView) (p : Problem) (w : Worker O D) : Type 0 where
   pub pen : IsPenOf p j w.pen
   pub none_yet : written_by w.pen ≡ []
   pub whole : w.broken ≡ None
@@ -63,34 +63,34 @@ pub record IsOver (keeps : Bool) (b : LockView Opening) (p : Problem) (o : Oracl
   pub undecided : EndsUndecided p o.log s.mine
 
 -- what a worker that goes on has written so far, and no append of it failed
-pub record IsKeeping {O : Type 0} (j : Option JournalView) (p : Problem) (w : Worker O) : Type 0 where
+pub record IsKeeping {O D : Type 0} (j : Option JournalView) (p : Problem) (w : Worker O D) : Type 0 where
   pub pen : IsPenOf p j w.pen
   pub written : IsWriting (is_some j) w.seat.mine (written_by w.pen)
   pub whole : w.broken ≡ None
 
 -- what a worker that is over has written, with its pen, and the count with which an append of it failed
-pub record HasKept {O : Type 0} (j : Option JournalView) (w t : Worker O) : Type 0 where
+pub record HasKept {O D : Type 0} (j : Option JournalView) (w t : Worker O D) : Type 0 where
   pub pen : IsSamePen w.pen t.pen
   pub written : HasWritten (is_some j) t.seat.mine (written_by t.pen)
   pub broken : t.broken ≡ failure_in (written_by t.pen)
 
-abbrev pub oracle_of : {O : Type 0} → Worker O → O
+abbrev pub oracle_of : {O D : Type 0} → Worker O D → O
 oracle_of w = w.oracle
 
-abbrev pub seat_of : {O : Type 0} → Worker O → SeatView Entry Opening
+abbrev pub seat_of : {O D : Type 0} → Worker O D → SeatView Entry Opening
 seat_of w = w.seat
 
-abbrev pub pen_of : {O : Type 0} → Worker O → Option PenView
+abbrev pub pen_of : {O D : Type 0} → Worker O D → Option PenView
 pen_of w = w.pen
 
-abbrev pub broken_of : {O : Type 0} → Worker O → Option ℕ
+abbrev pub broken_of : {O D : Type 0} → Worker O D → Option ℕ
 broken_of w = w.broken
 
-abbrev pub log_of : {O : Type 0} → (O → OracleState) → Worker O → List LogStep
+abbrev pub log_of : {O D : Type 0} → (O → OracleState) → Worker O D → List LogStep
 log_of state w = (state w.oracle).log
 
 -- the same worker, after its last entry
-pub record HasWorked {O : Type 0} (j : Option JournalView) (b : LockView Opening) (p : Problem) (state : O → OracleState) (w t : Worker O) : Type 0 where
+pub record HasWorked {O D : Type 0} (j : Option JournalView) (b : LockView Opening) (p : Problem) (state : O → OracleState) (w t : Worker O D) : Type 0 where
   pub same : IsSameSeat w.seat t.seat
   pub over : IsOver (is_some j) b p (state t.oracle) t.seat
   pub kept : HasKept j w t

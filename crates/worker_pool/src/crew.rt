@@ -1,5 +1,6 @@
 //! The crew: all workers, from the oracles and the seats, to the seats and the logs.
 ghost use Rattle.std.specs.Prelude.{◌≡◌, ◌⊎◌, ◌+◌, ◌<◌, ◌≤◌, ◌++◌, ◌∷◌, [], ℕ, List, map, All, Some, None, IfOk, IfErr, IfNone, IfSome, length, slice_index_or, vec_capacity, vec_len, option_copied};
+ghost use denote.Param.Send.{IsSync};
 ghost use Rattle.evidence_rec.specs.Asking.{IsHonestOver};
 ghost use Rattle.map_core.specs.Sound.{IsOpening};
 ghost use Rattle.worker_pool.specs.Pens.{one_each, all_some, first_some};
@@ -22,12 +23,12 @@ use std::thread::{self, Threads};
 
 /// A worker for each oracle, with the seat at its place, and the pen, while there are any. The lists of seats and of pens
 /// keep their room.
-pub fn hire<O: Oracle + Drop>(
+pub fn hire<O: Oracle + Drop, D: Disk>(
     alloc: Global,
     oracles: Vec<O>,
     seats: &mut Vec<Seat>,
-    pens: &mut Vec<gm_journal::Seat>,
-) -> Result<Vec<Worker<O>>, AllocError>
+    pens: &mut Vec<gm_journal::Seat<D>>,
+) -> Result<Vec<Worker<O, D>>, AllocError>
     requires seats { length seats.old.items ≡ length oracles.items }
     requires pens { length pens.old.items ≤ length oracles.items }
     ensures oracles { IfOk result (λ workers. map oracle_of workers.items ≡ oracles.items) }
@@ -53,7 +54,7 @@ pub fn hire<O: Oracle + Drop>(
 }
 
 // The first of a list, which leaves it.
-fn first_of(pens: &mut Vec<gm_journal::Seat>) -> Option<gm_journal::Seat>
+fn first_of<D: Disk>(pens: &mut Vec<gm_journal::Seat<D>>) -> Option<gm_journal::Seat<D>>
     ensures some { IfSome result (λ pen. pens.old.items ≡ pen ∷ pens.new.items) }
     ensures none { IfNone result ((pens.old.items ≡ []) × (pens.new.items ≡ [])) }
     ensures room { vec_capacity pens.new ≡ vec_capacity pens.old }
@@ -108,7 +109,7 @@ pub fn work_all<
     board: &Board<M>,
     problem: &Problem,
     goal: Goal,
-    workers: &mut [Worker<O>],
+    workers: &mut [Worker<O, D>],
     gate: &G,
     journal: Option<&Journal<D>>,
 )
@@ -122,11 +123,13 @@ pub fn work_all<
     let threads = threads_for(rt, workers.len());
     let leader = leader_of(workers.len(), threads);
     let signs = Signs::new();
+    is_shared(Some(board));
+    is_shared(journal);
     thread::for_each_mut(
         rt,
         workers,
         threads,
-        &|place: usize, worker: &mut Worker<O>|
+        &|place: usize, worker: &mut Worker<O, D>|
             requires { (board.now.opening.problem ≡ problem.now) × IsOpening board.now.opening × IsNew board.now problem.now (O.state worker.old.oracle) worker.old.seat × HasNewPen (option_copied journal) problem.now worker.old }
             ensures { HasWorked (option_copied journal.entry) board.entry.now problem.entry.now O.state worker.old worker.new }
         {
@@ -138,13 +141,18 @@ pub fn work_all<
     );
 }
 
+// That threads may share it, which is proved where this is called.
+fn is_shared<T: Sync>(_value: Option<&T>)
+    ensures { IsSync T.row }
+{}
+
 /// The seats of all workers go back to their list, so do their pens, and the logs of their oracles go to theirs. It gives the
 /// count with which an append failed, if one did.
-pub fn dismiss<O: Oracle + Drop>(
+pub fn dismiss<O: Oracle + Drop, D: Disk>(
     problem: &Problem,
-    workers: Vec<Worker<O>>,
+    workers: Vec<Worker<O, D>>,
     seats: &mut Vec<Seat>,
-    pens: &mut Vec<gm_journal::Seat>,
+    pens: &mut Vec<gm_journal::Seat<D>>,
     logs: &mut Vec<Log>,
 ) -> Option<u64>
     requires problem { All (λ w. (O.state w.oracle).problem ≡ problem.now) workers.items }
@@ -185,7 +193,7 @@ fn either(first: Option<u64>, other: Option<u64>) -> Option<u64>
 }
 
 // A pen goes to the end of its list, where there is one.
-fn put_back(pen: Option<gm_journal::Seat>, pens: &mut Vec<gm_journal::Seat>)
+fn put_back<D: Disk>(pen: Option<gm_journal::Seat<D>>, pens: &mut Vec<gm_journal::Seat<D>>)
     requires { length pens.old.items + length (all_some (pen ∷ [])) ≤ vec_capacity pens.old }
     ensures items { pens.new.items ≡ pens.old.items ++ all_some (pen ∷ []) }
     ensures room { vec_capacity pens.new ≡ vec_capacity pens.old }

@@ -30,7 +30,7 @@ pub fn hand_in<O: Oracle, M: MapEngine, D: Disk, R: Wait>(
     board: &Board<M>,
     problem: &Problem,
     journal: Option<&Journal<D>>,
-    worker: &mut Worker<O>,
+    worker: &mut Worker<O, D>,
     seed: &GroupSet,
     used: u64,
     finding: Record,
@@ -87,7 +87,7 @@ fn keep<O: Oracle, M: MapEngine, D: Disk, R: Wait>(
     board: &Board<M>,
     problem: &Problem,
     journal: Option<&Journal<D>>,
-    worker: &mut Worker<O>,
+    worker: &mut Worker<O, D>,
     text: Option<RecordText>,
 ) -> bool
     requires at { IsAt (is_some (option_copied journal)) board.now problem.now Free (O.state worker.old.oracle) worker.old.seat }
@@ -116,7 +116,7 @@ fn keep<O: Oracle, M: MapEngine, D: Disk, R: Wait>(
 fn write<D: Disk, R: Wait>(
     rt: &R,
     journal: Option<&Journal<D>>,
-    pen: &mut Option<gm_journal::Seat>,
+    pen: &mut Option<gm_journal::Seat<D>>,
     text: Option<RecordText>,
 ) -> Option<Appended>
     requires { MayWrite (option_copied journal) pen.old text }

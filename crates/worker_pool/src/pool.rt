@@ -34,7 +34,7 @@ pub struct Outcome<D: Disk> {
     /// The disk's count of faults, where an append failed.
     pub broken: Option<u64>,
     /// The journal, with all its seats.
-    pub journal: Option<(Journal<D>, Vec<gm_journal::Seat>)>,
+    pub journal: Option<(Journal<D>, Vec<gm_journal::Seat<D>>)>,
 }
 
 // What is left of the board and the oracles.
@@ -67,7 +67,7 @@ pub fn enumerate<
     limit: u64,
     goal: Goal,
     gate: &G,
-    journal: Option<(Journal<D>, Vec<gm_journal::Seat>)>,
+    journal: Option<(Journal<D>, Vec<gm_journal::Seat<D>>)>,
 ) -> Outcome<D>
     requires opening { IsOpening (opening_of problem.now records (length oracles.items) budget limit goal M.TOPS) }
     requires oracles { All (λ o. IsFresh problem.now (O.state o)) oracles.items }
@@ -99,8 +99,8 @@ pub fn enumerate<
 // The journal and its seats, or none.
 fn parts_of<D: Disk>(
     alloc: Global,
-    journal: Option<(Journal<D>, Vec<gm_journal::Seat>)>,
-) -> (Option<Journal<D>>, Vec<gm_journal::Seat>)
+    journal: Option<(Journal<D>, Vec<gm_journal::Seat<D>>)>,
+) -> (Option<Journal<D>>, Vec<gm_journal::Seat<D>>)
     ensures some { IfSome journal (λ x. (result.0 ≡ Some x.0) × (result.1 ≡ x.1)) }
     ensures none { IfNone journal ((result.0 ≡ None) × (result.1.items ≡ [])) }
 {
@@ -115,7 +115,7 @@ fn outcome_of<D: Disk + Drop>(
     alloc: Global,
     ended: Result<(Ended, Option<u64>), AllocError>,
     journal: Option<Journal<D>>,
-    pens: Vec<gm_journal::Seat>,
+    pens: Vec<gm_journal::Seat<D>>,
 ) -> Outcome<D>
     ensures outcome { (o : Opening) (keeps : Bool) → IfOk ended (λ e. IsEnded o keeps e.0) → IsOutcome o keeps result }
     ensures closed { IfOk ended (λ e. (result.closing ≡ Some e.0.closing) × (result.broken ≡ e.1)) }
@@ -173,7 +173,7 @@ fn share<
     goal: Goal,
     gate: &G,
     journal: Option<&Journal<D>>,
-    pens: &mut Vec<gm_journal::Seat>,
+    pens: &mut Vec<gm_journal::Seat<D>>,
 ) -> Result<(Ended, Option<u64>), AllocError>
     requires opening { IsOpening (opening_of problem.now records (length oracles.items) budget limit goal M.TOPS) }
     requires oracles { All (λ o. IsFresh problem.now (O.state o)) oracles.items }

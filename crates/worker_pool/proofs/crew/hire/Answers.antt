@@ -12,7 +12,7 @@ loop-oracle-preserved g c =
     let i = c.loop-oracle.invariant in
     let ws = c.loop-oracle.workers.items in
     let more = c.push_reserved.new.self.items in
-    let w : Worker _ = record { oracle = c.in-Some.oracle; seat = c.remove-seat.result; pen = c.first_of-pen.result; broken = None } in
+    let w : Worker _ _ = record { oracle = c.in-Some.oracle; seat = c.remove-seat.result; pen = c.first_of-pen.result; broken = None } in
     let next = c.in-Some.ensures.steps.0 in
     let seat = c.remove-seat.ensures in
     let pen = c.first_of-pen.ensures in
