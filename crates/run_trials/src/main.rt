@@ -41,30 +41,16 @@
 //!
 //! Words of a `run` are split at blanks, so a blank at the end of the line stands before an empty word.
 //!
-//! Start reading at `trials.rt`; `run.rt` has the one call of the program. Nothing is proved of what is printed.
+//! The player of these calls is in `trial_runs`; `run.rt` has the one call of the program. Nothing is proved of what is printed.
 #![tactic(auto)]
 
-mod ask;
-mod gate;
-mod lines;
-mod machine;
-mod outside;
-mod plain;
 mod run;
-mod setting;
-mod shelf;
-mod small;
-mod sweep;
-mod trials;
 
-use machine::Machine;
-use outside::Outside;
 use run::run_words;
-use setting::Setting;
 use std::alloc::Global;
 use std::{env, io};
+use trial_runs::{Machine, Outside, Setting, Trials};
 use trial_script::play;
-use trials::Trials;
 
 fn main(rt: HostRuntime) -> io::Result<()> {
     let own = rt.clone()?;

@@ -2,8 +2,8 @@
 //!
 //! A run starts threads, and may do so only where the runtime is at hand, in `main`. A player is handed no runtime, so it
 //! holds what `main` makes of it: a closure that runs words.
+use crate::left::Left;
 use crate::outside::Outside;
-use crate::run::Left;
 use crate::setting::Setting;
 use std::alloc::{AllocError, Global};
 

@@ -1,7 +1,7 @@
 //! What is asked of the last run and of the files that it left.
+use crate::left::Left;
 use crate::lines::{first_line, push_lines};
 use crate::outside::Outside;
-use crate::run::Left;
 use crate::setting::text_of;
 use crate::shelf::Shelf;
 use std::alloc::{AllocError, Global};

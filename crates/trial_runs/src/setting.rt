@@ -132,6 +132,12 @@ impl Setting {
         Ok(true)
     }
 
+    /// Holds a text under a name.
+    pub fn hold_text(&mut self, alloc: Global, name: &str, text: &[u8]) -> Result<(), AllocError> {
+        let text = Vec::from_slice(alloc, text)?;
+        self.held.put(alloc, name, text)
+    }
+
     fn change(&mut self, alloc: Global, step: &Step<'_>) -> Result<bool, AllocError> {
         let (Some(from), Some(count)) = (step.number(2), step.number(3)) else {
             return Ok(false);

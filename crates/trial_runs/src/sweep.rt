@@ -2,10 +2,10 @@
 //!
 //! The first run in which no call fails is the last one. Runs next to each other that went alike are told once, with their
 //! number, up to ten; how many writes a text takes is its own matter.
+use crate::left::Left;
 use crate::lines::push_lines;
 use crate::machine::Machine;
-use crate::outside::{Outside, disk_of};
-use crate::run::Left;
+use crate::outside::Outside;
 use crate::setting::{Kind, Setting};
 use std::alloc::{AllocError, Global};
 
@@ -20,6 +20,13 @@ struct Stretch {
 }
 
 impl Stretch {
+    fn new(alloc: Global) -> Stretch {
+        Stretch {
+            count: 0,
+            text: String::new(alloc),
+        }
+    }
+
     fn print(&self, alloc: Global, out: &mut String) -> Result<(), AllocError> {
         let line = match self.count {
             0 => return Ok(()),
@@ -76,6 +83,21 @@ fn run_both(
     Ok(faults.reads > 0 || faults.writes > 0 || faults.disk > 0 || faults.report > 0)
 }
 
+/// The same, counted with the runs before that went alike.
+fn add_both(
+    machine: &Machine,
+    alloc: Global,
+    words: &[&str],
+    setting: &mut Setting,
+    stretch: &mut Stretch,
+    out: &mut String,
+) -> Result<bool, AllocError> {
+    let mut text = String::new(alloc);
+    let failed = run_both(machine, alloc, words, setting, &mut text)?;
+    stretch.add(alloc, text, out)?;
+    Ok(failed)
+}
+
 /// Runs the words with each call of the kind failing in turn, each time twice, and adds how it went.
 pub fn sweep(
     machine: &Machine,
@@ -85,16 +107,10 @@ pub fn sweep(
     setting: &mut Setting,
     out: &mut String,
 ) -> Result<(), AllocError> {
-    let mut stretch = Stretch {
-        count: 0,
-        text: String::new(alloc),
-    };
+    let mut stretch = Stretch::new(alloc);
     for call in 1..MANY {
         setting.fail(kind, Vec::from_slice(alloc, &[call])?);
-        let mut text = String::new(alloc);
-        let failed = run_both(machine, alloc, words, setting, &mut text)?;
-        stretch.add(alloc, text, out)?;
-        if !failed {
+        if !add_both(machine, alloc, words, setting, &mut stretch, out)? {
             return stretch.print(alloc, out);
         }
     }
@@ -121,16 +137,71 @@ fn run_stopped(
     text: &mut String,
 ) -> Result<bool, AllocError> {
     let mut files = Outside::new(alloc, setting)?;
+    stop_and_go_on(machine, alloc, words, setting, call, &mut files, text)
+}
+
+fn stop_and_go_on(
+    machine: &Machine,
+    alloc: Global,
+    words: &[&str],
+    setting: &Setting,
+    call: u64,
+    files: &mut Outside,
+    text: &mut String,
+) -> Result<bool, AllocError> {
+    let failed = stop_at(machine, alloc, words, setting, call, files, text)?;
+    go_on(machine, alloc, words, setting, files, text)?;
+    Ok(failed)
+}
+
+/// Runs the words while the disk's calls fail from this one on, and adds how it went.
+fn stop_at(
+    machine: &Machine,
+    alloc: Global,
+    words: &[&str],
+    setting: &Setting,
+    call: u64,
+    files: &mut Outside,
+    text: &mut String,
+) -> Result<bool, AllocError> {
     let failing = calls_from(alloc, call)?;
-    files.disk = Some(disk_of(alloc, files.bytes(), failing.as_slice())?);
-    let stopped = machine.run(alloc, words, setting, &mut files)?;
+    files.renew_disk(alloc, failing.as_slice())?;
+    let stopped = machine.run(alloc, words, setting, files)?;
     stopped.answer.print(alloc, text)?;
     push_lines(text, "err", stopped.err.as_slice())?;
-    files.disk = Some(disk_of(alloc, files.bytes(), &[])?);
-    let again = machine.run(alloc, words, setting, &mut files)?;
-    text.push_str("then ")?;
-    again.print(alloc, true, text)?;
     Ok(stopped.faults.disk > 0)
+}
+
+/// Runs the words on what was left, with no call failing, and adds how it went.
+fn go_on(
+    machine: &Machine,
+    alloc: Global,
+    words: &[&str],
+    setting: &Setting,
+    files: &mut Outside,
+    text: &mut String,
+) -> Result<(), AllocError> {
+    files.renew_disk(alloc, &[])?;
+    let again = machine.run(alloc, words, setting, files)?;
+    text.push_str("then ")?;
+    again.print(alloc, true, text)
+}
+
+/// Runs the words while the disk's calls fail from this one on and then on what was left, counted with the runs before that went
+/// alike. Answers whether a call failed.
+fn add_stopped(
+    machine: &Machine,
+    alloc: Global,
+    words: &[&str],
+    setting: &Setting,
+    call: u64,
+    stretch: &mut Stretch,
+    out: &mut String,
+) -> Result<bool, AllocError> {
+    let mut text = String::new(alloc);
+    let failed = run_stopped(machine, alloc, words, setting, call, &mut text)?;
+    stretch.add(alloc, text, out)?;
+    Ok(failed)
 }
 
 /// Runs the words with all of the disk's calls failing from the first on, from the second on and so on, and each time once more
@@ -142,15 +213,9 @@ pub fn stop_each(
     setting: &Setting,
     out: &mut String,
 ) -> Result<(), AllocError> {
-    let mut stretch = Stretch {
-        count: 0,
-        text: String::new(alloc),
-    };
+    let mut stretch = Stretch::new(alloc);
     for call in 1..MANY {
-        let mut text = String::new(alloc);
-        let failed = run_stopped(machine, alloc, words, setting, call, &mut text)?;
-        stretch.add(alloc, text, out)?;
-        if !failed {
+        if !add_stopped(machine, alloc, words, setting, call, &mut stretch, out)? {
             return stretch.print(alloc, out);
         }
     }

@@ -1,8 +1,8 @@
 //! The calls of a script are made.
 use crate::ask::{ask_files, ask_run};
+use crate::left::Left;
 use crate::machine::Machine;
 use crate::outside::Outside;
-use crate::run::Left;
 use crate::setting::{Setting, kind_of, text_of};
 use crate::shelf::Shelf;
 use crate::small::list_small;
@@ -52,14 +52,33 @@ impl Trials {
         shows: bool,
         out: &mut String,
     ) -> Result<bool, AllocError> {
-        let mut files = match self.files.take() {
-            Some(files) => files,
-            None => Outside::new(alloc, &self.setting)?,
+        self.make_files(alloc)?;
+        let Some(files) = &mut self.files else {
+            return Ok(false);
         };
         let words = step.words().get(1..).unwrap_or(&[]);
-        let left = self.machine.run(alloc, words, &self.setting, &mut files)?;
+        let left = self.machine.run(alloc, words, &self.setting, files)?;
+        self.keep(alloc, left, shows, out)
+    }
+
+    /// Makes the files of the case, if they are not there yet.
+    fn make_files(&mut self, alloc: Global) -> Result<(), AllocError> {
+        if self.files.is_none() {
+            let files = Outside::new(alloc, &self.setting)?;
+            self.files = Some(files);
+        }
+        Ok(())
+    }
+
+    /// Tells what a run left, and keeps it for what is asked of it.
+    fn keep(
+        &mut self,
+        alloc: Global,
+        left: Left,
+        shows: bool,
+        out: &mut String,
+    ) -> Result<bool, AllocError> {
         left.print(alloc, shows, out)?;
-        self.files = Some(files);
         self.last = Some(left);
         Ok(true)
     }

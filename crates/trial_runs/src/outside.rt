@@ -24,7 +24,7 @@ const CALL_ROOM: u64 = 1000;
 const BYTE_ROOM: u64 = 100_000;
 
 /// A disk of these bytes, of which these calls fail.
-pub fn disk_of(alloc: Global, bytes: &[u8], failing: &[u64]) -> Result<MemDisk, AllocError> {
+fn disk_of(alloc: Global, bytes: &[u8], failing: &[u64]) -> Result<MemDisk, AllocError> {
     let failing = Calls::from_slice(alloc, failing)?;
     MemDisk::new(alloc, bytes, failing, CALL_ROOM, BYTE_ROOM)
 }
@@ -55,6 +55,13 @@ impl Outside {
             files,
             disk: Some(disk),
         })
+    }
+
+    /// Has a disk of the bytes that are there, of which these calls fail.
+    pub fn renew_disk(&mut self, alloc: Global, failing: &[u64]) -> Result<(), AllocError> {
+        let disk = disk_of(alloc, self.bytes(), failing)?;
+        self.disk = Some(disk);
+        Ok(())
     }
 
     /// What is held under a name, where there is such a file.
