@@ -18,9 +18,6 @@ ghost use Rattle.gm_base.specs.Sets.{IsSubset, all_groups};
 ghost use Rattle.gm_base.specs.Evidence.{is_witness};
 ghost use Rattle.evidence_rec.specs.Asking.{OracleState, refuted_by};
 
-use crate::moves::{Mover, Played, make_moves, played};
-use crate::telling::{add_numbers, say_count, say_log, say_proof};
-use crate::words::{lines_of, number_at, numbers_in, parts_in, set_in};
 use evidence_rec::{Asked, Oracle, Record};
 use gm_base::{Assign, Derivation, GroupSet, Kind, Problem, Purse};
 use group_oracle::GroupOracle;
@@ -31,6 +28,10 @@ use mss_grow::{Grown, grow};
 use mus_shrink::{Shrunk, shrink_keeping};
 use std::alloc::{AllocError, Global};
 use trial_script::Step;
+use trial_sets::{
+    Mover, Played, add_numbers, lines_of, make_moves, number_at, numbers_in, parts_in, played,
+    say_count, say_log, say_proof, set_in,
+};
 
 /// An oracle that tells how many questions there were.
 pub trait Counted: Oracle {

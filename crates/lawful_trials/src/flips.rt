@@ -8,14 +8,15 @@
 //! | `repair 1 2 3 : 000 : 1` | flips variables of these values until the groups in front are true: the same |
 ghost use Rattle.std.specs.Prelude.{◌<◌, ◌≤◌};
 
-use crate::moves::{Mover, Played, make_moves, played};
-use crate::telling::{add_numbers, say, say_numbers};
-use crate::words::{number_at, numbers_in, set_in, values_in};
 use gm_base::{GroupSet, Problem};
 use lawful_fakes::Lacking;
 use model_flips::{Flips, Rotation, Turned};
 use std::alloc::{AllocError, Global};
 use trial_script::Step;
+use trial_sets::{
+    Mover, Played, add_numbers, make_moves, number_at, numbers_in, played, say, say_numbers,
+    set_in, values_in,
+};
 
 // What a repair may look at.
 const MOST_LOOKS: u64 = 1_000_000;

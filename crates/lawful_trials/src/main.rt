@@ -1,4 +1,4 @@
-//! Trials of what is written for every lawful oracle and every lawful map engine, and of the oracles and engines themselves.
+//! Trials of every lawful oracle and every lawful map engine, and of what is written for them: shrinking, growing and known sets.
 //!
 //! The word after the program's name is a script; `trial_script` says what one is. A call is about the problem that the
 //! case gave last. Most have a text, whose lines are moves, one after the other: `player.rt` lists the calls, and the head of
@@ -15,40 +15,23 @@
 //! first, and `:` stands between two of those in one line. Any line that isn't known, or whose numbers don't fit, is printed
 //! behind `? `. Where an answer isn't one that the trait allows, `wrong` is printed.
 //!
-//! Start reading at `player.rt`, then at `moves.rt` and `asking.rt`. What a text makes moves with is a struct that owns it,
-//! made in one function, which takes it apart before it returns: so few proofs have to drop a solver, a map or a board. Of
-//! what is printed nothing is proved: it is compared.
+//! Start reading at `player.rt`, then at `asking.rt`. What a text makes moves with is a struct that owns it, made in one function,
+//! which takes it apart before it returns: so few proofs have to drop a solver or a map. Of what is printed nothing is proved: it
+//! is compared. The core, the board and workers over such oracles are tried by `worker_trials`.
 #![tactic(auto)]
 
 mod asking;
-mod boards;
-mod cores;
 mod flips;
-mod journalled;
 mod maps;
-mod moves;
 mod oracles;
 mod player;
-mod scripted;
-mod telling;
-mod together;
-mod words;
-mod workers;
 
-use gm_base::Problem;
 use player::Trials;
-use std::alloc::Global;
 use std::{env, io};
-use together::{Together, play_together};
-use trial_script::{Step, play};
+use trial_script::play;
 
 fn main(rt: HostRuntime) -> io::Result<()> {
-    let own = rt.clone()?;
-    let play_call = move |alloc: Global, problem: &Problem, step: &Step<'_>, out: &mut String| {
-        play_together(&own, alloc, problem, step, out)
-    };
-    let together = Together::new(Box::new(rt.alloc(), play_call)?);
-    let mut trials = Trials::new(together);
+    let mut trials = Trials::new();
     match env::args(&rt)?.nth(1) {
         Some(name) => play(&rt, name.as_str(), &mut trials),
         None => Ok(()),

@@ -16,15 +16,16 @@ ghost use Rattle.std.specs.Prelude.{◌≡◌, ◌<◌, ◌^◌, true, IfOk};
 ghost use Rattle.evidence_rec.specs.Seeding.{EngineState, new_engine};
 
 use crate::asking::end;
-use crate::moves::{Mover, Played, make_moves, played};
-use crate::telling::{say, say_count, say_numbers, say_proof};
-use crate::words::{has_word, number_at, set_in};
 use evidence_rec::{MapEngine, Seed};
 use gm_base::{Derivation, GroupSet, Purse, Side};
 use lawful_fakes::Lacking;
 use power_map::PowerMap;
 use std::alloc::{AllocError, Global};
 use trial_script::Step;
+use trial_sets::{
+    Mover, Played, has_word, make_moves, number_at, played, say, say_count, say_numbers, say_proof,
+    set_in,
+};
 
 /// Searches a map of so many groups.
 struct Search<M: MapEngine> {

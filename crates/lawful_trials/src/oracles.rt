@@ -16,8 +16,6 @@ ghost use Rattle.evidence_rec.specs.Asking.{IsHonestOver};
 ghost use Rattle.evidence_rec.specs.Records.{IsAcceptedAlone};
 
 use crate::asking::{Counted, talk};
-use crate::moves::Played;
-use crate::words::{has_word, pairs_in};
 use evidence_rec::Record;
 use gm_base::Problem;
 use group_oracle::GroupOracle;
@@ -26,9 +24,7 @@ use lawful_fakes::Lacking;
 use lawful_fakes::example::{conflict, correction, table_of};
 use std::alloc::{AllocError, Global};
 use trial_script::Step;
-
-/// All values of x and y.
-pub const ALL: [(bool, bool); 4] = [(false, false), (false, true), (true, false), (true, true)];
+use trial_sets::{ALL, Played, has_word, pairs_in};
 
 // Each with values that satisfy the other groups.
 const CORRECTIONS: [(&[u32], (bool, bool)); 3] = [

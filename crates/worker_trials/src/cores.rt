@@ -15,10 +15,7 @@
 ghost use Rattle.std.specs.Prelude.{◌≡◌, ◌<◌, ◌≤◌, IfOk};
 ghost use Rattle.map_core.specs.Own.{CanCall, calls_of};
 
-use crate::moves::{Mover, Played, make_moves, played};
 use crate::scripted::{record_in, scripted_map};
-use crate::telling::{say, say_count, say_numbers};
-use crate::words::{has_word, lines_of, number_at};
 use evidence_rec::Records;
 use gm_base::{GroupSet, Problem};
 use lawful_fakes::{Lacking, ScriptedMap};
@@ -26,6 +23,9 @@ use lrat_steps::Log;
 use map_core::{Closing, Goal, MapCore, Posted, Refilled, Retirement, Taken, Verdict};
 use std::alloc::{AllocError, Global};
 use trial_script::Step;
+use trial_sets::{
+    Mover, Played, has_word, lines_of, make_moves, number_at, played, say, say_count, say_numbers,
+};
 
 /// Plays the calls of workers at a core of this problem.
 struct Desk<'a> {

@@ -1,5 +1,5 @@
 use Rattle.std.proofs.Common.{◌≡◌, length}
-use Rattle.lawful_trials.proofs.words.values_in.Given as goal
+use Rattle.trial_sets.proofs.words.values_in.Given as goal
 
 -- there are as many values as variables
 abbrev pub invariant-loop-at : goal.invariant-loop-at

@@ -4,7 +4,6 @@
 //! closure that plays these calls.
 use crate::boards::play_board;
 use crate::journalled::play_journalled;
-use crate::moves::Played;
 use crate::workers::{play_either, play_workers};
 use gm_base::Problem;
 use lawful_fakes::Lacking;
@@ -12,6 +11,7 @@ use std::alloc::Global;
 use std::sync::Wait;
 use std::thread::Threads;
 use trial_script::Step;
+use trial_sets::Played;
 
 /// Plays the calls that start threads or wait.
 #[derive(Drop)]

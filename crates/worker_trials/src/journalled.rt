@@ -6,9 +6,6 @@
 ghost use Rattle.std.specs.Prelude.{◌≡◌, ◌<◌, ◌^◌, [], IfOk, IfSome};
 ghost use Rattle.turn_lock.specs.Seats.{AreNew, AreAll};
 
-use crate::moves::{Played, played};
-use crate::telling::say;
-use crate::words::lines_of;
 use crate::workers::{map_of, numbers_of, oracles_of, say_records, tell_outcome};
 use evidence_rec::Records;
 use gm_base::Problem;
@@ -20,6 +17,7 @@ use std::alloc::{AllocError, Global};
 use std::sync::Wait;
 use std::thread::Threads;
 use trial_script::Step;
+use trial_sets::{Played, lines_of, played, say};
 use worker_pool::{Outcome, enumerate};
 
 // Room on the disk for so many calls and bytes.

@@ -12,7 +12,6 @@ ghost use Rattle.std.specs.Prelude.{◌≡◌, IfOk};
 ghost use Rattle.evidence_rec.specs.Records.{IsAcceptedAlone};
 ghost use Rattle.evidence_rec.specs.Seeding.{new_engine};
 
-use crate::words::{has_word, number_at, numbers_in, pairs_in, parts_in, set_in};
 use evidence_rec::Record;
 use gm_base::{Derivation, GroupSet, Problem};
 use lawful_fakes::example::{conflict, correction, derivation};
@@ -20,6 +19,7 @@ use lawful_fakes::{Lacking, ScriptedMap};
 use sat_base::Row;
 use std::alloc::{AllocError, Global};
 use trial_script::Step;
+use trial_sets::{has_word, number_at, numbers_in, pairs_in, parts_in, set_in};
 
 /// The map that the lines describe.
 pub fn scripted_map(alloc: Global, problem: &Problem, lines: &str) -> Result<ScriptedMap, Lacking>

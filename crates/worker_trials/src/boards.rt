@@ -4,13 +4,10 @@
 ghost use Rattle.std.specs.Prelude.{◌≡◌, true, false, IfOk};
 ghost use Rattle.turn_lock.specs.Seats.{AreNew, AreAll};
 ghost use Rattle.board.specs.Boards.{HaveAllEnded};
-ghost use Rattle.lawful_trials.specs.Seats.{IsSeated};
+ghost use Rattle.worker_trials.specs.Seats.{IsSeated};
 
 use crate::cores::{say_closing, say_posted, say_taken, why_of};
-use crate::moves::{Mover, Played, make_moves, played};
 use crate::scripted::{record_in, scripted_map};
-use crate::telling::say;
-use crate::words::{lines_of, number_at};
 use board::{Board, BoardClosing, Seat};
 use evidence_rec::Records;
 use gm_base::Problem;
@@ -19,6 +16,7 @@ use map_core::{Goal, Posted, Retirement, Taken};
 use std::alloc::{AllocError, Global};
 use std::sync::Wait;
 use trial_script::Step;
+use trial_sets::{Mover, Played, lines_of, make_moves, number_at, played, say};
 
 type Shared = Board<ScriptedMap>;
 

@@ -16,6 +16,15 @@ pub fn played(added: Result<(), AllocError>) -> Played {
     }
 }
 
+/// The same for a player: whether the call is known.
+pub fn answered(played: Played) -> Result<bool, AllocError> {
+    match played {
+        Ok(()) => Ok(true),
+        Err(Lacking::Evidence) => Ok(false),
+        Err(Lacking::Memory) => Err(AllocError),
+    }
+}
+
 /// What moves are made with.
 pub trait Mover {
     /// Makes a move, and adds what it answers to `out`.

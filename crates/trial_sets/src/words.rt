@@ -8,6 +8,9 @@ use lawful_fakes::example::set_of;
 use std::alloc::Global;
 use trial_script::{Step, has_digit};
 
+/// All values of two variables.
+pub const ALL: [(bool, bool); 4] = [(false, false), (false, true), (true, false), (true, true)];
+
 /// The lines of the text of a call.
 pub fn lines_of<'a>(step: &'a Step<'_>) -> &'a str {
     std::str::from_utf8(step.text()).unwrap_or("")

@@ -1,6 +1,6 @@
 use Rattle.std.proofs.Common.{◌≡◌, ◌≤◌, length, All, vec_capacity}
 use Rattle.worker_pool.specs.Workers.{IsFresh}
-use Rattle.lawful_trials.proofs.workers.shy_of.Given as goal
+use Rattle.worker_trials.proofs.workers.shy_of.Given as goal
 
 -- the oracles so far are fresh, and there is room for all
 abbrev pub invariant-loop-at : goal.invariant-loop-at

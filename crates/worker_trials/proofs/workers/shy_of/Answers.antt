@@ -3,7 +3,7 @@ use Rattle.std.proofs.lemmas.List.Elements.{All-push}
 use Rattle.std.specs.Vec.{vec_capacity}
 use Rattle.evidence_rec.specs.Asking.{OracleState}
 use Rattle.worker_pool.specs.Workers.{IsFresh}
-use Rattle.lawful_trials.proofs.workers.shy_of.Goals as goal
+use Rattle.worker_trials.proofs.workers.shy_of.Goals as goal
 
 pub loop-at-preserved : goal.loop-at-preserved
 loop-at-preserved c =

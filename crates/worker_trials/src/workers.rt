@@ -13,11 +13,7 @@ ghost use Rattle.evidence_rec.specs.Seeding.{new_engine};
 ghost use Rattle.worker_pool.specs.Workers.{IsFresh};
 
 use crate::cores::verdict_word;
-use crate::moves::{Played, played};
-use crate::oracles::ALL;
 use crate::scripted::scripted_map;
-use crate::telling::{add_numbers, say};
-use crate::words::{lines_of, part_of, without_digit};
 use evidence_rec::Records;
 use gm_base::{GroupSet, Kind, Problem};
 use gm_journal::Journal;
@@ -29,6 +25,7 @@ use std::alloc::{AllocError, Global};
 use std::sync::Wait;
 use std::thread::Threads;
 use trial_script::Step;
+use trial_sets::{ALL, Played, add_numbers, lines_of, part_of, played, say, without_digit};
 use worker_pool::{Outcome, enumerate};
 
 // A question and a block that never come.
