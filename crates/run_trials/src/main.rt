@@ -53,14 +53,14 @@ use trial_runs::{Machine, Outside, Setting, Trials};
 use trial_script::play;
 
 fn main(rt: HostRuntime) -> io::Result<()> {
+    let Some(name) = env::args(&rt)?.nth(1) else {
+        return Ok(());
+    };
     let own = rt.clone()?;
     let run = move |alloc: Global, words: &[&str], setting: &Setting, files: &mut Outside| {
         run_words(&own, alloc, words, setting, files)
     };
     let machine = Machine::new(Box::new(rt.alloc(), run)?);
     let mut player = Trials::new(machine, rt.alloc());
-    match env::args(&rt)?.nth(1) {
-        Some(name) => play(&rt, name.as_str(), &mut player),
-        None => Ok(()),
-    }
+    play(&rt, name.as_str(), &mut player)
 }
