@@ -35,7 +35,7 @@ use Rattle.worker_pool.specs.Pens.{JournalView, PenView, set_in}
 use Rattle.gm_io.specs.declared.bounds.Bounds.{Bounds}
 use Rattle.gm_io.specs.Endings.{status_by}
 use Rattle.gm_tool.specs.Closed.{opening_for}
-use Rattle.gm_tool.specs.Journaled.{HoldsJournal, HoldsNew, IsJournalOf, NoneRetired}
+use Rattle.gm_tool.specs.Journaled.{HoldsJournal, HoldsNew, IsBegun, IsJournalOf, NoneRetired}
 use Rattle.gm_tool.specs.Statuses.{IsPartial}
 use Rattle.gm_tool.proofs.AmongLemmas.{among-append, among-apart}
 use Rattle.gm_tool.proofs.AppendedLemmas.{all-there, among-there, new-appended, there-not_failed}
@@ -77,7 +77,7 @@ same-behind : (first more others : Bool) → (first || more) ≡ (first || other
 same-behind true more others same a b = a refl ∙ sym (b refl)
 same-behind false more others same a b = same
 
-if-told : {A : Type 0} (told : Option A) (P : A → Type 0) → ((a : A) → told ≡ Some a → P a) → IfSome told P
+pub if-told : {A : Type 0} (told : Option A) (P : A → Type 0) → ((a : A) → told ≡ Some a → P a) → IfSome told P
 if-told None P f = tt
 if-told (Some a) P f = f a refl
 
@@ -86,7 +86,7 @@ abbrev pub AreSalvaged : DiskState → (List ℕ → Type 0) → Type 0
 AreSalvaged disk P = (o : OpeningView) (kept : List Written) (gate : ℕ) (bytes : List ℕ) → IsKept disk o kept gate → P bytes → Keeps o kept bytes
 
 module _ (disk : DiskState) (read : AreSalvaged disk (λ bytes. disk.reads ≡ Some bytes)) (crash : AreSalvaged disk disk.may_leave) (j : JournalView) (pens : List PenView) (p : Problem) (first : List Record) (b : Bounds) (faults : ℕ) (logs : List (List LogStep)) (closing : Closing)
-    (opening : j.opening ≡ journals.opening_of p first b.jobs faults) (ended : journals.IsLeft disk j.opening pens) (all : AreAll j pens) (written : AreWritten closing.history pens)
+    (opening : IsBegun p first b.jobs faults j.opening) (ended : journals.IsLeft disk j.opening pens) (all : AreAll j pens) (written : AreWritten closing.history pens)
     (count : length pens ≡ b.jobs) (left : pool.IsLeft (opening_for p first b) b.journal logs closing) where
   named : All (λ (e : Entry). e.worker < length pens) closing.history
   named = subst (λ n. All (λ (e : Entry). e.worker < n) closing.history) (sym count) left.named
@@ -98,7 +98,7 @@ module _ (disk : DiskState) (read : AreSalvaged disk (λ bytes. disk.reads ≡ S
   same-sets : (f : Found) (more : List Record) → map written_of more ≡ kept_in ended.history → NoneRetired closing.history
       → (is_among (founds first) f || is_among (founds more) f) ≡ (is_among (founds first) f || is_among (new_in closing.history) f)
   same-sets f more are none =
-      let begun = ap (λ (o : OpeningView). o.records) opening in
+      let begun = opening.records in
       let texts = map found_in (kept_in ended.history) in
       let more_are : founds more ≡ texts = sym (map-map found_in written_of more) ∙ ap (map found_in) are in
       let there = among-there j.opening f [] ended.history ended.seats_are.is_legal (all-there j pens ended.history closing.history all ended.seats_are written named none) in
@@ -113,7 +113,8 @@ module _ (disk : DiskState) (read : AreSalvaged disk (λ bytes. disk.reads ≡ S
   is-journal none bytes kept =
       let more = kept.records in
       let holds : HoldsRecords p bytes (first ++ more) kept.gate kept.last =
-      subst (λ (o : OpeningView). HoldsRecords o.problem bytes (o.records ++ more) kept.gate kept.last) opening kept.holds in
+      subst (λ (q : Problem). HoldsRecords q bytes (first ++ more) kept.gate kept.last) opening.problem
+      (subst (λ (rs : List Record). HoldsRecords j.opening.problem bytes (rs ++ more) kept.gate kept.last) opening.records kept.holds) in
       let journalled = next-journalled p (texts_of (first ++ more)) (first ++ more) holds.next in
       record {
         more = more;

@@ -1,21 +1,26 @@
 -- What a listing with a journal tells: what each status says, and its cause.
-use Rattle.std.specs.Prelude.{◌≡◌, ◌≢◌, ◌⊎◌, ℕ, true, false, List, [], ◌∷◌, ◌++◌, Option, Some, None, IfSome}
+use Rattle.std.specs.Prelude.{◌≡◌, ◌≢◌, ◌⊎◌, ℕ, ◌<◌, true, false, All, List, [], ◌∷◌, ◌++◌, Option, Some, None, IfSome, IsSome}
 use Rattle.std.specs.List.{list_any}
 use Rattle.sat_base.specs.Members.{In}
 use Rattle.gm_base.specs.Problem.{Problem}
 use Rattle.gm_base.specs.Explored.{Found}
 use Rattle.gm_ports.specs.Faults.{Rose}
-use Rattle.gm_ports.specs.DiskState.{DiskState}
+use Rattle.gm_ports.specs.DiskState.{DiskState, IsUnopened, Looks}
 use Rattle.gm_ports.specs.FilesState.{ReadingLeaves, StaysAsTold}
 use Rattle.gm_words.specs.Reading.{Listing}
 use Rattle.evidence_rec.specs.declared.record.Record.{Record}
 use Rattle.evidence_rec.specs.Records.{founds}
 use Rattle.map_core.specs.declared.entry.Entry.{Entry}
 use Rattle.map_core.specs.declared.closing.Closing.{Closing}
-use Rattle.map_core.specs.Own.{new_in, is_retirement}
+use Rattle.map_core.specs.Own.{calls_of, new_in, is_retirement}
+use Rattle.turn_lock.specs.Calls.{calls_by}
+use Rattle.gm_journal.specs.Books.{Keeps}
+use Rattle.gm_journal.specs.Books as books
+use Rattle.gm_journal.specs.Entries.{OpeningView, EntryView, who_of}
 use Rattle.gm_journal.specs.Following.{AreJournalled}
-use Rattle.gm_journal.specs.Histories.{is_among}
+use Rattle.gm_journal.specs.Histories.{has_failed, is_among, kept_in, IsLegal}
 use Rattle.gm_journal.specs.Salvage.{HoldsRecords, HoldsNoRecord}
+use Rattle.worker_pool.specs.Pens.{HasWritten}
 use Rattle.worker_pool.specs.Outcomes as pool
 use Rattle.gm_io.specs.declared.bounds.Bounds.{Bounds}
 use Rattle.gm_io.specs.declared.ending.Ending.{Ending}
@@ -45,6 +50,59 @@ pub record IsForeignTo (p : Problem) (held : Option (List ℕ)) (Gets : List ℕ
   pub holds : IfSome held (λ bytes. HoldsNoRecord p bytes at)
   pub line : Gets (foreign_line at)
 
+-- ---- what stays of it
+
+-- The disk was opened as what held this, and nothing was written to it since: reads give that, and a crash leaves what one could
+-- leave then
+pub record IsLookedAt {D : Type 0} (state : D → DiskState) (held : Option (List ℕ)) (after : D) : Type 0 where
+  pub opened : D
+  pub held_is : (state opened).reads ≡ held
+  pub looks : Looks (state opened) (state after)
+
+-- so it is where it held any byte; an empty disk may have got its first gate
+abbrev pub IsLookedAtUnlessEmpty : {D : Type 0} → (D → DiskState) → Option (List ℕ) → D → Type 0
+IsLookedAtUnlessEmpty state held after = IfSome held (λ bytes. bytes ≢ [] → IsLookedAt state held after)
+
+-- reads give bytes that have P, and so does a crash; where the disk tells
+abbrev pub ReadsAndLeaves : DiskState → (List ℕ → Type 0) → Type 0
+ReadsAndLeaves disk P = IfSome disk.reads (λ bytes. P bytes × ((left : List ℕ) → disk.may_leave left → P left))
+
+-- where the disk told what this name held, it is the one of this name
+abbrev pub IsNamed : Option (List ℕ) → List ℕ → DiskState → Type 0
+IsNamed held name disk = IfSome held (λ _. disk.name ≡ Some name)
+
+-- ---- what was appended to it
+
+-- a journal about this problem, begun with these records for so many workers, whose disk had counted so many faults
+pub record IsBegun (p : Problem) (first : List Record) (workers faults : ℕ) (o : OpeningView) : Type 0 where
+  pub problem : o.problem ≡ p
+  pub records : o.records ≡ first
+  pub seats : o.seats ≡ workers
+  pub counted : o.faults ≡ faults
+
+-- What was appended to it by workers with this history at their board: each worker its new records, in their order
+pub record IsLogOf (o : OpeningView) (workers : ℕ) (history : List Entry) (log : List EntryView) : Type 0 where
+  pub is_legal : IsLegal o log
+  pub named : All (λ (e : EntryView). e.who < workers) log
+  pub written : (w : ℕ) → w < workers → HasWritten true (calls_of w history) (calls_by who_of w log)
+
+-- The journal's disk behind that: it is salvaged with the first records, and then with one for each append that was answered Ok,
+-- in order, where none failed; and that is so where the disk's count of faults stayed
+pub record HasLog (p : Problem) (first : List Record) (workers faults : ℕ) (history : List Entry) (disk : DiskState) : Type 0 where
+  pub opening : OpeningView
+  pub begun : IsBegun p first workers faults opening
+  pub log : List EntryView
+  pub log_of : IsLogOf opening workers history log
+  pub unfailed : ¬ Rose faults disk.faults → has_failed log ≡ false
+  pub whole : has_failed log ≡ false → ReadsAndLeaves disk (Keeps opening (kept_in log))
+  -- whatever failed it is salvaged with a front part of what was appended, in which each is that was answered Ok
+  pub front : IsSome disk.reads → books.IsWhole disk opening log
+
+-- the same where none failed
+pub record HasWholeLog (p : Problem) (first : List Record) (workers faults : ℕ) (history : List Entry) (disk : DiskState) : Type 0 where
+  pub logged : HasLog p first workers faults history disk
+  pub unfailed : has_failed logged.log ≡ false
+
 -- ---- what it holds at the end
 
 -- these bytes are salvaged with the records that a run began with, and then one for each set that was new in it, and no other
@@ -73,44 +131,52 @@ HoldsNew p first closing disk = NoneRetired closing.history → IfSome disk.read
 
 -- ---- what a status says
 
--- the file is a text of this problem, narrowed where some groups are in focus, which was listed from the records of the journal. Its
--- disk held this, had counted so many faults, and is that one now
-pub record IsListedOn (l : Listing) (held : Option (List ℕ)) (faults : ℕ) (after : DiskState) (old new : Outside) (Gets : List ℕ → Type 0) (finish : Finish) : Type 0 where
+-- the file is a text of this problem, narrowed where some groups are in focus, which was listed from the records of the journal of
+-- this name. The disk was this one, and is that one now
+pub record IsListedOn (l : Listing) (name : List ℕ) (disk after : DiskState) (old new : Outside) (Gets : List ℕ → Type 0) (finish : Finish) : Type 0 where
   pub problem : Problem
   pub reads : OfFile (old.files.held l.file) (IsReadFor l.focus l.evidence None problem new.files.unread)
   pub first : List Record
-  pub salvaged : IsSalvagedFrom problem held first
+  pub salvaged : IsSalvagedFrom problem (disk.held name) first
+  -- it is the one of that name
+  pub named : IsNamed (disk.held name) name after
   pub listed : IsListed problem first (bounds_for l) finish.logs l.evidence old new Gets finish
   -- the disk did not fail
-  pub quiet : after.faults ≡ faults
+  pub quiet : after.faults ≡ disk.faults
+  -- nor did an append, so the journal has all records that were appended
+  pub logged : HasWholeLog problem first l.jobs disk.faults listed.closing.history after
   -- the journal has each new set, where no worker retired; and none did where a bound was reached
   pub holds_new : HoldsNew problem first listed.closing after
   pub none_retired : IsPartial finish.status → NoneRetired listed.closing.history
 
 -- the enumeration is closed, whatever its verdict
-pub record IsStopped (p : Problem) (first : List Record) (b : Bounds) (finish : Finish) : Type 0 where
+pub record IsStopped (p : Problem) (first : List Record) (b : Bounds) (faults : ℕ) (after : DiskState) (finish : Finish) : Type 0 where
   pub closing : Closing
   pub told : finish.closing ≡ Some closing
   pub left : pool.IsLeft (opening_for p first b) b.journal finish.logs closing
+  pub logged : HasLog p first b.jobs faults closing.history after
 
--- the journal's disk failed before the enumeration or in it, and nothing else was written
-pub record IsJournalFault (l : Listing) (held : Option (List ℕ)) (disk after : DiskState) (old new : Outside) (Gets : List ℕ → Type 0) (finish : Finish) : Type 0 where
+-- The journal's disk failed, and nothing else was written: where it was begun, which tells nothing of an enumeration, or in one, which
+-- is closed
+pub record IsJournalFault {D : Type 0} (state : D → DiskState) (l : Listing) (name : List ℕ) (disk after : D) (old new : Outside) (Gets : List ℕ → Type 0) (finish : Finish) : Type 0 where
   pub problem : Problem
   pub reads : OfFile (old.files.held l.file) (λ text. ReadsIn l.focus text problem)
   pub first : List Record
-  pub salvaged : IsSalvagedFrom problem held first
-  pub rose : Rose disk.faults after.faults
+  pub salvaged : IsSalvagedFrom problem ((state disk).held name) first
+  pub named : IsNamed ((state disk).held name) name (state after)
+  pub rose : Rose (state disk).faults (state after).faults
   pub line : Gets journal_cut_line
   pub silent : new.got ≡ old.got
   pub leaves : ReadingLeaves old.files new.files
-  pub stopped : (finish ≡ bare 7) ⊎ IsStopped problem first (bounds_for l) finish
+  pub stopped : ((finish ≡ bare 7) × IsLookedAtUnlessEmpty state ((state disk).held name) after) ⊎ IsStopped problem first (bounds_for l) (state disk).faults (state after) finish
 
--- the journal could not be read
-pub record IsJournalUnread (l : Listing) (disk after : DiskState) (old : Outside) (Gets : List ℕ → Type 0) : Type 0 where
+-- the journal could not be opened, or not be read, and nothing was written to it
+pub record IsJournalUnread {D : Type 0} (state : D → DiskState) (l : Listing) (held : Option (List ℕ)) (disk after : D) (old : Outside) (Gets : List ℕ → Type 0) : Type 0 where
   pub problem : Problem
   pub reads : OfFile (old.files.held l.file) (λ text. ReadsIn l.focus text problem)
-  pub rose : Rose disk.faults after.faults
+  pub rose : Rose (state disk).faults (state after).faults
   pub line : Gets journal_fault_line
+  pub stays : IsUnopened (state disk) (state after) ⊎ IsLookedAt state held after
 
 -- nor the file; then the disk was not touched
 pub record IsInputFault {D : Type 0} (disk after : D) (old new : Outside) (Gets : List ℕ → Type 0) : Type 0 where
@@ -118,11 +184,26 @@ pub record IsInputFault {D : Type 0} (disk after : D) (old new : Outside) (Gets 
   pub line : Gets input_fault_line
   pub untouched : after ≡ disk
 
--- what the journal's disk holds is no journal about the problem of the file
-pub record IsJournalRefusal (l : Listing) (held : Option (List ℕ)) (old : Outside) (Gets : List ℕ → Type 0) : Type 0 where
+-- what the journal's disk holds is no journal about the problem of the file, and it holds that still
+pub record IsJournalRefusal {D : Type 0} (state : D → DiskState) (l : Listing) (held : Option (List ℕ)) (after : D) (old : Outside) (Gets : List ℕ → Type 0) : Type 0 where
   pub problem : Problem
   pub reads : OfFile (old.files.held l.file) (λ text. ReadsIn l.focus text problem)
   pub foreign : IsForeignTo problem held Gets
+  pub stays : IsLookedAt state held after
+
+-- memory was wanting for a journal that was opened: before it was begun, or later, where all is salvaged that was appended, unless
+-- its disk failed
+pub record IsJournalLeft {D : Type 0} (state : D → DiskState) (l : Listing) (name : List ℕ) (disk after : D) : Type 0 where
+  pub problem : Problem
+  pub first : List Record
+  pub salvaged : IsSalvagedFrom problem ((state disk).held name) first
+  pub named : IsNamed ((state disk).held name) name (state after)
+  pub history : List Entry
+  pub logged : HasLog problem first l.jobs (state disk).faults history (state after)
+
+-- memory was wanting: the disk was not touched, or opened and not written to, or it has a journal
+abbrev pub LeavesJournal : {D : Type 0} → (D → DiskState) → Listing → List ℕ → D → D → Type 0
+LeavesJournal state l name disk after = (after ≡ disk) ⊎ IsLookedAtUnlessEmpty state ((state disk).held name) after ⊎ IsJournalLeft state l name disk after
 
 -- a listing with a journal of this name, on a disk that was this one and is that one
 pub record IsJournaled {D : Type 0} (state : D → DiskState) (l : Listing) (name : List ℕ) (disk after : D) (old new : Outside) (Gets : List ℕ → Type 0) (finish : Finish) : Type 0 where
@@ -135,12 +216,12 @@ pub record IsJournaled {D : Type 0} (state : D → DiskState) (l : Listing) (nam
   pub no_fault_dropped : IsAmong (0 ∷ 3 ∷ 4 ∷ 5 ∷ 10 ∷ []) finish.status → IsFaultFree old new × ((state after).faults ≡ (state disk).faults)
   -- each status has its cause; the file is judged before the disk is touched
   pub refused : finish.status ≡ 5 → IsRefusal (old.files.held l.file) Gets × (after ≡ disk)
-  pub read_fault : finish.status ≡ 6 → IsInputFault disk after old new Gets ⊎ IsJournalUnread l (state disk) (state after) old Gets
-  pub journal_refused : finish.status ≡ 10 → IsJournalRefusal l ((state disk).held name) old Gets
-  pub write_fault : finish.status ≡ 7 → IsJournalFault l ((state disk).held name) (state disk) (state after) old new Gets finish
-      ⊎ (IsListedOn l ((state disk).held name) (state disk).faults (state after) old new Gets finish × (IsReportFault Gets old new ⊎ IsOutputFault (evidence_output l.evidence) Gets old new))
-  pub listed : IsReported finish.status → IsListedOn l ((state disk).held name) (state disk).faults (state after) old new Gets finish
-  pub memory : finish.status ≡ 8 → (ReadingLeaves old.files new.files × (finish ≡ bare 8)) ⊎ IsListedOn l ((state disk).held name) (state disk).faults (state after) old new Gets finish
+  pub read_fault : finish.status ≡ 6 → IsInputFault disk after old new Gets ⊎ IsJournalUnread state l ((state disk).held name) disk after old Gets
+  pub journal_refused : finish.status ≡ 10 → IsJournalRefusal state l ((state disk).held name) after old Gets
+  pub write_fault : finish.status ≡ 7 → IsJournalFault state l name disk after old new Gets finish
+      ⊎ (IsListedOn l name (state disk) (state after) old new Gets finish × (IsReportFault Gets old new ⊎ IsOutputFault (evidence_output l.evidence) Gets old new))
+  pub listed : IsReported finish.status → IsListedOn l name (state disk) (state after) old new Gets finish
+  pub memory : finish.status ≡ 8 → (ReadingLeaves old.files new.files × (finish ≡ bare 8) × LeavesJournal state l name disk after) ⊎ IsListedOn l name (state disk) (state after) old new Gets finish
   pub error_line : IsToldByStatus finish.status → Gets (error_line (bounds_for l) finish.status)
   -- where the file is accepted, and no fault was met, of the disk neither, no refusal of the file and no fault is told
   pub accepted : NoneRose old new → ¬ Rose (state disk).faults (state after).faults → AreAccepted old.files.held l.file l.focus None → IsAmong (0 ∷ 3 ∷ 4 ∷ 8 ∷ 10 ∷ []) finish.status

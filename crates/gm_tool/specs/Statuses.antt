@@ -5,7 +5,7 @@ use Rattle.std.specs.List.{list_any}
 abbrev pub IsAmong : List ℕ → ℕ → Type 0
 IsAmong statuses status = IsTrue (list_any (λ s. status == s) statuses)
 
--- all statuses
+-- all statuses but that of a refused journal
 abbrev pub IsStatus : ℕ → Type 0
 IsStatus status = IsAmong (0 ∷ 2 ∷ 3 ∷ 4 ∷ 5 ∷ 6 ∷ 7 ∷ 8 ∷ 9 ∷ 11 ∷ 12 ∷ []) status
 

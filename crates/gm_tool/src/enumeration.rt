@@ -64,7 +64,7 @@ pub fn list_sets<G: Gate, R: Threads + Wait + Sync>(
         bounds.limit,
         bounds.goal,
         gate,
-        None::<(Journal<NoDisk>, Vec<gm_journal::Seat>)>,
+        None::<(Journal<NoDisk>, Vec<gm_journal::Seat<NoDisk>>)>,
     );
     let Outcome {
         verdict: _,

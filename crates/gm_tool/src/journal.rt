@@ -8,8 +8,8 @@ ghost use Rattle.gm_words.specs.Requests.{AreGoodJobs, text_of};
 ghost use Rattle.gm_io.specs.Endings.{finish_of};
 ghost use Rattle.gm_io.specs.Outside.{outside};
 ghost use Rattle.gm_io.specs.Resuming.{AreGoodFirst};
-ghost use Rattle.gm_tool.specs.Journaled.{EndsJournaled};
-ghost use Rattle.gm_tool.specs.JournalSteps.{EndsKept, HasEnded, IsOpened, Keeps, KeepsFrom, RefusesJournal, StopsOpening, closing_in, with_journal};
+ghost use Rattle.gm_tool.specs.Journaled.{EndsJournaled, IsNamed};
+ghost use Rattle.gm_tool.specs.JournalSteps.{EndsKept, HasEnded, IsOpened, Keeps, KeepsFrom, RefusesJournal, StopsOpening, StopsSalvaging, closing_in, with_journal};
 
 use crate::kept::{Pages, enumerate_into, fresh_crew};
 use crate::list::put_out;
@@ -97,8 +97,8 @@ fn open_journal<D: Disk>(
     name: &str,
     disk: &mut D,
 ) -> Result<Salvaged, Ending>
-    ensures opened { IfOk result (IsOpened problem.now ((D.state disk.old).held name.now) (D.state disk.old).faults (D.state disk.new)) }
-    ensures stopped { IfErr result (StopsOpening problem.now ((D.state disk.old).held name.now) (D.state disk.old).faults (D.state disk.new)) }
+    ensures opened { IfOk result (IsOpened D.state problem.now ((D.state disk.old).held name.now) name.now (D.state disk.old).faults disk.new) }
+    ensures stopped { IfErr result (StopsOpening D.state problem.now ((D.state disk.old).held name.now) disk.old disk.new) }
 {
     match disk.open_disk(name) {
         Ok(()) => read_journal(alloc, problem, disk),
@@ -108,10 +108,10 @@ fn open_journal<D: Disk>(
 
 /// Reads the records of a journal that is opened. Or ends with what stopped it.
 fn read_journal<D: Disk>(alloc: Global, problem: &Problem, disk: &mut D) -> Result<Salvaged, Ending>
-    ensures opened { (held : Option (List ℕ)) (faults : ℕ) → (D.state disk.old).reads ≡ held → (D.state disk.old).faults ≡ faults →
-        IfOk result (IsOpened problem.now held faults (D.state disk.new)) }
+    ensures opened { (held : Option (List ℕ)) (name : List ℕ) (faults : ℕ) → (D.state disk.old).reads ≡ held → (D.state disk.old).faults ≡ faults → IsNamed held name (D.state disk.old) →
+        IfOk result (IsOpened D.state problem.now held name faults disk.new) }
     ensures stopped { (held : Option (List ℕ)) (faults : ℕ) → (D.state disk.old).reads ≡ held → (D.state disk.old).faults ≡ faults →
-        IfErr result (StopsOpening problem.now held faults (D.state disk.new)) }
+        IfErr result (StopsSalvaging D.state problem.now held faults disk.new) }
 {
     match salvage(alloc, problem, disk) {
         JournalRead::Salvaged(salvaged) => Ok(salvaged),

@@ -4,7 +4,6 @@ ghost use Rattle.turn_lock.specs.Seats.{AreNew};
 ghost use Rattle.evidence_rec.specs.Records.{AllAccepted};
 ghost use Rattle.evidence_rec.specs.Seeding.{new_engine};
 ghost use Rattle.worker_pool.specs.Workers.{IsFresh};
-ghost use Rattle.gm_journal.specs.Journals.{opening_of};
 ghost use Rattle.gm_words.specs.Requests.{AreGoodJobs};
 ghost use Rattle.gm_io.specs.Resuming.{AreGoodFirst};
 ghost use Rattle.gm_tool.specs.JournalSteps.{IsCrew, IsKept, IsReady, left_of};
@@ -37,7 +36,7 @@ pub struct Crew {
 #[derive(Drop)]
 pub struct Pages<D: Disk> {
     pub journal: Journal<D>,
-    pub seats: Vec<Seat>,
+    pub seats: Vec<Seat<D>>,
 }
 
 /// What is left of an enumeration that kept a journal.
@@ -84,7 +83,7 @@ pub fn enumerate_into<D: Disk + Send + Drop, G: Gate, R: Threads + Wait + Sync>(
     requires crew { IsCrew problem.now bounds crew }
     requires journal { bounds.journal ≡ true }
     requires ready { IsReady problem.now first bounds pages }
-    ensures { IsKept D.state problem.now first bounds pages.journal.opening.faults result }
+    ensures { IsKept D.state problem.now first bounds pages.journal.opening.faults pages.journal.opening.name result }
 {
     let _groups = problem.groups(); // The problem is well-formed.
     let Pages { journal, seats } = pages;

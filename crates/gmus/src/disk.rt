@@ -81,9 +81,9 @@ impl<'a> RealDisk<'a> {
 }
 
 impl<'a> Disk for RealDisk<'a> {
-    ghost state = { λ d. record { reads = None; may_leave = λ c. ⊤; moment = 0; left_since = λ t c. ⊤; held = λ name. None; faults = d.faults } };
+    ghost state = { λ d. record { reads = None; may_leave = λ c. ⊤; moment = 0; left_since = λ t c. ⊤; held = λ name. None; name = None; faults = d.faults } };
 
-    ghost lawful = { λ d. record { as_read = tt; counts_now = λ t c le now. tt; only_now = λ c left. tt } };
+    ghost lawful = { λ d. record { as_read = tt; counts_now = λ t c le now. tt; only_now = λ c left. tt; ordered = λ t u c le left. tt; named = tt } };
 
     fn open_disk(&mut self, name: &str) -> Result<(), Failed> {
         self.file = None;

@@ -73,7 +73,7 @@ pub fn run_on_system<'a, R: rt::Files + Threads + Wait + Sync, O: Print, E: Prin
         (untold files.new.read_faults files.new.write_faults out.new.faults) result.0 }
 
     // What a listing with a journal tells, of a disk that tells how many faults it counted. The disk is that of no other command.
-    ensures journaled { (l : Listed) (name : List ℕ) → asked_in words.now ≡ Some (listing l) → l.journal ≡ Some name → IfSome result.1 (λ after. IsJournaled (λ d. record { reads = None; may_leave = λ c. ⊤; moment = 0; left_since = λ t c. ⊤; held = λ n. None; faults = d.faults }) l name disk.entry after
+    ensures journaled { (l : Listed) (name : List ℕ) → asked_in words.now ≡ Some (listing l) → l.journal ≡ Some name → IfSome result.1 (λ after. IsJournaled (λ d. record { reads = None; may_leave = λ c. ⊤; moment = 0; left_since = λ t c. ⊤; held = λ n. None; name = None; faults = d.faults }) l name disk.entry after
         (untold files.old.read_faults files.old.write_faults out.old.faults)
         (untold files.new.read_faults files.new.write_faults out.new.faults) (λ _. ⊤) result.0) }
     ensures untouched { journal_in (asked_in words.now) ≡ None → result.1 ≡ Some disk.entry }

@@ -1,9 +1,8 @@
-use Rattle.std.proofs.Common.{◌≡◌, ℕ, Bool, true, Option, Some, List, length, ap, refl, subst, sym, ◌∙◌}
+use Rattle.std.proofs.Common.{◌≡◌, ℕ, Bool, true, Option, Some, List, length, refl, subst, sym, ◌∙◌}
 use Rattle.std.specs.Prelude.{MatchOption, option_map}
 use Rattle.turn_lock.specs.Seats.{AreNew}
 use Rattle.map_core.specs.declared.closing.Verdict.TheVariants.{Memory}
 use Rattle.map_core.specs.Opens as opens
-use Rattle.gm_journal.specs.Entries.{OpeningView}
 use Rattle.worker_pool.specs.Outcomes.{IsKept, IsLeft, TellsKept}
 use Rattle.gm_tool.proofs.KeptLemmas.{is-kept}
 use Rattle.gm_tool.proofs.kept.enumerate_into.Goals as goal
@@ -14,9 +13,9 @@ enumerate-outcome-requires-clause-journal g c κs within =
     let r = c.requires.ready in
     let count = c.requires.crew.count in
     record {
-      problem = ap (λ (o : OpeningView). o.problem) r.opening;
-      records = ap (λ (o : OpeningView). o.records) r.opening;
-      seats = ap (λ (o : OpeningView). o.seats) r.opening ∙ sym count;
+      problem = r.begun.problem;
+      records = r.begun.records;
+      seats = r.begun.seats ∙ sym count;
       all = subst (λ n. AreNew c.args.pages.journal n c.args.pages.seats.items) (sym count) r.seats;
     }
 
@@ -37,7 +36,7 @@ returns g c =
     let told =
     subst (λ (m : Bool). MatchOption outcome.closing (outcome.verdict ≡ Memory) (λ k. IsLeft (opened workers) m outcome.logs k × (outcome.verdict ≡ k.verdict))) (sym c.requires.journal)
     c.enumerate-outcome.ensures.outcome.closing in
-    is-kept g.D.Disk.state p c.args.first b j c.in-Some.journal pens left outcome.spent outcome.logs outcome.broken c.in-Ended.disk c.enumerate-outcome.ensures.outcome.spent c.in-Ended.ensures
+    is-kept g.D.Disk.state p c.args.first b j c.in-Some.journal pens left outcome.spent outcome.logs outcome.broken c.in-Ended.disk c.enumerate-outcome.ensures.outcome.spent c.in-Ended.ensures c.requires.ready.seats
     c.kept_is_salvaged.ensures.read c.kept_is_salvaged.ensures.crash outcome.closing outcome.verdict (record { disk = c.in-Ended.disk; is_broken = c.is_some.result; left = c.left_of.result })
     (subst (λ n. MatchOption outcome.closing (outcome.verdict ≡ Memory) (λ k. IsLeft (opened n) b.journal outcome.logs k × (outcome.verdict ≡ k.verdict))) count told)
-    (subst (λ n. IsKept (opened n) j pens outcome.closing outcome.broken c.in-Some.journal left) count kept) c.requires.ready.opening refl c.is_some.ensures c.left_of.ensures
+    (subst (λ n. IsKept (opened n) j pens outcome.closing outcome.broken c.in-Some.journal left) count kept) c.requires.ready.begun refl c.is_some.ensures c.left_of.ensures

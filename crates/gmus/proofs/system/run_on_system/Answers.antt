@@ -65,6 +65,6 @@ returns-clause-journaled g c = λ l name is named.
     let new = untold c.run.new.files.read_faults c.run.new.files.write_faults c.run.new.out.faults in
     let Gets = GetsLine None None c.args.err.now.faults c.run.new.err.faults in
     let state : RealDisk → DiskState =
-    λ d. record { reads = None; may_leave = λ c. ⊤; moment = 0; left_since = λ t c. ⊤; held = λ n. None; faults = d.faults } in
+    λ d. record { reads = None; may_leave = λ c. ⊤; moment = 0; left_since = λ t c. ⊤; held = λ n. None; name = None; faults = d.faults } in
     some-by c.run.result.1 (λ after. IsJournaled state l name c.args.disk after old new Gets c.run.result.0) (λ after. IsJournaled state l name c.args.disk after old new (λ _. ⊤) c.run.result.0)
     (λ after h. journaled-gets Gets (λ _. ⊤) (λ line told. tt) state l name c.args.disk after old new c.run.result.0 h) (c.run.ensures.journaled l name is named)
