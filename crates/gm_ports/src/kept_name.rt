@@ -1,5 +1,5 @@
 //! A name that only clauses read.
-ghost use Rattle.std.specs.Prelude.{◌≡◌, [], IfOk};
+ghost use Rattle.std.specs.Prelude.{◌≡◌, ◌<◌, ◌^◌, [], IfOk, length};
 
 use std::alloc::{AllocError, Global};
 use std::marker::Model;
@@ -19,8 +19,8 @@ impl Model for KeptName {
 
     ghost view = { λ n. map (λ byte. byte.value) n.bytes.items };
 
-    // A snapshot has no bytes, so there is room for any name.
-    ghost invariant = { λ n. vec_capacity n.bytes ≡ 2 ^ 64 - 1 };
+    // A snapshot has no bytes, so there is room for any name: no text is longer.
+    ghost invariant = { λ n. vec_capacity n.bytes ≡ 2 ^ 63 - 1 };
 }
 
 impl KeptName {
@@ -28,12 +28,13 @@ impl KeptName {
         ensures { IfOk result (λ name. name ≡ []) }
     {
         Ok(KeptName {
-            bytes: Vec::with_capacity(alloc, usize::MAX)?,
+            bytes: Vec::with_capacity(alloc, isize::MAX as usize)?,
         })
     }
 
     /// Keeps this name in the place of the last one.
     pub(crate) fn keep(&mut self, name: &str)
+        requires { length name.now < 2 ^ 63 }
         ensures { self.new ≡ name.now }
     {
         self.bytes.clear();
