@@ -22,6 +22,11 @@
 //!                            time once more while standard error takes nothing, which has to change nothing else
 //! stop WORD ..               runs these words with all calls of the disk failing from the first one on, from the second one on
 //!                            and so on, until no call fails; and each time once more on what was left of the disk
+//! named NAME WORD ..         runs these words on a disk that holds the bytes under a name. Prints the status, and behind `opened`
+//!                            each name under which the disk was opened
+//! crash NAME WORD ..         runs these words on such a disk with all its calls failing from the first one on, from the second one on
+//!                            and so on, until no call fails. Each time a crash is played behind it, in which what was written since
+//!                            the last sync is lost, or kept, or has become other bytes, and the words are run on what it left
 //! small COUNT FROM           lists so many small problems, which are made from a number, and compares the reports with
 //!                            those of a plain program
 //! small_evidence COUNT FROM  likewise, with evidence that is then checked

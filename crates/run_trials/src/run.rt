@@ -4,7 +4,7 @@ use gm_tool::{Finish, run};
 use std::alloc::{AllocError, Global};
 use std::sync::Wait;
 use std::thread::Threads;
-use trial_runs::{Answer, Handed, Left, Outside, Setting, Stored};
+use trial_runs::{Answer, Handed, Left, NamedDisk, Outside, Setting, Stored};
 
 /// Runs the program. All that is tried goes through this one call of it, over anything, and what `run` promises ends here: it is
 /// not asked for what is printed.
@@ -22,13 +22,13 @@ fn run_over<R: Threads + Wait + Sync, F: Files, O: Sink, E: Sink, G: Gate, D: Di
 }
 
 /// Runs the program over these files, and gives back the disk.
-fn run_stored<R: Threads + Wait + Sync>(
+fn run_stored<R: Threads + Wait + Sync, D: Disk + Send + Drop>(
     rt: &R,
     alloc: Global,
     stored: &mut Stored,
     handed: &mut Handed,
-    disk: MemDisk,
-) -> (Finish, Option<MemDisk>) {
+    disk: D,
+) -> (Finish, Option<D>) {
     let words = handed.words.as_slice();
     let out = &mut handed.out;
     let err = &mut handed.err;
@@ -52,17 +52,44 @@ fn answer_of(finish: Finish) -> Answer {
     }
 }
 
-/// Runs the program over these files and the disk, which comes back. Without a disk there is no run.
+/// Runs the program over these files and the disk that has what it holds under names, which comes back.
+fn run_named<R: Threads + Wait + Sync>(
+    rt: &R,
+    alloc: Global,
+    files: &mut Outside,
+    handed: &mut Handed,
+    named: NamedDisk,
+) -> Answer {
+    let (finish, named) = run_stored(rt, alloc, &mut files.files, handed, named);
+    files.named = named;
+    answer_of(finish)
+}
+
+/// Runs the program over these files and the disk, which comes back.
+fn run_on<R: Threads + Wait + Sync>(
+    rt: &R,
+    alloc: Global,
+    files: &mut Outside,
+    handed: &mut Handed,
+    disk: MemDisk,
+) -> Answer {
+    let (finish, disk) = run_stored(rt, alloc, &mut files.files, handed, disk);
+    files.disk = disk;
+    answer_of(finish)
+}
+
+/// Runs the program over these files and their disk. Without a disk there is no run.
 fn run_outside<R: Threads + Wait + Sync>(
     rt: &R,
     alloc: Global,
     files: &mut Outside,
     handed: &mut Handed,
 ) -> Option<Answer> {
+    if let Some(named) = files.named.take() {
+        return Some(run_named(rt, alloc, files, handed, named));
+    }
     let disk = files.disk.take()?;
-    let (finish, disk) = run_stored(rt, alloc, &mut files.files, handed, disk);
-    files.disk = disk;
-    Some(answer_of(finish))
+    Some(run_on(rt, alloc, files, handed, disk))
 }
 
 /// Runs these words over these files, with sinks and a gate as the setting tells.

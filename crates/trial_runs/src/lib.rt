@@ -16,11 +16,13 @@
 #![tactic(auto)]
 
 mod ask;
+mod crash;
 mod gate;
 mod handed;
 mod left;
 mod lines;
 mod machine;
+mod named;
 mod outside;
 mod plain;
 mod setting;
@@ -33,6 +35,7 @@ pub use gate::Meeting;
 pub use handed::Handed;
 pub use left::{Answer, Faults, Left};
 pub use machine::{Machine, Run};
+pub use named::NamedDisk;
 pub use outside::{Outside, Stored};
 pub use setting::Setting;
 pub use trials::Trials;

@@ -1,4 +1,5 @@
 //! The files of a run and the disk of its journal, in memory.
+use crate::named::NamedDisk;
 use crate::setting::{Room, Setting};
 use crate::shelf::Named;
 use gm_ports::{Calls, Disk, MemDisk, MemFiles, Rooms, SureFiles, Texts};
@@ -16,6 +17,8 @@ pub enum Stored {
 pub struct Outside {
     pub files: Stored,
     pub disk: Option<MemDisk>,
+    /// A run takes this one in its place, where it is there.
+    pub named: Option<NamedDisk>,
 }
 
 /// So many calls a disk keeps, and so many bytes its writes take.
@@ -54,6 +57,7 @@ impl Outside {
         Ok(Outside {
             files,
             disk: Some(disk),
+            named: None,
         })
     }
 
@@ -61,6 +65,26 @@ impl Outside {
     pub fn renew_disk(&mut self, alloc: Global, failing: &[u64]) -> Result<(), AllocError> {
         let disk = disk_of(alloc, self.bytes(), failing)?;
         self.disk = Some(disk);
+        Ok(())
+    }
+
+    /// Has a disk of these bytes, of which no call fails.
+    pub fn hold_on_disk(&mut self, alloc: Global, bytes: &[u8]) -> Result<(), AllocError> {
+        let disk = disk_of(alloc, bytes, &[])?;
+        self.disk = Some(disk);
+        Ok(())
+    }
+
+    /// Has a disk in its place that holds these bytes under a name, whose calls fail from this one on.
+    pub fn hold_by_name(
+        &mut self,
+        alloc: Global,
+        name: &str,
+        bytes: &[u8],
+        call: u64,
+    ) -> Result<(), AllocError> {
+        let disk = NamedDisk::holding(alloc, name, bytes, call)?;
+        self.named = Some(disk);
         Ok(())
     }
 

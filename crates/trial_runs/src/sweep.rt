@@ -10,24 +10,24 @@ use crate::setting::{Kind, Setting};
 use std::alloc::{AllocError, Global};
 
 /// More calls than any run makes.
-const MANY: u64 = 10_000;
+pub(crate) const MANY: u64 = 10_000;
 
 /// Runs that went alike, one behind the other.
 #[derive(Drop)]
-struct Stretch {
+pub(crate) struct Stretch {
     count: u64,
     text: String,
 }
 
 impl Stretch {
-    fn new(alloc: Global) -> Stretch {
+    pub(crate) fn new(alloc: Global) -> Stretch {
         Stretch {
             count: 0,
             text: String::new(alloc),
         }
     }
 
-    fn print(&self, alloc: Global, out: &mut String) -> Result<(), AllocError> {
+    pub(crate) fn print(&self, alloc: Global, out: &mut String) -> Result<(), AllocError> {
         let line = match self.count {
             0 => return Ok(()),
             1 => String::from_str(alloc, "1 run\n")?,
@@ -39,7 +39,12 @@ impl Stretch {
     }
 
     /// Counts one more run that went like this; what went otherwise is told first.
-    fn add(&mut self, alloc: Global, text: String, out: &mut String) -> Result<(), AllocError> {
+    pub(crate) fn add(
+        &mut self,
+        alloc: Global,
+        text: String,
+        out: &mut String,
+    ) -> Result<(), AllocError> {
         if self.text.as_str() == text.as_str() {
             self.count = self.count.saturating_add(1);
             return Ok(());

@@ -1,5 +1,6 @@
 //! The calls of a script are made.
 use crate::ask::{ask_files, ask_run};
+use crate::crash::{crash_each, run_by_name};
 use crate::left::Left;
 use crate::machine::Machine;
 use crate::outside::Outside;
@@ -108,6 +109,42 @@ impl Trials {
         Ok(true)
     }
 
+    fn run_by_name(
+        &mut self,
+        alloc: Global,
+        step: &Step<'_>,
+        out: &mut String,
+    ) -> Result<bool, AllocError> {
+        let words = step.words().get(2..).unwrap_or(&[]);
+        run_by_name(
+            &self.machine,
+            alloc,
+            step.word(1),
+            words,
+            &self.setting,
+            out,
+        )?;
+        Ok(true)
+    }
+
+    fn crash(
+        &mut self,
+        alloc: Global,
+        step: &Step<'_>,
+        out: &mut String,
+    ) -> Result<bool, AllocError> {
+        let words = step.words().get(2..).unwrap_or(&[]);
+        crash_each(
+            &self.machine,
+            alloc,
+            step.word(1),
+            words,
+            &self.setting,
+            out,
+        )?;
+        Ok(true)
+    }
+
     fn list_small(
         &mut self,
         alloc: Global,
@@ -163,6 +200,8 @@ impl Player for Trials {
                 self.set(alloc, step)
             }
             "stop" => self.stop(alloc, step, out),
+            "named" => self.run_by_name(alloc, step, out),
+            "crash" => self.crash(alloc, step, out),
             "run" => self.run(alloc, step, true, out),
             "quiet" => self.run(alloc, step, false, out),
             "each" => self.sweep(alloc, step, out),
