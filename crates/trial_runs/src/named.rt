@@ -1,7 +1,7 @@
 //! A disk of trials: what it holds it has under names, and it tells nothing, so little is to be proved of it.
 //!
 //! It keeps under which names it was opened, and for each what was there at its last sync, so that a crash can be played.
-ghost use Rattle.std.specs.Prelude.{None, ⊤, ◌+◌, ◌^◌, ◌<◌, ◌≤◌, IfOk, IsErr, OnOk, length};
+ghost use Rattle.std.specs.Prelude.{None, ⊤, ◌≡◌, ◌-◌, ◌^◌, ◌≤◌, IsErr};
 ghost use Rattle.gm_ports.specs.Faults.{HasCause};
 
 use gm_ports::{Disk, Failed};
