@@ -92,10 +92,10 @@ try_archive() { # the archive
     echo "left out, since they need the repository: $OUR_TESTS"
 }
 
-# the first Python, if any, that makes wheels
+# the first Python, if any, that makes wheels; setuptools is imported first, since it wants its own distutils
 maker() {
     for python in python3 /usr/bin/python3; do
-        "$python" -c 'import pip, setuptools, venv, wheel' 2>/dev/null && echo "$python" && return
+        "$python" -c 'import setuptools, wheel, pip, venv' 2>/dev/null && echo "$python" && return
     done
 }
 
