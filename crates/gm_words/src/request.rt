@@ -8,7 +8,7 @@ pub struct Listing<'a> {
     pub file: &'a str,
     /// How many workers there are.
     pub jobs: u32,
-    /// The budget: how many conflicts (falsified clauses) the solver may meet.
+    /// The budget: how many clauses may be learnt in all.
     pub conflicts: u64,
     /// How many sets may be recorded before the listing ends.
     pub limit: u64,
