@@ -27,7 +27,7 @@ mod reading;
 mod records;
 mod text;
 
-use crate::problems::problem_of;
+use trial_bases::problem_of;
 use carrying::show_carried;
 use drafting::{Draft, call_draft};
 use evidence_rec::{Record, Records};

@@ -12,7 +12,7 @@
 //! ```
 mod running;
 
-use crate::problems::problem_of;
+use trial_bases::problem_of;
 use evidence_rec::Record;
 use gm_base::{Kind, Problem};
 use gm_journal::{JournalRead, Salvaged, salvage};

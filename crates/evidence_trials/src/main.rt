@@ -1,23 +1,17 @@
-//! Tries evidence, and what evidence is made of, by scripts: each word after the program's name is a script, and its name
+//! Tries evidence and journals of it by scripts: each word after the program's name is a script, and its name
 //! says who plays it.
 //!
 //! | script | what its calls are made of | player |
 //! |---|---|---|
-//! | `bases` | assignments, work lists, derivations, sets of groups and problems | `bases.rt` |
 //! | `evidence` | evidence, records of it, audits, and what is carried over | `evidence.rt` |
 //! | `journals` | what a journal of records on a disk holds, and appends to one | `journals.rt` |
 //!
 //! `trial_script` says what a script is, and the head of each player which calls it knows. Start reading at `evidence.rt`.
 #![tactic(auto)]
 
-mod bases;
-mod derivations;
 mod evidence;
 mod journals;
-mod problems;
-mod sets;
 
-use bases::BasesPlayer;
 use evidence::EvidencePlayer;
 use journals::JournalPlayer;
 use std::rt::Files;
@@ -35,7 +29,6 @@ fn main(rt: HostRuntime) -> io::Result<()> {
 /// Plays the script of this name.
 fn play_script<R: Files + Print + AllocGlobal + Wait>(rt: &R, name: &str) -> io::Result<()> {
     match name.strip_prefix("data/").unwrap_or(name) {
-        "bases" => play_by(rt, name, BasesPlayer::new(rt.alloc())),
         "evidence" => play_by(rt, name, EvidencePlayer::new(rt.alloc())),
         "journals" => play_by(rt, name, JournalPlayer::new(rt, rt.alloc())),
         _ => println!(rt; "? {name}"),

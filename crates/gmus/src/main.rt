@@ -1,21 +1,13 @@
 //! The program: the real files and streams, the words of the command line, and one call of `run`.
 #![tactic(auto)]
 
-mod disk;
-mod files;
-mod second_line;
-mod sinks;
 mod system;
-#[cfg(test)]
-mod tests;
 
-use disk::RealDisk;
-use files::RealFiles;
 use gm_ports::write_all;
 use gm_words::read_words;
 use os_files::Names;
-use second_line::{fault_of, tell_of_bytes, tell_of_fault, tell_of_words};
-use sinks::StreamSink;
+use os_ports::{RealDisk, RealFiles, StreamSink};
+use os_ports::{fault_of, tell_of_bytes, tell_of_fault, tell_of_words};
 use std::alloc::{AllocError, Global};
 use std::io::Print;
 use std::process::ExitCode;

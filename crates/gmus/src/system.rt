@@ -23,11 +23,9 @@ ghost use Rattle.gm_tool.specs.Roles.{IsAsking};
 ghost use Rattle.gm_tool.specs.Run.{IsRun};
 ghost use Rattle.gm_tool.specs.Words.{IsUnread, asked_in, bounds_of, journal_in, outputs_of};
 
-use crate::disk::RealDisk;
-use crate::files::RealFiles;
-use crate::sinks::StreamSink;
 use gm_ports::OpenGate;
 use gm_tool::{Finish, run};
+use os_ports::{RealDisk, RealFiles, StreamSink};
 use std::alloc::Global;
 use std::io::Print;
 use std::rt;

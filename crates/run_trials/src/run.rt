@@ -4,7 +4,8 @@ use gm_tool::{Finish, run};
 use std::alloc::{AllocError, Global};
 use std::sync::Wait;
 use std::thread::Threads;
-use trial_runs::{Answer, Handed, Left, NamedDisk, Outside, Setting, Stored};
+use trial_ports::NamedDisk;
+use trial_runs::{Answer, Handed, Left, Outside, Setting, Stored};
 
 /// Runs the program. All that is tried goes through this one call of it, over anything, and what `run` promises ends here: it is
 /// not asked for what is printed.

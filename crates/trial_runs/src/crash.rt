@@ -2,7 +2,7 @@
 use crate::left::Left;
 use crate::lines::push_lines;
 use crate::machine::Machine;
-use crate::named::{Crash, NamedDisk};
+use trial_ports::{Crash, NamedDisk};
 use crate::outside::Outside;
 use crate::setting::Setting;
 use crate::sweep::{MANY, Stretch};

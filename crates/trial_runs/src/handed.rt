@@ -1,5 +1,5 @@
 //! What a run is handed beside its files.
-use crate::gate::Meeting;
+use trial_ports::Meeting;
 use crate::left::{Answer, Faults, Left};
 use crate::outside::Outside;
 use crate::setting::{Moves, Setting};

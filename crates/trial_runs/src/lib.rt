@@ -17,12 +17,10 @@
 
 mod ask;
 mod crash;
-mod gate;
 mod handed;
 mod left;
 mod lines;
 mod machine;
-mod named;
 mod outside;
 mod plain;
 mod setting;
@@ -31,11 +29,9 @@ mod small;
 mod sweep;
 mod trials;
 
-pub use gate::Meeting;
 pub use handed::Handed;
 pub use left::{Answer, Faults, Left};
 pub use machine::{Machine, Run};
-pub use named::NamedDisk;
 pub use outside::{Outside, Stored};
 pub use setting::Setting;
 pub use trials::Trials;

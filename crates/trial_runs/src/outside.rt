@@ -1,5 +1,5 @@
 //! The files of a run and the disk of its journal, in memory.
-use crate::named::NamedDisk;
+use trial_ports::NamedDisk;
 use crate::setting::{Room, Setting};
 use crate::shelf::Named;
 use gm_ports::{Calls, Disk, MemDisk, MemFiles, Rooms, SureFiles, Texts};

@@ -5,7 +5,7 @@ ghost use Rattle.evidence_rec.specs.Held.{AreNew};
 ghost use Rattle.std.specs.Prelude.{[]};
 
 use crate::evidence::records::check_kept;
-use crate::problems::problem_of;
+use trial_bases::problem_of;
 use edit_session::{Carried, carry, first_break};
 use evidence_rec::{Record, Records};
 use evidence_text::write_record;

@@ -1,6 +1,5 @@
 //! A record that is made piece by piece.
-use crate::derivations::{id_at, push_step};
-use crate::sets::set_from;
+use trial_bases::{id_at, push_step, set_from};
 use evidence_rec::{Proofs, Record, Refutation, Witnesses};
 use gm_base::{Assign, AssignBuilder, DerivationBuilder, GroupSet, Kind, Problem};
 use std::alloc::{AllocError, Global};

@@ -7,7 +7,7 @@ use Rattle.gm_tool.specs.Journaled.{IsJournaled}
 use Rattle.gm_tool.specs.Words.{asked_in, bounds_of, outputs_of}
 use Rattle.gm_tool.proofs.GetsLemmas.{run-gets, done-gets}
 use Rattle.gm_tool.proofs.JournalLemmas.{journaled-gets}
-use Rattle.gmus.specs.declared.disk.RealDisk.{RealDisk}
+use Rattle.os_ports.specs.Counts.{Faults}
 use Rattle.gmus.proofs.system.run_on_system.Goals as goal
 
 -- the same, of files and streams that tell no bytes
@@ -64,7 +64,7 @@ returns-clause-journaled g c = λ l name is named.
     let old = untold c.args.files.now.read_faults c.args.files.now.write_faults c.args.out.now.faults in
     let new = untold c.run.new.files.read_faults c.run.new.files.write_faults c.run.new.out.faults in
     let Gets = GetsLine None None c.args.err.now.faults c.run.new.err.faults in
-    let state : RealDisk → DiskState =
+    let state : Faults → DiskState =
     λ d. record { reads = None; may_leave = λ c. ⊤; moment = 0; left_since = λ t c. ⊤; held = λ n. None; name = None; faults = d.faults } in
     some-by c.run.result.1 (λ after. IsJournaled state l name c.args.disk after old new Gets c.run.result.0) (λ after. IsJournaled state l name c.args.disk after old new (λ _. ⊤) c.run.result.0)
     (λ after h. journaled-gets Gets (λ _. ⊤) (λ line told. tt) state l name c.args.disk after old new c.run.result.0 h) (c.run.ensures.journaled l name is named)

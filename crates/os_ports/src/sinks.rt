@@ -19,6 +19,14 @@ pub struct StreamSink<P: Print> {
     ghost in_range: { faults ≤ 2 ^ 64 - 1 },
 }
 
+impl<P: Print> Model for StreamSink<P> {
+    ghost use Rattle.os_ports.specs.Counts.{Faults};
+
+    ghost Value = { Faults };
+
+    ghost view = { λ s. record { faults = s.faults } };
+}
+
 impl<P: Print> StreamSink<P> {
     pub fn new(stream: P, name: &'static str) -> Self {
         StreamSink {

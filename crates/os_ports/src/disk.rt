@@ -24,6 +24,14 @@ pub struct RealDisk<'a> {
     ghost in_range: { faults ≤ 2 ^ 64 - 1 },
 }
 
+impl<'a> Model for RealDisk<'a> {
+    ghost use Rattle.os_ports.specs.Counts.{Faults};
+
+    ghost Value = { Faults };
+
+    ghost view = { λ d. record { faults = d.faults } };
+}
+
 impl<'a> RealDisk<'a> {
     /// `names` are those of the command line.
     pub fn new(rt: &'a HostRuntime, alloc: Global, names: Names<'a>) -> Self {
@@ -55,6 +63,7 @@ impl<'a> RealDisk<'a> {
     /// Writes the whole piece. A place that is past the greatest one is refused, before anything is written.
     fn written(&self, at: u64, piece: &[u8]) -> io::Result<()>
         ensures within { OnOk result (at + length piece.now < 2 ^ 64) }
+        ensures bounded { self.now.faults ≤ 2 ^ 64 - 1 }
     {
         let Some(file) = &self.file else {
             return Err(nothing_opened());
@@ -73,6 +82,7 @@ impl<'a> RealDisk<'a> {
     fn failed(&mut self, fault: Fault<'a>) -> Failed
         ensures rose { Rose self.old.faults self.new.faults }
         ensures never_falls { self.old.faults ≤ self.new.faults }
+        ensures bounded { self.new.faults ≤ 2 ^ 64 - 1 }
     {
         self.fault = Some(fault);
         self.faults = self.faults.saturating_add(1);

@@ -29,6 +29,14 @@ pub struct RealFiles<'a, R: rt::Files> {
     ghost writes_in_range: { write_faults ≤ 2 ^ 64 - 1 },
 }
 
+impl<'a, R: rt::Files> Model for RealFiles<'a, R> {
+    ghost use Rattle.os_ports.specs.Counts.{FileFaults};
+
+    ghost Value = { FileFaults };
+
+    ghost view = { λ f. record { read_faults = f.read_faults; write_faults = f.write_faults } };
+}
+
 impl<'a, R: rt::Files> RealFiles<'a, R> {
     /// `names` are those of the command line, `process` is the number of this process.
     pub fn new(rt: &'a R, alloc: Global, names: Names<'a>, process: u32) -> Self {
@@ -72,6 +80,7 @@ impl<'a, R: rt::Files> RealFiles<'a, R> {
         ensures rose { Rose self.old.read_faults self.new.read_faults }
         ensures never_falls { self.old.read_faults ≤ self.new.read_faults }
         ensures other { self.new.write_faults ≡ self.old.write_faults }
+        ensures bounded { self.new.read_faults ≤ 2 ^ 64 - 1 }
     {
         self.fault = Some(fault);
         self.read_faults = self.read_faults.saturating_add(1);
@@ -82,6 +91,7 @@ impl<'a, R: rt::Files> RealFiles<'a, R> {
         ensures rose { Rose self.old.write_faults self.new.write_faults }
         ensures never_falls { self.old.write_faults ≤ self.new.write_faults }
         ensures other { self.new.read_faults ≡ self.old.read_faults }
+        ensures bounded { self.new.write_faults ≤ 2 ^ 64 - 1 }
     {
         self.fault = Some(fault);
         self.write_faults = self.write_faults.saturating_add(1);

@@ -3,7 +3,7 @@ use Rattle.std.specs.Prelude.{All}
 use Rattle.std.proofs.lemmas.List.{take_all}
 use Rattle.std.proofs.lemmas.List.Elements.{All-more}
 use Rattle.sat_base.specs.Derivation.{max_id}
-use Rattle.evidence_trials.proofs.derivations.are_ids.Goals as goal
+use Rattle.trial_bases.proofs.derivations.are_ids.Goals as goal
 
 pub loop-number-preserved : goal.loop-number-preserved
 loop-number-preserved c =

@@ -1,7 +1,7 @@
 //! Assignments, work lists and derivations.
 ghost use Rattle.std.specs.Prelude.{◌<◌, length};
 
-use crate::derivations::{id_at, lit_at, push_step};
+use trial_bases::{id_at, lit_at, push_step};
 use sat_base::{Assign, AssignBuilder, Derivation, DerivationBuilder, Hints, Lit, WorkList};
 use std::alloc::{AllocError, Global};
 use trial_script::{Step, hold, known, show};

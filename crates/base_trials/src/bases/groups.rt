@@ -1,6 +1,5 @@
 //! Sets of groups, and problems.
-use crate::problems::{problem_of, push_clause};
-use crate::sets::set_from;
+use trial_bases::{problem_of, push_clause, set_from};
 use gm_base::{Assign, Clause, CompactSet, GroupSet, Problem};
 use std::alloc::{AllocError, Global};
 use std::cmp::Ordering;
