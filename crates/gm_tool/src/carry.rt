@@ -131,11 +131,13 @@ fn carry_over(
         new,
         conflicts,
         &mut purse,
-    )?;
+    );
+    // The oracle goes before the way out, so that one place alone has to drop it.
     let log = oracle.into_log();
     match carried {
-        Carried::Opening(first) => Ok(Over::Opening(log, first, purse.left)),
-        Carried::Dry(_) => Ok(Over::Dry(log)),
+        Ok(Carried::Opening(first)) => Ok(Over::Opening(log, first, purse.left)),
+        Ok(Carried::Dry(_)) => Ok(Over::Dry(log)),
+        Err(AllocError) => Err(AllocError),
     }
 }
 
