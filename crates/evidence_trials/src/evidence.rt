@@ -27,7 +27,6 @@ mod reading;
 mod records;
 mod text;
 
-use trial_bases::problem_of;
 use carrying::show_carried;
 use drafting::{Draft, call_draft};
 use evidence_rec::{Record, Records};
@@ -36,6 +35,7 @@ use records::{check_kept, check_one};
 use std::alloc::{AllocError, Global};
 use std::mem;
 use text::call_text;
+use trial_bases::problem_of;
 use trial_script::{Player, Step, known};
 
 /// Has a problem, evidence about it, and records.

@@ -12,7 +12,6 @@
 //! ```
 mod running;
 
-use trial_bases::problem_of;
 use evidence_rec::Record;
 use gm_base::{Kind, Problem};
 use gm_journal::{JournalRead, Salvaged, salvage};
@@ -21,6 +20,7 @@ use running::{Running, started};
 use std::alloc::{AllocError, Global};
 use std::mem;
 use std::sync::Wait;
+use trial_bases::problem_of;
 use trial_script::{Player, Step, known, show};
 
 /// Has a problem, and the bytes of a disk; or a journal over both, which goes on.

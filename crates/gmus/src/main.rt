@@ -6,8 +6,9 @@ mod system;
 use gm_ports::write_all;
 use gm_words::read_words;
 use os_files::Names;
-use os_ports::{RealDisk, RealFiles, StreamSink};
-use os_ports::{fault_of, tell_of_bytes, tell_of_fault, tell_of_words};
+use os_ports::{
+    RealDisk, RealFiles, StreamSink, fault_of, tell_of_bytes, tell_of_fault, tell_of_words,
+};
 use std::alloc::{AllocError, Global};
 use std::io::Print;
 use std::process::ExitCode;

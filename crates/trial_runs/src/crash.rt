@@ -2,12 +2,12 @@
 use crate::left::Left;
 use crate::lines::push_lines;
 use crate::machine::Machine;
-use trial_ports::{Crash, NamedDisk};
 use crate::outside::Outside;
 use crate::setting::Setting;
 use crate::sweep::{MANY, Stretch};
 use gm_ports::Disk;
 use std::alloc::{AllocError, Global};
+use trial_ports::{Crash, NamedDisk};
 
 /// Adds the status, and what standard error got.
 fn tell_end(alloc: Global, left: &Left, out: &mut String) -> Result<(), AllocError> {

@@ -1,10 +1,10 @@
 //! What a run is handed beside its files.
-use trial_ports::Meeting;
 use crate::left::{Answer, Faults, Left};
 use crate::outside::Outside;
 use crate::setting::{Moves, Setting};
 use gm_ports::{Calls, MemSink};
 use std::alloc::{AllocError, Global};
+use trial_ports::Meeting;
 
 /// The words, the report's sink and standard error, and the gate.
 #[derive(Drop)]

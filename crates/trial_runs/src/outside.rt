@@ -1,9 +1,9 @@
 //! The files of a run and the disk of its journal, in memory.
-use trial_ports::NamedDisk;
 use crate::setting::{Room, Setting};
 use crate::shelf::Named;
 use gm_ports::{Calls, Disk, MemDisk, MemFiles, Rooms, SureFiles, Texts};
 use std::alloc::{AllocError, Global};
+use trial_ports::NamedDisk;
 
 /// Files of which calls fail as they were told to, or of which none fails.
 #[derive(Drop)]

@@ -1,8 +1,8 @@
 //! Sets of groups, and problems.
-use trial_bases::{problem_of, push_clause, set_from};
 use gm_base::{Assign, Clause, CompactSet, GroupSet, Problem};
 use std::alloc::{AllocError, Global};
 use std::cmp::Ordering;
+use trial_bases::{problem_of, push_clause, set_from};
 use trial_script::{Step, known, show};
 
 /// The set, and another one.

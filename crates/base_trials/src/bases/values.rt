@@ -1,9 +1,9 @@
 //! Assignments, work lists and derivations.
 ghost use Rattle.std.specs.Prelude.{◌<◌, length};
 
-use trial_bases::{id_at, lit_at, push_step};
 use sat_base::{Assign, AssignBuilder, Derivation, DerivationBuilder, Hints, Lit, WorkList};
 use std::alloc::{AllocError, Global};
+use trial_bases::{id_at, lit_at, push_step};
 use trial_script::{Step, hold, known, show};
 
 /// One of each kind.

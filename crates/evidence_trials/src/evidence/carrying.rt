@@ -5,7 +5,6 @@ ghost use Rattle.evidence_rec.specs.Held.{AreNew};
 ghost use Rattle.std.specs.Prelude.{[]};
 
 use crate::evidence::records::check_kept;
-use trial_bases::problem_of;
 use edit_session::{Carried, carry, first_break};
 use evidence_rec::{Record, Records};
 use evidence_text::write_record;
@@ -14,6 +13,7 @@ use gm_base::{GroupSet, Problem, Purse};
 use group_oracle::GroupOracle;
 use std::alloc::{AllocError, Global};
 use std::str;
+use trial_bases::problem_of;
 use trial_script::{Step, known, show};
 
 /// Tells where the problem of the text is no extension of the one at hand, or what the records of the evidence become in it.

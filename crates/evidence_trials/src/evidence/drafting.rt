@@ -1,8 +1,8 @@
 //! A record that is made piece by piece.
-use trial_bases::{id_at, push_step, set_from};
 use evidence_rec::{Proofs, Record, Refutation, Witnesses};
 use gm_base::{Assign, AssignBuilder, DerivationBuilder, GroupSet, Kind, Problem};
 use std::alloc::{AllocError, Global};
+use trial_bases::{id_at, push_step, set_from};
 use trial_script::{Step, known};
 
 /// The pieces of a record so far.
