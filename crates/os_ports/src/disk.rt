@@ -7,6 +7,7 @@ use os_files::{Fault, Names, no_clash, nothing_opened, open_journal};
 use std::alloc::Global;
 use std::fs::File;
 use std::io;
+use std::marker::Model;
 use std::os::unix::fs::FileExt;
 
 /// A file of the system, with a count of the calls that did not work, and why the last of them did not. It is read and written at

@@ -6,6 +6,7 @@ use gm_ports::{Failed, Files};
 use os_files::{Fault, Maker, Names, Output, no_clash, nothing_opened, nothing_taken};
 use std::alloc::Global;
 use std::io::Read;
+use std::marker::Model;
 use std::{fs, io, rt};
 
 /// The system's files, with counts of the calls that did not work, and why the last of them did not.

@@ -5,6 +5,7 @@ use gm_ports::{Failed, Sink};
 use os_files::{Fault, nothing_taken};
 use std::io;
 use std::io::Print;
+use std::marker::Model;
 
 /// A standard stream with a count of the writes that did not work. Each write is one call of the system, so no bytes
 /// wait after it.
