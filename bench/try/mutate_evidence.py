@@ -20,6 +20,7 @@ import tempfile
 from places import TOP
 from gmus_tools.evidence import check_evidence
 from oracles.plain_evidence import evidence, numbers, random_problem
+from oracles.plain_gmus import NEWEST
 
 
 # ---- longer refutations
@@ -203,9 +204,9 @@ def changed(chance, whole):
 
 # ---- what both say
 
-def plain(problem, text):
+def plain(problem, text, newest=NEWEST):
     try:
-        return "yes", check_evidence.report(problem, *check_evidence.check(problem, text)).encode()
+        return "yes", check_evidence.report(problem, *check_evidence.check(problem, text, newest)).encode()
     except check_evidence.Refused as refused:
         return "no", str(refused).encode()
 
