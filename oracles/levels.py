@@ -119,6 +119,15 @@ def evidence(problem, chance):
     return "\n".join([*begun(problem, chance, 3, chosen)[0], *closed, ""]).encode()
 
 
+def random_records(chance, groups):
+    """Records with sets of groups of both kinds, some of one group and some of none, which need not be those of any problem."""
+    found = {}
+    for _ in range(chance.randint(0, 9)):
+        size = min(groups, chance.choice([0, 1, 1, 2, 2, 3, 4]))
+        found.setdefault((chance.choice("um"), tuple(sorted(chance.sample(range(1, groups + 1), size)))))
+    return list(found)
+
+
 class NoLevel(Exception):
     """Why a text has no level."""
 

@@ -49,13 +49,6 @@ def steps_of(lines):
     return steps, goal
 
 
-def random_records(chance, groups):
-    """Sets of groups of both kinds, some of them of one group or of none, which need not be those of any problem."""
-    found = {(kind, tuple(sorted(chance.sample(range(1, groups + 1), min(groups, chance.choice([0, 1, 1, 2, 2, 3, 4])))))): None
-             for kind in chance.choices("um", k=chance.randint(0, 9))}
-    return list(found)
-
-
 def extends(clauses, given):
     """Whether this assignment of the first variables, as literals, has one of all that stand there that makes the clauses true."""
     others = sorted({abs(lit) for lits in clauses for lit in lits if abs(lit) > len(given)})
@@ -98,7 +91,7 @@ class Shown(unittest.TestCase):
         for seed in range(TRIALS):
             chance = random.Random(seed)
             groups = chance.randint(0, 5)
-            records, kind, most = random_records(chance, groups), chance.choice("um"), chance.randint(0, groups)
+            records, kind, most = levels.random_records(chance, groups), chance.choice("um"), chance.randint(0, groups)
             level = levels.Level(groups, kind, most, records)
             lines, wanted = level.lines(), levels.is_explored(groups, kind, most, records)
             self.assertEqual(lines is not None, wanted, (groups, kind, most, records))
@@ -112,7 +105,7 @@ class Shown(unittest.TestCase):
             chance = random.Random(seed)
             groups = chance.randint(0, 9)
             problem = check_evidence.Problem(f"p gcnf 0 0 {groups}")
-            records, kind, most = random_records(chance, groups), chance.choice("um"), chance.randint(0, groups)
+            records, kind, most = levels.random_records(chance, groups), chance.choice("um"), chance.randint(0, groups)
             level, other = levels.Level(groups, kind, most, records), check_evidence.Level(problem, records, kind, most)
             clauses = level.clauses[len(records):]
             self.assertEqual([other.clause(number) for number in range(1, other.size() + 1)], clauses, seed)
