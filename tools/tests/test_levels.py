@@ -1,6 +1,6 @@
 #!/usr/bin/env python3
-"""Tests of oracles/levels.py and oracles/level_cnf.py, and of what tools/check_evidence.py says of levels. What is wanted was worked out
-by hand, or found by trying every set of groups."""
+"""Tests of oracles/levels.py and oracles/level_cnf.py, of what tools/check_evidence.py says of levels, and of what bench/try/ has that says
+it of it. What is wanted was worked out by hand, or found by trying every set of groups."""
 import itertools
 import os
 import random
@@ -8,11 +8,16 @@ import subprocess
 import sys
 import tempfile
 import unittest
+import unittest.mock
 
-from places import EXAMPLES, TOP
+from places import BENCH, EXAMPLES, TOP
 from gmus_tools.evidence import check_evidence, check_lrat
 from oracles import levels, plain_evidence
-from test_evidence import LEAST, SHORT
+from test_evidence import FIRST, LEAST, SHORT
+
+sys.path.append(os.path.join(BENCH, "try"))
+import agree  # noqa: E402
+import mutate_evidence  # noqa: E402
 
 TRIALS = int(os.environ.get("GMUS_TRIALS", 600))
 # the conflicts and the corrections of examples/first.gcnf
@@ -131,6 +136,37 @@ class Shown(unittest.TestCase):
                 *(plain_evidence.numbers(says.kind, *groups, 0) for groups in sorted(every, key=lambda groups: (len(groups), groups))),
                 f"e {len(every)}", ""]), seed)
         self.assertEqual(kinds, {"u", "m", "complete"})
+
+
+class Trials(unittest.TestCase):
+    def test_a_checker_that_says_yes_to_more_is_told(self):
+        problem = check_evidence.Problem(FIRST)
+        every = list(plain_evidence.minimal_sets(problem))
+        for lines, wanted in ((LEAST, None), (LEAST[:12] + LEAST[15:], "a set is missing"), (LEAST[:-1] + ["e corrections 2"], "a set is missing"),
+                              (LEAST[:1] + ["u 1 2 3 0", *LEAST[2:5], "w 2 0", "w 3 0", *LEAST[6:]], "a set is not minimal"),
+                              (LEAST[:15] + ["d 16 12 0 3 1 0", *LEAST[16:]], "check_lrat.py refuses the closing part")):
+            text = "\n".join([*lines, ""]).encode()
+            with unittest.mock.patch.multiple(check_evidence, check_record=lambda *given: None, check_closing=lambda *given: None), \
+                    unittest.mock.patch.object(plain_evidence, "minimal_sets", lambda of: every):
+                (word, _), why = mutate_evidence.fault_of_alone(problem, text)
+            self.assertEqual((word, why and why.startswith(wanted or "")), ("yes", wanted and True), (lines, why))
+
+    def test_levels_that_are_not_as_they_should_be_are_told(self):
+        drawn = 4, "m", 1, CONFLICTS + CORRECTIONS[:1]
+        with tempfile.TemporaryDirectory() as folder, unittest.mock.patch.object(agree, "solvers", lambda: {"some": lambda name: True}), \
+                unittest.mock.patch.object(agree, "checkers", lambda: []):
+            judges = agree.Judges(folder)
+            self.assertEqual(agree.fault_of_level(drawn, judges), "some says that its CNF can be satisfied")
+            judges.solvers = {}
+            self.assertIsNone(agree.fault_of_level(drawn, judges))
+            for module, name, made, wanted in (
+                    (levels, "is_explored", lambda *given: False, "it is not explored, and a closing part shows that it is"),
+                    (levels.Level, "lines", lambda level: None, "it is explored, and nothing shows that it is"),
+                    (levels.Level, "lines", lambda level: [*LEAST[15:16], "x 15", LEAST[17]], "check_evidence.py refuses what shows it: line 2: 17 NotRefuting"),
+                    (check_evidence.Level, "clause", lambda level, number: [], "check_evidence.py has other clauses"),
+                    (levels.Level, "lrat", lambda *given: "17 0 1 0\n", "check_lrat.py refuses it: lrat: line 1: the clause 1 has")):
+                with unittest.mock.patch.object(module, name, made):
+                    self.assertTrue((agree.fault_of_level(drawn, judges) or "").startswith(wanted), (name, agree.fault_of_level(drawn, judges)))
 
 
 class Command(unittest.TestCase):
