@@ -118,6 +118,7 @@ class Levels(unittest.TestCase):
     def test_what_is_shown_gives_the_sets_with_so_many_groups(self):
         self.assertEqual(len(LEAST), 18)
         one = "p least 4\ns ATMOST 1\nm 1 0\ne 1\n"
+        self.assertEqual(shown("p least 4\n"), one.split("\n")[:-1])
         rest = SHORT[15:23]
         self.rows([
             (1, 0, [], one),
