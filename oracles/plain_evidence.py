@@ -85,7 +85,7 @@ def correction(problem, groups, refuted=None):
 
 
 def closing(blocks):
-    """The lines that close evidence whose records have these block clauses."""
+    """The lines that close evidence whose records have these block clauses, and of which none is missing."""
     made = Derivation(blocks)
     goal = made.derive([], [])
     return made.lines + [numbers("x", goal), "e complete"]
@@ -111,22 +111,28 @@ def minimal_sets(problem):
             yield "m", groups
 
 
-def evidence(problem, chance, version):
-    """The text of all minimal conflicts and corrections, with a closing part. In version 2 most refutations that an earlier
-    conflict serves name one, by chance."""
+def begun(problem, chance, version, sets):
+    """The head and the records of these minimal sets as lines, and their block clauses. From version 2 on most refutations that an
+    earlier conflict serves name one, by chance."""
     lines = [numbers("p gmev", version, problem.vars, len(problem.clauses), problem.groups)]
     blocks = []
-    for kind, groups in minimal_sets(problem):
+    for kind, groups in sets:
         def refuted(group, chosen=frozenset(groups)):
             serve = [number for number, block in enumerate(blocks, 1)
                      if all(lit < 0 and (-lit == group or -lit not in chosen) for lit in block)]
-            if version == 2 and serve and chance.random() < 0.8:
+            if version > 1 and serve and chance.random() < 0.8:
                 return [numbers("t", group, chance.choice(serve))]
             everything = set(range(1, problem.groups + 1))
             return refutation(problem, everything - chosen | {group}, group)
 
         lines += conflict(problem, groups) if kind == "u" else correction(problem, groups, refuted)
         blocks.append([-group for group in groups] if kind == "u" else list(groups))
+    return lines, blocks
+
+
+def evidence(problem, chance, version):
+    """The text of all minimal conflicts and corrections, with a closing part."""
+    lines, blocks = begun(problem, chance, version, minimal_sets(problem))
     return "\n".join([*lines, *closing(blocks), ""]).encode()
 
 

@@ -19,6 +19,9 @@ from oracles import plain_evidence
 
 DONE, BUDGET_SPENT, LIMIT_REACHED, INPUT_REFUSED, READ_FAULT, WRITE_FAULT, EVIDENCE_REFUSED, JOURNAL_REFUSED = 0, 3, 4, 5, 6, 7, 9, 10
 
+# the newest version of evidence that gmus reads
+NEWEST = 2
+
 
 class Ended(Exception):
     """A status and what is told."""
@@ -107,7 +110,7 @@ def problem_in(name):
 def known_sets(problem, text):
     """The kinds and groups of the records of evidence."""
     try:
-        check_evidence.check(problem, text)
+        check_evidence.check(problem, text, NEWEST)
     except check_evidence.Refused as refused:
         raise Ended(EVIDENCE_REFUSED, f"evidence refused: {refused}") from None
     return [(line[:1].decode(), tuple(map(int, line.split()[1:-1]))) for line in text.split(b"\n") if line[:2] in (b"u ", b"m ")]
@@ -178,7 +181,7 @@ def listed(file, options):
 def checked(file, evidence):
     problem = problem_in(file)
     try:
-        sys.stdout.write(check_evidence.report(problem, *check_evidence.check(problem, read(evidence, "evidence"))))
+        sys.stdout.write(check_evidence.report(problem, *check_evidence.check(problem, read(evidence, "evidence"), NEWEST)))
     except check_evidence.Refused as refused:
         return EVIDENCE_REFUSED, f"evidence refused: {refused}"
     return DONE, None

@@ -1,8 +1,9 @@
 #!/usr/bin/env python3
-"""Tells whether two reports of one problem can both be right, and whether other programs agree on exported conflicts.
+"""Tells whether two reports of one problem can both be right, and whether other programs agree on exported conflicts and on levels.
 
     bench/try/agree.py REPORT REPORT
     bench/try/agree.py --exports PROGRAM [--count 200] [--seed 1]
+    bench/try/agree.py --levels [--count 1000] [--seed 1]
 
 Two whole reports are equal byte for byte. The sets of a partial one are all in a whole one. Of two partial ones, each
 conflict shares a group with each correction. Ends with 1 and a line for the first thing that is wrong.
@@ -11,6 +12,10 @@ With --exports, PROGRAM lists small problems with evidence, and exports conflict
 compares the CNF and tries the refutation. MiniSat and CaDiCaL have to refute the CNF, and to satisfy it without the clauses
 of any one group of the conflict. lrat-check and drat-trim have to accept the refutation, but for lrat-check one whose clauses
 repeat a literal, which it counts as two. What is not there is skipped, and said.
+
+With --levels, records of both kinds, a kind and a number of groups are drawn by chance. Whether each set at which so many groups count
+is explored is found by trying every set. It has to be so exactly if the clauses of the level with the limit can't be satisfied: by a
+closing part that tools/check_evidence.py and tools/check_lrat.py accept, by MiniSat and CaDiCaL, and by the other checkers of LRAT.
 """
 import argparse
 import collections
@@ -25,7 +30,8 @@ import tempfile
 
 from places import BENCH
 from checks import exports
-from gmus_tools.evidence import check_evidence
+from gmus_tools.evidence import check_evidence, check_lrat
+from oracles import levels
 import mutate_evidence
 
 MOST_PAIRS = 2_000_000   # of a conflict and a correction; what is beyond is not looked at
@@ -124,7 +130,7 @@ def solvers():
         elif os.path.exists(baseline):
             found[name] = by_baseline(baseline)
         else:
-            print(f"skipped {name}: there is neither such a program nor bench/marco/marco-{name}")
+            print(f"skipped {name}: there is neither such a program nor bench/compare/marco/marco-{name}")
     return found
 
 
@@ -232,19 +238,84 @@ def agree_on_exports(gmus, count, seed):
                 return
 
 
+# ---- levels
+
+def level_by_chance(chance):
+    """So many groups, and a kind, a number of groups and records over them."""
+    groups = chance.randint(0, 6)
+    return groups, chance.choice("um"), chance.randint(0, groups), levels.random_records(chance, groups)
+
+
+def fault_of_closing(drawn, level, lines, judges):
+    """What is wrong with a closing part that shows a level, if anything."""
+    groups, kind, most, records = drawn
+    problem = check_evidence.Problem(f"p gcnf 0 0 {groups}")
+    reader = check_evidence.Reader(problem, "".join(line + "\n" for line in lines).encode())
+    reader.version, reader.records = 3, records
+    try:
+        check_evidence.check_closing(problem, level.blocks, reader.piece()[2])
+    except check_evidence.Refused as refused:
+        return f"check_evidence.py refuses what shows it: {refused}"
+    whole = [f"p gmev 3 0 0 {groups}", *(" ".join(map(str, [of, *chosen, 0])) for of, chosen in records), "w 0 0", *lines, ""]
+    cnf, lrat = level.cnf(), level.lrat(*levels.read("\n".join(whole).encode())[1:])
+    try:
+        if not check_lrat.check(*check_lrat.read_cnf(cnf, "cnf"), lrat, "lrat"):
+            return "check_lrat.py finds no empty clause"
+    except check_lrat.Wrong as wrong:
+        return f"check_lrat.py refuses it: {wrong}"
+    return judges.fault_of_refutation(cnf, lrat)
+
+
+def fault_of_level(drawn, judges):
+    """What is said otherwise of a level than trying every set tells, if anything."""
+    groups, kind, most, records = drawn
+    level, is_explored = levels.Level(*drawn), levels.is_explored(*drawn)
+    other = check_evidence.Level(check_evidence.Problem(f"p gcnf 0 0 {groups}"), records, kind, most)
+    counter = [other.clause(number) for number in range(1, other.size() + 1)]
+    if (counter, other.variables, sorted(other.goal)) != (level.clauses[len(records):], level.variables, level.goal):
+        return "check_evidence.py has other clauses"
+    with open(judges.name, "w") as file:
+        file.write(level.cnf())
+    for solver, is_satisfied in judges.solvers.items():
+        if is_satisfied(judges.name) == is_explored:
+            return f"{solver} says that its CNF {'can be satisfied' if is_explored else 'is refuted'}"
+    lines = level.lines()
+    if (lines is not None) != is_explored:
+        return f"it is {'' if is_explored else 'not '}explored, and {'nothing' if lines is None else 'a closing part'} shows that it is"
+    return fault_of_closing(drawn, level, lines, judges) if lines else None
+
+
+def agree_on_levels(count, seed):
+    """Draws so many levels; ends where one is not as it should be."""
+    shown = collections.Counter()
+    with tempfile.TemporaryDirectory() as folder:
+        judges = Judges(folder)
+        for number in range(count):
+            drawn = level_by_chance(random.Random(f"level {seed}/{number}"))
+            why = fault_of_level(drawn, judges)
+            if why:
+                sys.exit(f"level {number}: {why}\n{drawn}")
+            shown[levels.NAMES[drawn[1]], levels.is_explored(*drawn)] += 1
+    told = ", ".join(f"{kind} {shown[kind, True]} shown and {shown[kind, False]} not" for kind in levels.NAMES.values())
+    print(f"{count} levels, {told}: nothing is wrong with them, by every set, check_evidence.py, {judges.summary()}")
+
+
 def main():
     words = argparse.ArgumentParser(description=__doc__, formatter_class=argparse.RawDescriptionHelpFormatter)
     words.add_argument("reports", nargs="*")
     words.add_argument("--exports", metavar="PROGRAM")
-    words.add_argument("--count", type=int, default=200)
+    words.add_argument("--levels", action="store_true")
+    words.add_argument("--count", type=int)
     words.add_argument("--seed", type=int, default=1)
     given = words.parse_args()
-    if given.exports and not given.reports:
-        agree_on_exports(os.path.abspath(given.exports), given.count, given.seed)
-    elif not given.exports and len(given.reports) == 2:
+    if given.exports and not given.reports and not given.levels:
+        agree_on_exports(os.path.abspath(given.exports), given.count or 200, given.seed)
+    elif given.levels and not given.reports and not given.exports:
+        agree_on_levels(given.count or 1000, given.seed)
+    elif not given.exports and not given.levels and len(given.reports) == 2:
         compare(given.reports)
     else:
-        words.error("two reports, or a program that exports, are needed")
+        words.error("two reports, a program that exports, or --levels are needed")
 
 
 if __name__ == "__main__":

@@ -31,7 +31,7 @@ from checks import exports
 from gmus_tools.commands import make_case
 from gmus_tools.evidence import check_evidence, journal
 import mutate_evidence
-from oracles import brute_force, plain_files, plain_reader
+from oracles import brute_force, plain_files, plain_gmus, plain_reader
 
 NO_SUCH = exports.NO_SUCH   # the status of an export of a conflict that is none
 
@@ -407,7 +407,7 @@ def opening(given, text, locked):
     if ends:
         return None, ends
     try:
-        sets = check_evidence.check(problem, evidence)[1]
+        sets = check_evidence.check(problem, evidence, plain_gmus.NEWEST)[1]
         return ["u"] * len(sets["u"]) + ["m"] * len(sets["m"]), None
     except check_evidence.Refused as refused:
         return None, (9, b"", f"gmus: evidence refused: {refused}\n")

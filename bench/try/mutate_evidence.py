@@ -1,25 +1,31 @@
 #!/usr/bin/env python3
 """Compares `gmus check` with tools/check_evidence.py on texts of evidence that were changed by chance.
 
-    bench/try/mutate_evidence.py --gmus PROGRAM [--mutations 5000] [--problems 12] [--seed 1]
+    bench/try/mutate_evidence.py [--gmus PROGRAM] [--mutations 5000] [--problems 12] [--seed 1] [--newest 2]
 
-The texts are the stored evidence of examples/ and evidence about small random problems, of both versions, which is made here
-by trying every set of groups. Each is changed once to three times: a number, a reference, a word, a byte, a line or a block of
-lines. Both have to say the same: yes
-with the same report, or no at the same line with the same number. Equal arguments give equal texts. Ends with 1 where they
-differ, and keeps the text. Needs Python 3.9.
+The texts are the stored evidence of examples/ and evidence about small random problems, of each version, which is made here
+by trying every set of groups. Each is changed once to three times: a number, a reference, a word, a byte, the end, a line or a block
+of lines. Both have to say the same: yes with the same report, or no at the same line with the same number.
+
+--newest is the newest version that the program reads. What is newer, and without --gmus each text, tools/check_evidence.py judges
+alone. It has to end well; and if it says yes, the sets are minimal, none is missing that its end says is there, and check_lrat.py accepts
+its closing part as oracles/level_cnf.py writes it. Equal arguments give equal texts. Ends with 1 if something differs, and keeps the
+text. Needs Python 3.9.
 """
 import argparse
 import collections
 import os
 import random
+import re
 import subprocess
 import sys
 import tempfile
 
 from places import TOP
-from gmus_tools.evidence import check_evidence
+from gmus_tools.evidence import check_evidence, check_lrat
+from oracles import levels, plain_evidence
 from oracles.plain_evidence import evidence, numbers, random_problem
+from oracles.plain_gmus import NEWEST
 
 
 # ---- longer refutations
@@ -92,7 +98,8 @@ def padded(chance, problem, text):
 # ---- changes
 
 WORDS = [b"0", b"1", b"2", b"5", b"-1", b"-0", b"00", b"01", b"", b"u", b"m", b"w", b"d", b"r", b"t", b"x", b"e", b"complete", b"partial",
-         b"+1", b"1x", b"9223372036854775807", b"9223372036854775808", b"18446744073709551615", b"18446744073709551616", b"p", b"gmev"]
+         b"+1", b"1x", b"9223372036854775807", b"9223372036854775808", b"18446744073709551615", b"18446744073709551616", b"p", b"gmev",
+         b"conflicts", b"corrections", b"2147483647", b"2147483648"]
 
 
 def change_word(chance, text):
@@ -193,19 +200,36 @@ def close_partly(chance, text):
     return b"\n".join(lines[:chance.choice(marks) + 1 if marks else 1] + [b"e partial", chance.choice([b"", b"", b"e", b"\0"])])
 
 
+def change_end(chance, text):
+    """The end of version 3 says something else, or what closes the evidence does: a number in it, or a line of it, is another one."""
+    lines = text.split(b"\n")
+    ends = [at for at, line in enumerate(lines) if line[:2] == b"e "]
+    marks = [at for at, line in enumerate(lines) if line[:2] in (b"r ", b"t ", b"w ")]
+    if not ends or not text.startswith(b"p gmev 3 "):
+        return change_number(chance, text)
+    how = chance.randrange(3)
+    if how == 0:
+        lines[ends[-1]] = b"e " + chance.choice([b"conflicts %d", b"corrections %d"]) % chance.randint(0, 5)
+        return b"\n".join(lines)
+    behind = marks[-1] + 1 if marks else 1
+    part = b"\n".join(lines[behind:])
+    part = change_number(chance, part) if how == 1 else change_line(chance, part)
+    return b"\n".join([*lines[:behind], part])
+
+
 def changed(chance, whole):
     text = whole
     for _ in range(chance.choice([1, 1, 1, 1, 2, 3])):
-        text = chance.choices([change_number, change_reference, change_word, change_byte, change_line, close_partly],
-                              [16, 8, 4, 2, 4, 1])[0](chance, text)
+        text = chance.choices([change_number, change_reference, change_word, change_byte, change_line, close_partly, change_end],
+                              [16, 8, 4, 2, 4, 1, 8 if whole.startswith(b"p gmev 3 ") else 0])[0](chance, text)
     return text if text != whole else changed(chance, whole)
 
 
 # ---- what both say
 
-def plain(problem, text):
+def plain(problem, text, newest=NEWEST):
     try:
-        return "yes", check_evidence.report(problem, *check_evidence.check(problem, text)).encode()
+        return "yes", check_evidence.report(problem, *check_evidence.check(problem, text, newest)).encode()
     except check_evidence.Refused as refused:
         return "no", str(refused).encode()
 
@@ -222,19 +246,74 @@ def program(gmus, file, text):
     return f"status {done.returncode}", done.stderr
 
 
+def fault_of_alone(problem, text):
+    """How tools/check_evidence.py judges a text by itself, as `plain` has it, and what is wrong with that, if anything."""
+    try:
+        says, sets = check_evidence.check(problem, text)
+    except check_evidence.Refused as refused:
+        return ("no", str(refused).encode()), None
+    report = check_evidence.report(problem, says, sets).encode()
+    every = {"u": [], "m": []}
+    for kind, groups in plain_evidence.minimal_sets(problem):
+        every[kind].append(list(groups))
+    if any(groups not in every[kind] for kind in sets for groups in sets[kind]):
+        return ("yes", report), "a set is not minimal"
+    if says is not False:
+        kinds, most = (says.kind, says.most) if isinstance(says, check_evidence.Level) else ("um", problem.groups)
+        if any(len(groups) <= most and groups not in sets[kind] for kind in kinds for groups in every[kind]):
+            return ("yes", report), "a set is missing"
+        level, steps, goal = levels.read(text)
+        try:
+            is_refuted = check_lrat.check(*check_lrat.read_cnf(level.cnf(), "cnf"), level.lrat(steps, goal), "lrat")
+        except check_lrat.Wrong as wrong:
+            return ("yes", report), f"check_lrat.py refuses the closing part: {wrong}"
+        if not is_refuted:
+            return ("yes", report), "check_lrat.py finds no empty clause"
+    return ("yes", report), None
+
+
+def keep(file, text):
+    """Keeps a text that something is wrong with."""
+    with open("mutation.evidence", "wb") as out:
+        out.write(text)
+    with open(file) as made, open("mutation.gcnf", "w") as out:
+        out.write(made.read())
+    return "kept as mutation.gcnf and mutation.evidence"
+
+
+def judged(problem, file, text, gmus, newest):
+    """What is said of a text; ends if something is wrong with that."""
+    is_newer = re.match(rb"p gmev ([0-9]{1,9}) ", text) is not None and int(text.split(b" ")[2]) > newest
+    wanted, found = plain(problem, text, newest), None
+    if gmus is not None:
+        found = program(gmus, file, text)
+        if wanted != found:
+            sys.exit(f"check_evidence.py says {wanted}, gmus {found}; {keep(file, text)}")
+    if gmus is None or is_newer:
+        try:
+            wanted, why = fault_of_alone(problem, text)
+        except Exception:
+            keep(file, text)
+            raise
+        if why:
+            sys.exit(f"check_evidence.py says yes, and {why}; {keep(file, text)}")
+    return wanted
+
+
 def main():
     words = argparse.ArgumentParser(description=__doc__, formatter_class=argparse.RawDescriptionHelpFormatter)
-    words.add_argument("--gmus", required=True)
+    words.add_argument("--gmus")
+    words.add_argument("--newest", type=int, default=NEWEST, help="the newest version that the program reads")
     words.add_argument("--mutations", type=int, default=5000)
     words.add_argument("--problems", type=int, default=12, help="how many random problems")
     words.add_argument("--seed", type=int, default=1)
     given = words.parse_args()
     chance = random.Random(given.seed)
     with tempfile.TemporaryDirectory() as folder:
-        texts = []
+        texts, first = [], os.path.join(TOP, "examples", "first.gcnf")
         for name in ["first.evidence", "first_short.evidence"]:
             with open(os.path.join(TOP, "examples", name), "rb") as stored:
-                texts.append((os.path.join(TOP, "examples", "first.gcnf"), stored.read()))
+                texts.append((first, stored.read()))
         for number in range(given.problems):
             file = os.path.join(folder, f"{number}.gcnf")
             with open(file, "w") as out:
@@ -242,26 +321,23 @@ def main():
             with open(file) as made:
                 problem = check_evidence.Problem(made.read())
             texts += [(file, evidence(problem, chance, version)) for version in [1, 2]]
+            # as many of version 3 as of the others
+            texts += [(file, levels.evidence(problem, chance)) for _ in [1, 2]]
         problems = {}
         for file, text in texts:
             with open(file) as made:
                 problems[file] = check_evidence.Problem(made.read())
-            for answer in (plain(problems[file], text), program(given.gmus, file, text)):
-                if answer[0] != "yes":
-                    sys.exit(f"whole evidence is refused: {answer}")
+            answer = judged(problems[file], file, text, given.gmus, given.newest)
+            if answer[0] != "yes":
+                sys.exit(f"whole evidence is refused: {answer}")
         told = collections.Counter()
         for number in range(given.mutations):
             file, text = texts[number % len(texts)]
             text = changed(chance, text)
-            wanted, found = plain(problems[file], text), program(given.gmus, file, text)
-            if wanted != found:
-                with open("mutation.evidence", "wb") as out:
-                    out.write(text)
-                with open(file) as made, open("mutation.gcnf", "w") as out:
-                    out.write(made.read())
-                sys.exit(f"mutation {number}: check_evidence.py says {wanted}, gmus {found}; kept as mutation.gcnf and mutation.evidence")
+            wanted = judged(problems[file], file, text, given.gmus, given.newest)
             told[wanted[1].split(b" ")[-1].decode() if wanted[0] == "no" else "yes"] += 1
-    print(f"{given.mutations} mutations of {len(texts)} texts: both say the same")
+    both = "both say the same" if given.gmus else "nothing is wrong with what check_evidence.py says"
+    print(f"{given.mutations} mutations of {len(texts)} texts: {both}")
     print(", ".join(f"{name} {count}" for name, count in told.most_common()))
 
 

@@ -123,7 +123,10 @@ Package: base
 Version: 1
 """]
 ASKED = [b"web\nnot old\nlib (>= 1.0) | mini\nhttpd\n# none\nmini:i386\n"]
-FILES = {"first": (stored("examples/first.gcnf"), stored("examples/first.report"), stored("examples/first.evidence")),
+# what docs/FORMATS.md shows of version 3
+LEAST = stored("docs/FORMATS.md").partition(b"```text\np gmev 3 ")[2].partition(b"```")[0]
+FILES = {"least": (stored("examples/first.gcnf"), stored("examples/first.report"), b"p gmev 3 " + LEAST),
+         "first": (stored("examples/first.gcnf"), stored("examples/first.report"), stored("examples/first.evidence")),
          "short": (stored("examples/first.gcnf"), stored("examples/first.report"), stored("examples/first_short.evidence")),
          "laptop": (stored("examples/laptop.gcnf"), stored("examples/laptop.report"), None),
          "meeting": (stored("examples/meeting.cnf"), stored("examples/meeting.report"), None)}
@@ -142,7 +145,7 @@ WORDS = {
             b",", b"not", b"not ", b"a=1.2", b"a/suite", b":any", b":i386", b"[amd64]", b"<!x>", b"~", b":", b"-", b" x", b"\n\n", b"#"],
     "reports": [b"p gmus 4", b"p roles 4", b"s COMPLETE", b"s PARTIAL", b"u", b"m", b"e", b"0", b"1", b"u 0", b"m 0", b"r 1 some", b"every", b"c group 1 x",
                 b"c weight 1 9", b"c keep 2", b"c always 3 x", b"c rule 3 x", b"c from 3 x", b"p gcnf 2 4 4", b"p cnf 1 1", b"{1}", b"%"],
-    "evidence": [b"p gmev 2 2 4 4", b"u", b"m", b"d", b"r", b"w", b"t", b"x", b"e complete", b"e partial", b"0", b"1", b"-1", b"5", b"t 1 1", b"r 0 5",
+    "evidence": [b"p gmev 2 2 4 4", b"p gmev 3 2 4 4", b"e conflicts 2", b"e corrections 2", b"conflicts", b"2147483647", b"2147483648", b"u", b"m", b"d", b"r", b"w", b"t", b"x", b"e complete", b"e partial", b"0", b"1", b"-1", b"5", b"t 1 1", b"r 0 5",
                  b"9223372036854775807", b"18446744073709551615", b"c rule 3 x", b"c always 1 y", b"{1}"],
     "journals": [b"\0", b"\1", b"\0" * 7 + b"\5", b"u 1 2 0\n", b"m 1 0\n", b"w 0 0\n", b"r 0 5\n", b"d 5 -3 -4 0 1 2 0\n", b"\xff" * 8],
 }
@@ -318,7 +321,7 @@ def try_reports(chance):
 
 
 def try_evidence(chance):
-    file, report, evidence = FILES[chance.choice(["first", "short"])]
+    file, report, evidence = FILES[chance.choice(["first", "short", "least"])]
     is_file = chance.random() < 0.2
     write("file", changed(chance, "evidence", [file]) if is_file else file)
     evidence = changed(chance, "evidence", [evidence])

@@ -305,7 +305,8 @@ def roles(file: Given, jobs: Optional[int] = None, focus: Optional[Focus] = None
         try:
             return Roles(RolesReport(origin, output), names)
         except command.Refused as why:
-            raise ProgramFailed(f"the report can't be read: {why}") from None
+            # it says itself that the report can't be read
+            raise ProgramFailed(str(why)) from None
 
 
 def carry(old: Given, evidence: Given, new: Given, jobs: Optional[int] = None, new_evidence: Optional[Name] = None) -> Result:
@@ -331,7 +332,10 @@ def export(file: Given, evidence: Given, number: int) -> Tuple[str, str]:
         names = [file_of(folder, kind, given) for kind, given in (("problem.gcnf", file), ("evidence", evidence))]
         made = [os.path.join(folder, name) for name in ("cnf", "lrat")]
         called(["export", *names, str(number), *made])
-        return command.text_of(made[0]), command.text_of(made[1])
+        try:
+            return command.text_of(made[0]), command.text_of(made[1])
+        except FileNotFoundError:
+            raise ProgramFailed("the program ended with 0, and wrote no export") from None
 
 
 def read_journal(file: Given, journal: Name) -> Result:

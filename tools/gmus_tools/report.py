@@ -19,6 +19,8 @@ VARIABLE = re.compile(r"^[ \t]*c[ \t]+variable[ \t]+[0-9]{1,18}[ \t]+\S", re.MUL
 HEADER = re.compile(r"p gcnf [0-9]+ [0-9]+ 0*([0-9]{1,18})|p cnf [0-9]+ 0*([0-9]{1,18})( .*)?")
 HEAD = re.compile(r"p gmus ([0-9]{1,18})")
 SET = re.compile(r"(u|m)((?: [1-9][0-9]{0,17})*) 0")
+COMPLETE, PARTIAL = "s COMPLETE", "s PARTIAL"
+COUNTS = re.compile(r"e [0-9]{1,18} [0-9]{1,18}")
 
 
 FEW = 20        # rules that stand with a line of [always], or are left out, are named if they are so few
@@ -148,6 +150,15 @@ class Origin:
                           f"has them up to {groups}")
 
 
+def mark_of(text):
+    """The second line of a text that begins and ends as a report does, or None. What stands between, which may be very much, is not
+    looked at."""
+    head, mark, rest = [*text.split("\n", 2), "", ""][:3]
+    last = rest[rest.rfind("\n", 0, -1) + 1:]
+    is_report = HEAD.fullmatch(head) and mark in (COMPLETE, PARTIAL) and last.endswith("\n") and COUNTS.fullmatch(last[:-1])
+    return mark if is_report else None
+
+
 class Report:
     """The sets of a report, as lists of group numbers."""
 
@@ -160,10 +171,10 @@ class Report:
         if len(lines) < 4 or lines[-1] or not lines[-2].startswith("e "):
             raise Refused("it is cut off, or is no report")
         head = HEAD.fullmatch(lines[0])
-        if not head or lines[1] not in ("s COMPLETE", "s PARTIAL"):
+        if not head or lines[1] not in (COMPLETE, PARTIAL):
             raise Refused("it is no report")
         self.groups = int(head.group(1))
-        self.is_complete = lines[1] == "s COMPLETE"
+        self.is_complete = lines[1] == COMPLETE
         self.conflicts, self.corrections = [], []
         before = None
         for number, line in enumerate(lines[2:-2], 3):

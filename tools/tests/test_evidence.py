@@ -6,7 +6,7 @@ import sys
 import tempfile
 import unittest
 
-from places import EXAMPLES, TOOLS
+from places import EXAMPLES, TOOLS, TOP
 from gmus_tools.evidence import check_evidence
 
 
@@ -98,6 +98,112 @@ class References(unittest.TestCase):
                    (18, 19, ["t 2 9", "t 4 1"], (19, "BadNumber"))])
 
 
+def shown(begins):
+    """The block of docs/FORMATS.md that begins so, as lines."""
+    with open(os.path.join(TOP, "docs", "FORMATS.md"), encoding="utf-8") as page:
+        return (begins + page.read().partition("```text\n" + begins)[2].partition("```")[0]).split("\n")[:-1]
+
+
+LEAST = shown("p gmev 3 2 4 4\n")
+
+
+class Levels(unittest.TestCase):
+    def text(self, first, last, *lines):
+        return "\n".join(LEAST[:first - 1] + list(lines) + LEAST[last:]) + "\n"
+
+    def rows(self, rows):
+        for first, last, lines, wanted in rows:
+            self.assertEqual(answer(FIRST, self.text(first, last, *lines)), wanted, lines)
+
+    def test_what_is_shown_gives_the_sets_with_so_many_groups(self):
+        self.assertEqual(len(LEAST), 18)
+        one = "p least 4\ns ATMOST 1\nm 1 0\ne 1\n"
+        self.assertEqual(shown("p least 4\n"), one.split("\n")[:-1])
+        rest = SHORT[15:23]
+        self.rows([
+            (1, 0, [], one),
+            # a correction of more groups is passed over, and one more block stands before the counter
+            (16, 17, [*rest[:4], "d 17 12 0 3 1 7 15 12 2 16 9 0", "x 17"], one),
+            (16, 18, ["e partial"], "p gmus 4\ns PARTIAL\nu 1 2 0\nu 1 3 4 0\nm 1 0\ne 2 1\n"),
+            (16, 18, [*rest, *SHORT[23:]], REPORT),
+            # none has no group: 5 to 8 are s(1, 1) to s(4, 1), and 4: 1 5, 5: -5 6, 6: 2 6, 7: -6 7, 8: 3 7, 9: -7 8, 10: 4 8
+            (16, 18, ["d 11 8 0 9 7 5 4 6 1 0", "x 11", "e corrections 0"], "p least 4\ns ATMOST 0\ne 0\n")])
+
+    def test_smaller_sets_come_first(self):
+        rest = SHORT[15:23]
+        # no group is left out of k = 4, and no more than four count: nothing is counted
+        for most, sets in ((4, ["m 1 0", "m 2 3 0", "m 2 4 0"]), (5, None)):
+            wanted = (26, "BadNumber") if sets is None else "\n".join(["p least 4", f"s ATMOST {most}", *sets, f"e {len(sets)}", ""])
+            self.rows([(16, 18, [*rest, "d 6 0 3 1 4 5 2 0", "x 6", f"e corrections {most}"], wanted)])
+        # the conflict of group 3 stands behind that of 1 and 2 in the report
+        self.assertEqual(answer("p gcnf 1 3 3\n{1} 1 0\n{2} -1 0\n{3} 0\n", "\n".join([
+            "p gmev 3 1 3 3", "u 1 2 0", "d 4 -2 -3 0 1 2 0", "r 0 4", "w 1 0", "w 2 1 0", "u 3 0", "r 0 3", "w 3 0",
+            # the order is 1, 3, 2, and no more than three count: nothing is counted
+            "m 1 3 0", "w 0 0", "t 1 1", "t 3 2", "m 2 3 0", "w 0 1 0", "t 2 1", "t 3 2",
+            "d 5 0 2 3 4 1 0", "x 5", "e conflicts 3", ""])), "p least 3\ns ATMOST 3\nu 3 0\nu 1 2 0\ne 2\n")
+
+    def test_what_stands_alone_in_sets_of_the_other_kind_is_not_counted(self):
+        # the correction of group 1 stands alone: each conflict has it
+        sure = SHORT[:15] + ["x 1", "e conflicts 1"]
+        self.assertEqual(answer(FIRST, "\n".join(sure).replace("gmev 2", "gmev 3") + "\n"), (16, "NotRefuting"))
+        # With the three corrections 1 is sure, and of 2, 3, 4 one at most counts. 5, 7, 8, 9, 10 are s(1, 1), s(2, 1), s(2, 2), s(3, 1), s(3, 2).
+        # Without the second conflict the blocks are 1: -1 -2, 2: 1, 3: 2 3, 4: 2 4, and the counter is
+        # 5: -2 5, 6: -5 7, 7: -3 7, 8: -3 -5 8, 9: -7 9, 10: -4 9, 11: -8 10, 12: -4 -7 10
+        part = ["p gmev 3 2 4 4", *LINES[1:6], *LINES[12:28], "d 13 10 0 2 1 3 4 7 12 0", "x 13", "e conflicts 2", ""]
+        self.assertEqual(answer(FIRST, "\n".join(part)), "p least 4\ns ATMOST 2\nu 1 2 0\ne 1\n")
+        whole = SHORT[:23]
+        for end, wanted in (
+                (["d 14 10 0 3 1 4 5 2 0", "x 14", "e conflicts 2"], "p least 4\ns ATMOST 2\nu 1 2 0\ne 1\n"),
+                (["d 13 10 0 3 1 4 5 2 0", "x 13", "e conflicts 2"], (24, "IdNotRising")),
+                (["d 14 11 0 3 1 4 5 2 0", "x 14", "e conflicts 2"], (24, "BadLiteral")),
+                (["d 14 0 3 1 4 5 2 0", "x 14", "e conflicts 2"], "p least 4\ns ATMOST 2\nu 1 2 0\ne 1\n"),
+                # with the smallest k of all, only the empty set has so few groups
+                (["d 11 7 0 3 7 0", "x 11", "e conflicts 1"], (24, "NotFalse"))):
+            self.assertEqual(answer(FIRST, "\n".join(whole + end).replace("gmev 2", "gmev 3") + "\n"), wanted, end)
+
+    def test_what_is_shown_refused(self):
+        self.rows([
+            (17, 17, ["x 15"], (17, "NotRefuting")), (17, 17, ["x 17"], (17, "UnknownClause")), (18, 18, ["e corrections 5"], (18, "BadNumber")),
+            (18, 18, ["e corrections 2"], (16, "IdNotRising")), (18, 18, ["e conflicts 1"], (16, "BadLiteral")),
+            (7, 12, [], (10, "BadLiteral")), (18, 18, ["e complete"], (16, "BadLiteral")),
+            (16, 16, [LEAST[15].replace(" 12 0", " 2147483647 0")], (16, "BadLiteral")),
+            (16, 16, [LEAST[15].replace(" 12 0", " 2147483648 0")], (16, "BadNumber")),
+            (16, 16, [LEAST[15].replace(" 12 0", " 13 0")], (16, "BadLiteral")),
+            (16, 16, [LEAST[15].replace("d 16", "d 15")], (16, "IdNotRising")),
+            (16, 16, ["d 16 12 11 0 3 1 6 14 11 2 15 8 0"], (17, "NotRefuting")),
+            (16, 16, [LEAST[15].replace(" 8 0", " 17 0")], (16, "UnknownHint"))])
+
+    def test_ends(self):
+        self.rows([(18, 18, [line], (18, name)) for line, name in [
+            ("e corrections", "BadLine"), ("e corrections ", "BadNumber"), ("e corrections 01", "BadNumber"), ("e corrections -1", "BadNumber"),
+            ("e corrections 1 ", "BadLine"), ("e corrections 5 0", "BadNumber"), ("e corrections 1 0", "BadLine"), ("e Corrections 1", "BadLine"),
+            ("e partial", "BadLine"), ("e complete 1", "BadLine"), ("e", "BadLine"), ("x corrections 1", "BadLine")]])
+        self.rows([
+            (16, 18, ["e corrections 1"], (16, "BadLine")), (18, 18, ["e corrections 1", ""], (19, "TrailingText")),
+            (17, 18, ["x 99", "e corrections 5"], (18, "BadNumber")), (17, 18, ["x 99", "e corrections 1", "x"], (19, "TrailingText")),
+            (1, 1, ["p gmev 2 2 4 4"], (16, "BadNumber")), (1, 1, ["p gmev 1 2 4 4"], (15, "BadLine")),
+            (16, 17, ["x 3"], (16, "NotRefuting")), (17, 18, ["x 99", "e conflicts 1"], (16, "BadLiteral"))])
+        self.assertEqual(answer(FIRST, self.text(1, 0)[:-1]), (18, "Truncated"))
+        # in version 2 the ends of version 3 are none
+        self.assertEqual(answer(FIRST, "\n".join(SHORT[:-1] + ["e conflicts 4", ""])), (26, "BadLine"))
+
+    def test_a_counter_of_too_many_variables_is_refused_at_its_number(self):
+        groups = 50_000
+        problem = f"p gcnf 0 {groups} {groups}\n" + "".join(f"{{{group}}} 0\n" for group in range(1, groups + 1))
+        lines = [f"p gmev 3 0 {groups} {groups}", " ".join(map(str, ["m", *range(1, groups + 1), 0])), "w 0 0",
+                 *(f"r {group} {group}" for group in range(1, groups + 1)), "x 1"]
+        # groups and groups (k + 1) variables
+        for most, wanted in ((42_949, "BadNumber"), (42_948, "BadNumber"), (42_947, "NotRefuting"), (50_001, "BadNumber"), (50_000, "NotRefuting")):
+            line = len(lines) + (wanted == "BadNumber")
+            self.assertEqual(answer(problem, "\n".join([*lines, f"e conflicts {most}", ""])), (line, wanted), most)
+
+    def test_a_version_may_be_too_new(self):
+        problem = check_evidence.Problem(FIRST)
+        with self.assertRaises(check_evidence.Refused) as refused:
+            check_evidence.check(problem, self.text(1, 0).encode(), 2)
+        self.assertEqual(refused.exception.args, (1, "BadNumber"))
+
+
 class Texts(unittest.TestCase):
     def rows(self, rows):
         for text, line, name in rows:
@@ -107,7 +213,7 @@ class Texts(unittest.TestCase):
         tail = "\ne partial\n"
         self.rows([
             ("", 1, "Truncated"), ("p gmev 1 2 4 4", 1, "Truncated"), ("q", 1, "Truncated"), ("q\n", 1, "BadLine"), ("\n", 1, "BadLine"),
-            ("p gmew 1 2 4 4" + tail, 1, "BadLine"), ("p gmev 3 2 4 4" + tail, 1, "BadNumber"), ("p gmev 0 2 4 4" + tail, 1, "BadNumber"),
+            ("p gmew 1 2 4 4" + tail, 1, "BadLine"), ("p gmev 4 2 4 4" + tail, 1, "BadNumber"), ("p gmev 0 2 4 4" + tail, 1, "BadNumber"),
             ("p gmev x 2 4 4" + tail, 1, "BadNumber"),
             ("p gmev 1 2 4" + tail, 1, "BadLine"), ("p gmev 1 2 4 4 4" + tail, 1, "BadLine"), ("p gmev 1 02 4 4" + tail, 1, "BadNumber"),
             ("p gmev 1  2 4 4" + tail, 1, "BadNumber"), ("p  gmev 1 2 4 4" + tail, 1, "BadLine"), (" p gmev 1 2 4 4" + tail, 1, "BadLine"),

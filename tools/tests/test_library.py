@@ -171,6 +171,15 @@ class Library(unittest.TestCase):
             self.assertEqual(kind, "ProgramNotBuilt")
             self.assertTrue(told.startswith(f"the program can't be started: {program.folder.name}"), told)
 
+    def test_a_program_that_ends_with_0_and_writes_nothing_is_told(self):
+        with AsIf(0):
+            none = "the report can't be read: there is none: see what gmus wrote on standard error"
+            for call, given, wanted in (
+                    (gmus_tools.list_gcnf, [HEAD], none), (gmus_tools.check, [HEAD, "x"], none), (gmus_tools.carry, [HEAD, "x\n", HEAD], none),
+                    (gmus_tools.roles, [HEAD], "the report can't be read: it is cut off, or is no report"),
+                    (gmus_tools.export, [HEAD, "x\n", 1], "the program ended with 0, and wrote no export")):
+                self.assertEqual(caught(call, *given)[:2], ("ProgramFailed", wanted), call.__name__)
+
     def test_a_report_gives_a_result(self):
         with AsIf(0, FOUND):
             result = gmus_tools.list_gcnf("c group 2 shut\n" + HEAD)

@@ -358,6 +358,10 @@ class Broken(Runs):
         self.assertEqual(os.listdir(self.at("tasks")), [])
 
 
+# of three failures in a row it rests behind two
+QUICK = "from gmus_tools.spreading import own; own.REST = 0.1; from gmus_tools.commands.spread import as_command; as_command()"
+
+
 class Refusals(Runs):
     def test_a_program_that_writes_another_version_of_evidence(self):
         self.write("program", f"""#!/bin/sh
@@ -369,14 +373,33 @@ done
 exit 3
 """)
         os.chmod(self.at("program"), 0o700)
-        # of three failures in a row it rests behind two
-        quick = "from gmus_tools.spreading import own; own.REST = 0.1; from gmus_tools.commands.spread import as_command; as_command()"
-        status, _, said = self.spread("--report", "r", program=self.at("program"), tool=["-c", quick])
+        status, _, said = self.spread("--report", "r", program=self.at("program"), tool=["-c", QUICK])
         self.assertEqual(status, 1, said)
         self.assertTrue(said.endswith("its own run fails: this is no evidence of version 1 or 2: p gmev 3 5 10 10\n"), said)
         # what the tasks found is kept: their journals have no version
         self.assertTrue(self.sets())
         self.assertIn(b"s PARTIAL", self.read("r"))
+
+    def test_a_program_that_ends_with_0_and_writes_no_report(self):
+        self.assertEqual(self.spread("--sets", "9", pause=0.1, own_waits=NEVER)[0], 4)
+        kept = records_in(self.read("e"))
+        fault = "spread.py: gmus check ended with 0, and what it wrote is no report\n"
+        # what was there is not looked at, or each run of its own ends so: behind a whole listing, with evidence and without any
+        nothing, report = "check) exit 0 ;; list)", f"check) exec {PLAIN} \"$@\" ;; list)"
+        empty = "for name; do case $name in *.own) : > \"$name\" ;; esac; done"
+        own = "spread.py: its own run fails: the program ended with 0, and left no whole report with whole evidence\n"
+        for asked, then, wanted in (
+                (nothing, "", fault), ("check) echo p gmus 10; exit 0 ;; list)", "", fault), (report, "", own),
+                (report, f"{PLAIN} \"$@\" > /dev/null", own), (report, f"{PLAIN} \"$@\"; {empty}", own),
+                (report, f"{PLAIN} \"$@\" | head -n 3", own)):
+            # a task lists too, and finds what it finds
+            self.write("program", f"#!/bin/sh\ncase $1 in\n{asked} case \"$*\" in *.own*) {then or ':'} ;; *) exec {PLAIN} \"$@\" ;; esac ;;\nesac\n")
+            os.chmod(self.at("program"), 0o700)
+            status, _, said = self.spread("--report", "r", program=self.at("program"), tool=["-c", QUICK])
+            self.assertEqual((status, said[-len(wanted):]), (1, wanted), said)
+            self.assertNotIn("Traceback", said)
+            self.assertLessEqual({*kept}, {*records_in(self.read("e"))})
+            self.assertEqual((os.path.exists(self.at("r")), os.listdir(self.at("tasks"))), (wanted == own, []))
 
     def test_what_is_refused_at_the_beginning(self):
         for file, evidence, status, wanted in (("p gcnf x", None, 5, "gmus: input refused: "), (None, None, 6, "gmus: read fault on input\n"),

@@ -133,7 +133,11 @@ class Followed(unittest.TestCase):
         for text, wanted in (
                 ("", "e: line 1: 3 Truncated"),
                 ("p gmus 4\ns COMPLETE\n", "e: line 1: this is no evidence"),
-                (record.replace("gmev 1", "gmev 3"), "e: line 1: this evidence is of a version"),
+                (record.replace("gmev 1", "gmev 4"), "e: line 1: this evidence is of a version"),
+                (record.replace("e partial", "e conflicts 4"), "e: line 8: 3 Truncated"),
+                *((record.replace("gmev 1", "gmev 3").replace("partial", end), f"e: line {wanted}") for end, wanted in (
+                    ("conflicts 5", "7: 2 BadNumber: a number of groups up to 4 is due here"), ("conflicts 04", "8: 3 Truncated"),
+                    ("corrections", "8: 3 Truncated"), ("both 1", "8: 3 Truncated"))),
                 (record.replace("2 4 4", "2 4 5"), "e: line 1: 4 OtherProblem: this is no evidence about f"),
                 (record[:-1], "e: line 7: 3 Truncated"),
                 (record.replace("e partial\n", ""), "e: line 7: 3 Truncated"),
@@ -227,6 +231,15 @@ Made of x.gcnf, SHA-256 0123456789abcdef.
             with self.assertRaises(command.Refused) as refused:
                 evidence(text, whole)
             self.assertEqual(str(refused.exception), "e: line 1: 4 OtherProblem: this is no evidence about f" + told)
+
+    def test_evidence_of_small_sets_tells_which_others_there_may_be(self):
+        for end, wanted in (("e partial", "1 conflict. The evidence is partial: there may be others."), ("x 1\ne complete", "1 conflict."),
+                            ("x 1\ne conflicts 1", "1 conflict. There may be others, each of more than 1 rule."),
+                            ("x 1\ne conflicts 2", "1 conflict. There may be others, each of more than 2 rules."),
+                            ("x 1\ne corrections 2", "1 conflict. The evidence is partial: there may be others.")):
+            text = RULED_EVIDENCE.replace("gmev 1", "gmev 3").replace("e partial", end)
+            of = problem(RULED)
+            self.assertEqual(why.Page(of, evidence(text, of), None, "").summary(), wanted)
 
     def test_clauses_of_others_are_told_with_the_names_of_their_variables(self):
         without = "".join(line + "\n" for line in RULED.split("\n")[:-1] if not line.startswith("c rule"))

@@ -26,8 +26,8 @@ On each machine stands gmus with these tools: a release, unpacked. A worker of D
 (PYTHONPATH=gmus/tools dask-worker ADDRESS). The program is the one that the variable GMUS names there, or gmus beside tools/.
 
 The status is 0 if no set is missing; 4 if there are as many sets as --sets says; that of gmus if FILE or E is refused, or if
-its own run fails; 7 if something could not be written; 1 if spread.py refuses something, 2 if the words have no reading, and
-130, 143 or 129 after an interrupt. With each of them E has what was found.
+its own run fails; 7 if something could not be written; 1 if spread.py refuses something, or gmus ends with 0 and writes no
+report; 2 if the words have no reading, and 130, 143 or 129 after an interrupt. With each of them E has what was found.
 """
 import os
 import shlex

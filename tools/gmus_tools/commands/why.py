@@ -19,7 +19,7 @@ import os
 from gmus_tools import command
 from gmus_tools.command import Refused, WrongWords, plain
 from gmus_tools.focus import without_focus
-from gmus_tools.report import digest_of
+from gmus_tools.report import digest_of, number_of
 from gmus_tools.why.evidence import Evidence
 from gmus_tools.why.problem import Problem
 
@@ -62,7 +62,7 @@ class Page:
         self.digest = digest
         self.problem = problem
         self.count = len(evidence.conflicts)
-        self.is_complete = evidence.is_complete
+        self.is_complete, self.up_to = evidence.is_complete, evidence.up_to
         self.file = plain(os.path.basename(problem.source))
         self.title = f"What makes the rules of {self.file} clash"
         self.reasons = reasons(problem, evidence, number)
@@ -70,7 +70,9 @@ class Page:
     def summary(self):
         if not self.count:
             return "No conflict stands in this evidence."
-        found = "1 conflict" if self.count == 1 else f"{self.count} conflicts"
+        found = number_of(self.count, "conflict", "conflicts")
+        if self.up_to is not None:
+            return f"{found}. There may be others, each of more than {number_of(self.up_to, 'rule', 'rules')}."
         return f"{found}." if self.is_complete else f"{found}. The evidence is partial: there may be others."
 
     def made_of(self):

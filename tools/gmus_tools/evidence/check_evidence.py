@@ -2,21 +2,26 @@
 
     tools/check_evidence.py FILE EVIDENCE [--focus LIST] [-o REPORT]
 
-FILE is the GCNF or CNF file, EVIDENCE the evidence about it. With --focus LIST the evidence is about the groups of LIST, as
-3,1,2, and the background: the clauses of all others are left out before anything is numbered. If nothing is refused, the report
-of the evidence's sets is written, and the status is 0. Else the first refusal is told on standard error, and the status is 9, as
-that of `gmus check`. It is 1 if FILE is no such file or a file can't be read, and 2 if the words have no reading. It is plain
-and slow; evidence of some megabytes is fine.
+FILE is the GCNF or CNF file, EVIDENCE the evidence about it, of version 1, 2 or 3. With --focus LIST the evidence is about the
+groups of LIST, as 3,1,2, and the background: the clauses of all others are left out before anything is numbered. If nothing is
+refused, the report of the evidence's sets is written, and the status is 0; if it ends with a kind and a number, all sets of that kind
+with so many groups at most, smaller ones first. Else the first refusal is told on standard error, and the status is 9, as that of
+`gmus check`. It is 1 if FILE is no such file or a file can't be read, and 2 if the words have no reading. It is plain and slow;
+evidence of some megabytes is fine.
 """
+import math
 import re
 import sys
+from collections import namedtuple
 
 from gmus_tools import command
 from gmus_tools.focus import without_focus
 
 EVIDENCE_REFUSED = 9
 NUMBER = re.compile(rb"0|[1-9][0-9]*")
-MAX_BYTES, MAX_ID, MAX_COUNT = 2 ** 31, 2 ** 63 - 1, 2 ** 64 - 1
+MAX_BYTES, MAX_ID, MAX_COUNT, MAX_VARIABLE = 2 ** 31, 2 ** 63 - 1, 2 ** 64 - 1, 2 ** 31 - 1
+# the newest version, and what its end may say of the sets of one kind, by the first word of their lines
+NEWEST, KINDS = 3, {b"conflicts": "u", b"corrections": "m"}
 NUMBERS = {"BadLine": 1, "BadNumber": 2, "Truncated": 3, "OtherProblem": 4, "TrailingText": 5, "TooLong": 6,
            "UnknownHint": 10, "NotUnit": 11, "NotFalse": 12, "HintsLeft": 13, "IdNotRising": 14, "BadLiteral": 15,
            "UnknownClause": 16, "NotRefuting": 17, "WitnessFails": 18, "RepeatedSet": 19, "UnknownRecord": 20, "NotInside": 21}
@@ -138,6 +143,10 @@ class Proof:
         self.steps, self.goal, self.line = [], None, None
 
 
+# The proof of a closing part, and what the end says: True, or a level.
+Closing = namedtuple("Closing", "proof says")
+
+
 class Reference:
     """The number of an earlier record, with its line."""
 
@@ -145,14 +154,56 @@ class Reference:
         self.line, self.number = line, number
 
 
-class Reader:
-    """The text: its head, and then record by record. What is read has its lines' numbers with it."""
+class Level:
+    """What an end of version 3 says behind these records, each a kind and a set: those of a kind with this many groups at most are
+    all there. Of the order of groups, and of the number, what stands alone in sets of the other kind is taken off."""
 
-    def __init__(self, problem, text):
+    def __init__(self, problem, records, kind, most):
+        self.kind, self.most, named = kind, most, {}
+        for of, groups in records:
+            for group in groups if of != kind else []:
+                named[group] = named.get(group, False) or len(groups) == 1
+        sure = {*[group for group, is_alone in named.items() if is_alone][:most]}
+        self.order = [group for group in named if group not in sure]
+        self.rest, self.groups = most - len(sure), problem.groups
+        self.is_counted = len(self.order) > self.rest
+        self.variables = self.variable(len(self.order), self.rest + 1) if self.is_counted else self.groups
+        self.goal = {self.variables} if self.is_counted else set()
+
+    def variable(self, row, count):
+        """Of the first groups of the order, as many as the number of the row, at least so many count."""
+        return self.groups + (self.rest + 1) * (row - 1) + count
+
+    def size(self):
+        """How many clauses the counter has: 1, 3, 5 and so on in its first rows, and then in each row the same number."""
+        width = self.rest + 1
+        return width * width + 2 * width * (len(self.order) - width) if self.is_counted else 0
+
+    def clause(self, number):
+        """The clause of the counter with this number, from 1: row by row, and in a row by how many count."""
+        width, at = self.rest + 1, number - 1
+        if at < width * width:
+            row = math.isqrt(at) + 1
+            at -= (row - 1) ** 2
+        else:
+            row, at = divmod(at - width * width, 2 * width)
+            row += width + 1
+        count, group = at // 2 + 1, self.order[row - 1]
+        if at % 2 == 0 and count < row:
+            return [-self.variable(row - 1, count), self.variable(row, count)]
+        before = [-self.variable(row - 1, count - 1)] if count > 1 else []
+        return [-group if self.kind == "u" else group, *before, self.variable(row, count)]
+
+
+class Reader:
+    """The text: its head, and then record by record. What is read has its lines' numbers with it. Whoever checks a record adds it to
+    `records`, by its kind and its set."""
+
+    def __init__(self, problem, text, newest=NEWEST):
         if len(text) > MAX_BYTES:
             raise Refused(0, "TooLong")
         *self.lines, self.rest = text.split(b"\n")
-        self.problem, self.at, self.version = problem, 0, None
+        self.problem, self.at, self.version, self.newest, self.records = problem, 0, None, newest, []
 
     def line(self):
         """The next line, and its first word."""
@@ -167,7 +218,7 @@ class Reader:
         if first != b"p":
             line.refuse("BadLine")
         line.word(b"gmev")
-        self.version = line.number_in(1, 2)
+        self.version = line.number_in(1, self.newest)
         counts = [line.number_in(0, MAX_COUNT) for _ in range(3)]
         line.end()
         if counts != [self.problem.vars, len(self.problem.clauses), self.problem.groups]:
@@ -190,7 +241,7 @@ class Reader:
         return proof
 
     def refutation(self, variables, group):
-        """What refutes a group of a correction: a proof, or in version 2 a reference."""
+        """What refutes a group of a correction: a proof, or from version 2 on a reference."""
         line, first = self.line()
         if self.version == 1 or first != b"t":
             return self.proof(variables, b"r", group, (line, first))
@@ -208,8 +259,20 @@ class Reader:
         line.end()
         return line.number, set(trues)
 
+    def ending(self, line):
+        """What an end line says behind a closing part: True if that none is missing, or a level."""
+        word = line.take()
+        if self.version < 3 or word not in KINDS:
+            if word != b"complete":
+                line.refuse("BadLine")
+            return True
+        level = Level(self.problem, self.records, KINDS[word], line.number_in(0, self.problem.groups))
+        if level.is_counted and level.variables > MAX_VARIABLE:
+            line.refuse("BadNumber")
+        return level
+
     def piece(self):
-        """A record: its kind, line and set, its witnesses, and its refutations; or the end: what closes it, or None."""
+        """A record: its kind, line and set, its witnesses, and its refutations; or the end: what closes it and what that says, or None."""
         line, first = self.line()
         variables = self.problem.vars + self.problem.groups
         if first in (b"u", b"m"):
@@ -221,30 +284,46 @@ class Reader:
             witnesses = [self.witness(0)]
             return "m", line.number, groups, witnesses, [self.refutation(variables, group) for group in groups]
         if first == b"e":
-            closing, due = None, b"partial"
+            closing = None
+            line.word(b"partial")
         else:
-            closing, due = self.proof(self.problem.groups, b"x", 0, (line, first)), b"complete"
+            proof = self.proof(self.problem.groups if self.version < 3 else MAX_VARIABLE, b"x", 0, (line, first))
             line, first = self.line()
             if first != b"e":
                 line.refuse("BadLine")
-        line.word(due)
+            closing = Closing(proof, self.ending(line))
         line.end()
         if self.at < len(self.lines) or self.rest:
             raise Refused(self.at + 1, "TrailingText")
         return "e", line.number, closing, [], []
 
 
-def check_step(clauses, line, lits, hints):
-    """Follows the hints of one step."""
-    if any(-lit in lits for lit in lits):
+class Clauses:
+    """Input clauses, numbered from 1, those of a level behind them, and steps."""
+
+    def __init__(self, inputs, level=None):
+        self.inputs, self.level, self.steps = inputs, level, {}
+        self.count = len(inputs) + (level.size() if level else 0)
+
+    def find(self, number):
+        """The clause of this number, or None."""
+        if number > self.count:
+            return self.steps.get(number)
+        return self.inputs[number - 1] if number <= len(self.inputs) else self.level.clause(number - len(self.inputs))
+
+
+def check_step(clauses, variables, line, lits, hints):
+    """Follows the hints of one step over so many variables."""
+    if any(-lit in lits or abs(lit) > variables for lit in lits):
         raise Refused(line, "BadLiteral")
     falses = set(lits)
     if not hints:
         raise Refused(line, "NotFalse")
     for place, hint in enumerate(hints):
-        if hint not in clauses:
+        clause = clauses.find(hint)
+        if clause is None:
             raise Refused(line, "UnknownHint")
-        left = set(clauses[hint]) - falses
+        left = set(clause) - falses
         if place == len(hints) - 1:
             if left:
                 raise Refused(line, "NotFalse")
@@ -254,17 +333,18 @@ def check_step(clauses, line, lits, hints):
             falses.add(-left.pop())
 
 
-def check_proof(inputs, proof, may_have):
-    """Derives the goal from the input clauses. It may have these literals alone."""
-    clauses, last = dict(enumerate(inputs, 1)), len(inputs)
+def check_proof(clauses, variables, proof, may_have):
+    """Derives the goal from the input clauses over so many variables. It may have these literals alone."""
+    last = clauses.count
     for line, number, lits, hints in proof.steps:
         if number <= last:
             raise Refused(line, "IdNotRising")
-        check_step(clauses, line, lits, hints)
-        clauses[number], last = lits, number
-    if proof.goal not in clauses:
+        check_step(clauses, variables, line, lits, hints)
+        clauses.steps[number], last = lits, number
+    goal = clauses.find(proof.goal)
+    if goal is None:
         raise Refused(proof.line, "UnknownClause")
-    if any(lit not in may_have for lit in clauses[proof.goal]):
+    if any(lit not in may_have for lit in goal):
         raise Refused(proof.line, "NotRefuting")
 
 
@@ -287,8 +367,9 @@ def check_record(problem, inputs, records, kind, groups, witnesses, proofs):
             if not problem.is_satisfied(set_of, trues):
                 raise Refused(line, "WitnessFails")
 
+    variables = problem.vars + problem.groups
     if kind == "u":
-        check_proof(inputs, proofs[0], left_out(groups))
+        check_proof(Clauses(inputs), variables, proofs[0], left_out(groups))
         check_witnesses([set(groups) - {group} for group in groups])
     else:
         outside = set(range(1, problem.groups + 1)) - set(groups)
@@ -297,21 +378,32 @@ def check_record(problem, inputs, records, kind, groups, witnesses, proofs):
             if isinstance(proof, Reference):
                 check_reference(records, groups, group, proof)
             else:
-                check_proof(inputs, proof, left_out(outside | {group}))
+                check_proof(Clauses(inputs), variables, proof, left_out(outside | {group}))
 
 
-def check(problem, text):
-    """Whether the evidence is complete, and its sets by kind; or the first refusal."""
-    reader, inputs = Reader(problem, text), problem.selector_form()
+def check_closing(problem, blocks, closing):
+    """Checks what closes the evidence behind records with these block clauses."""
+    if closing.says is True:
+        check_proof(Clauses(blocks), problem.groups, closing.proof, set())
+    else:
+        level = closing.says
+        check_proof(Clauses(blocks, level), level.variables, closing.proof, level.goal)
+
+
+def check(problem, text, newest=NEWEST):
+    """What the end of evidence of a version up to the newest one says, and its sets by kind; or the first refusal. The end says True
+    if no set is missing, and False if there may be others, or it is a level."""
+    reader, inputs = Reader(problem, text, newest), problem.selector_form()
     reader.head()
-    sets, blocks, records = {"u": [], "m": []}, [], []
+    sets, blocks, records = {"u": [], "m": []}, [], reader.records
     seen = set()
     while True:
         kind, line, groups, witnesses, proofs = reader.piece()
         if kind == "e":
-            if groups is not None:
-                check_proof(blocks, groups, set())
-            return groups is not None, sets
+            if groups is None:
+                return False, sets
+            check_closing(problem, blocks, groups)
+            return groups.says, sets
         if (kind, *groups) in seen:
             raise Refused(line, "RepeatedSet")
         seen.add((kind, *groups))
@@ -321,10 +413,20 @@ def check(problem, text):
         blocks.append([-group for group in groups] if kind == "u" else groups)
 
 
-def report(problem, complete, sets):
-    lines = [f"p gmus {problem.groups}", "s COMPLETE" if complete else "s PARTIAL"]
+def report(problem, says, sets):
+    """The report of evidence with these sets, by what its end says."""
+    if isinstance(says, Level):
+        return least(problem, says, sets[says.kind])
+    lines = [f"p gmus {problem.groups}", "s COMPLETE" if says else "s PARTIAL"]
     lines += [" ".join(map(str, [kind, *groups, 0])) for kind in "um" for groups in sorted(sets[kind])]
     return "\n".join(lines + [f"e {len(sets['u'])} {len(sets['m'])}"]) + "\n"
+
+
+def least(problem, level, sets):
+    """The text of a level: of the sets of its kind those with so many groups at most, smaller ones first."""
+    found = sorted((len(groups), groups) for groups in sets if len(groups) <= level.most)
+    lines = [f"p least {problem.groups}", f"s ATMOST {level.most}", *(" ".join(map(str, [level.kind, *groups, 0])) for _, groups in found)]
+    return "\n".join([*lines, f"e {len(found)}"]) + "\n"
 
 
 def check_alone(problem, text):
@@ -363,11 +465,11 @@ def main(words):
     with command.opened(words[1]) as file:
         text = file.read(MAX_BYTES + 1)
     try:
-        complete, sets = check(problem, text)
+        says, sets = check(problem, text)
     except Refused as refused:
         print(f"evidence refused: {refused}", file=sys.stderr)
         return EVIDENCE_REFUSED
-    command.put(report(problem, complete, sets))
+    command.put(report(problem, says, sets))
     return command.DONE
 
 

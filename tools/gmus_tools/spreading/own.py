@@ -9,7 +9,8 @@ import time
 
 from gmus_tools import program
 from gmus_tools.leash import Leashed
-from gmus_tools.spreading.records import NoReading, records_in
+from gmus_tools.report import COMPLETE, mark_of
+from gmus_tools.spreading.records import NoReading, is_complete, records_in
 
 # The first turn takes some ten seconds, so that what ends sooner is not begun anew.
 FIRST = 100000
@@ -17,6 +18,7 @@ FIRST = 100000
 FAILURES, REST = 3, 2.0
 # The status where it writes what can't be read.
 UNREAD = 1
+NO_WHOLE = "the program ended with 0, and left no whole report with whole evidence"
 
 
 class Own:
@@ -53,15 +55,28 @@ class Own:
             return None, []
         self.said, self.child = self.child.said() or f"the program ended with {status}", None
         if status == program.DONE:
-            return status, []
+            if self.is_whole():
+                return status, []
+            self.said = NO_WHOLE
         if status == program.BUDGET_SPENT:
             try:
                 return status, self.new_records()
             except NoReading as why:
                 self.said = str(why)
-        self.failures, self.failed = self.failures + 1, UNREAD if status == program.BUDGET_SPENT else status
+        self.failures, self.failed = self.failures + 1, UNREAD if status in (program.DONE, program.BUDGET_SPENT) else status
         self.rests = time.monotonic() + REST * 2 ** (self.failures - 1)
-        return status, []
+        return self.failed, []
+
+    def is_whole(self):
+        """Whether a turn that ended with 0 left a whole report and whole evidence: only such evidence takes the place of what is kept."""
+        with open(self.report, "rb") as report:
+            if mark_of(report.read().decode("utf-8", "replace")) != COMPLETE:
+                return False
+        try:
+            with open(self.evidence.own, "rb") as evidence:
+                return is_complete(evidence)
+        except FileNotFoundError:
+            return False
 
     def new_records(self):
         """What a turn has found whose budget was spent; the next one has a greater one."""

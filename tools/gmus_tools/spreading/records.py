@@ -2,12 +2,14 @@
 
 What is read here was accepted by the program, or written by it: nothing is judged, and a text that is none has no reading.
 """
+import os
 import re
 from collections import namedtuple
 
 BEGIN = re.compile(rb"\n(?=[um] )")
 HEAD = re.compile(rb"p gmev ([12]) [0-9]+ [0-9]+ [0-9]+\n")
-ENDS = (b"e partial\n", b"e complete\n")
+PARTIAL, COMPLETE = b"e partial\n", b"e complete\n"
+ENDS = (PARTIAL, COMPLETE)
 CONFLICT, CORRECTION = b"u", b"m"
 
 # What refutes one group of a correction, or a conflict, whose group is 0: the lines of its steps as one text without its last end,
@@ -118,14 +120,23 @@ def records_in(evidence):
     if not head or not evidence.endswith(ENDS):
         raise NoReading("this is no evidence of version 1 or 2: " + evidence[:40].decode("latin-1").split("\n")[0])
     texts = split(evidence[head.end():evidence.rindex(b"e ")])
-    if texts and evidence.endswith(b"e complete\n"):
+    if texts and evidence.endswith(COMPLETE):
         # steps that close the evidence stand behind the last line of the last record
         last = max(texts[-1].rfind(mark) for mark in (b"\nr ", b"\nt ", b"\nw "))
         texts[-1] = texts[-1][:texts[-1].index(b"\n", last + 1) + 1]
     return texts
 
 
+def is_complete(file):
+    """Whether a file of bytes begins as evidence of a known version and ends as what is complete. What stands between is not looked at."""
+    if not HEAD.fullmatch(file.readline()):
+        return False
+    length = file.seek(0, os.SEEK_END)
+    file.seek(max(0, length - len(COMPLETE) - 1))
+    return file.read() == b"\n" + COMPLETE
+
+
 def evidence_of(sizes, texts, version=2):
     """Evidence that has these records and nothing that closes it."""
     head = line_of(b"p gmev", version, sizes.vars, sizes.clauses, sizes.groups)
-    return b"".join([head, b"\n", *texts, ENDS[0]])
+    return b"".join([head, b"\n", *texts, PARTIAL])

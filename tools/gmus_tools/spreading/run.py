@@ -11,6 +11,7 @@ import time
 from gmus_tools import program
 from gmus_tools.command import Refused, here, write_whole
 from gmus_tools.leash import BY_SIGNAL
+from gmus_tools.report import COMPLETE, mark_of
 from gmus_tools.spreading.batch import Known, batch_of
 from gmus_tools.spreading.dask import Dask
 from gmus_tools.spreading.evidence import Evidence
@@ -19,7 +20,7 @@ from gmus_tools.spreading.judge import Judge
 from gmus_tools.spreading.left import folder_in, take_away_files, take_away_folders
 from gmus_tools.spreading.mpi import Mpi
 from gmus_tools.spreading.numbering import plain, sizes_of
-from gmus_tools.spreading.own import FAILURES, Own
+from gmus_tools.spreading.own import FAILURES, UNREAD, Own
 from gmus_tools.spreading.processes import Processes
 from gmus_tools.spreading.records import NoReading, evidence_of
 from gmus_tools.spreading.task import place
@@ -123,7 +124,7 @@ class Coordinator:
         with open(nothing, "wb") as file:
             file.write(evidence_of(self.found.sizes, []))
         report = self.ask("check", asked.file, nothing if self.evidence.seen is None else asked.evidence)
-        if report.split("\n")[1] == "s COMPLETE":
+        if mark_of(report) == COMPLETE:
             raise Ended(program.DONE, report=report)
         if self.evidence.seen is not None:
             try:
@@ -134,10 +135,12 @@ class Coordinator:
             raise Ended(program.LIMIT_REACHED, report=report)
 
     def ask(self, *words):
-        """What the program writes, if it ends with 0."""
+        """The report that the program writes, if it ends with 0."""
         status, report, told = program.call(words)
         if status != program.DONE:
             raise Ended(status if status >= 0 else BY_SIGNAL - status, told.strip())
+        if mark_of(report) is None:
+            raise Ended(UNREAD, f"{here('spread.py')}: gmus {words[0]} ended with 0, and what it wrote is no report")
         return report
 
     def go(self, engine_of):

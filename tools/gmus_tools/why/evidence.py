@@ -13,20 +13,25 @@ is not looked at, and neither are the witnesses of conflicts and the closing par
 """
 import array
 import bisect
+import re
 
 from gmus_tools.command import Refused
 
-VERSIONS = (b"1", b"2")
+VERSIONS = (b"1", b"2", b"3")
+# how evidence ends, and from version 3 on also so, with a number of groups
+COMPLETE, PARTIAL = b"e complete\n", b"e partial\n"
+UP_TO = re.compile(rb"e (conflicts|corrections) (0|[1-9][0-9]{0,19})\n")
 LARGEST_ID = 2 ** 63 - 1
 FIRST_WORDS = (b"u", b"m", b"d", b"r", b"w", b"t", b"x", b"e")
 
 
 class Evidence:
-    """The conflicts of evidence, and where their records stand."""
+    """The conflicts of evidence, and where their records stand. Its end says that no set is missing (`is_complete`), no conflict of
+    `up_to` groups or fewer, or none of these."""
 
     def __init__(self, file, source, problem):
         self.file, self.source, self.problem = file, source, problem
-        self.is_complete = False
+        self.version, self.is_complete, self.up_to = None, False, None
         self.conflicts, self.places = [], []
         self.behind = []         # of each correction, where its record stands, as a place and the number of a line
         self.find_records()
@@ -53,9 +58,7 @@ class Evidence:
             elif first == b"m":
                 self.behind.append((at, number))
             at += len(line)
-        if line not in (b"e complete\n", b"e partial\n"):
-            self.refuse(max(1, number + line.endswith(b"\n")), "3 Truncated: the evidence has no end")
-        self.is_complete = line == b"e complete\n"
+        self.read_end(number, line)
         self.conflicts = sorted(found)
         self.places = [found[groups] for groups in self.conflicts]
 
@@ -65,10 +68,21 @@ class Evidence:
             self.refuse(1, "this is no evidence of gmus, which begins with 'p gmev'")
         if words[2:3] not in [[version] for version in VERSIONS] or len(words) != 6:
             self.refuse(1, "this evidence is of a version that is not known here")
+        self.version = words[2]
         problem = self.problem
         if words[3:] != [b"%d" % count for count in (problem.variables, problem.count, problem.groups)]:
             focus = "" if problem.focus is None else " with this focus"
             self.refuse(1, f"4 OtherProblem: this is no evidence about {problem.source}{focus}")
+
+    def read_end(self, number, line):
+        """Reads the last line. What it says of levels of corrections is not kept."""
+        level = UP_TO.fullmatch(line) if self.version == b"3" else None
+        if line not in (COMPLETE, PARTIAL) and level is None:
+            self.refuse(max(1, number + line.endswith(b"\n")), "3 Truncated: the evidence has no end")
+        if level and int(level[2]) > self.problem.groups:
+            self.refuse(number, f"2 BadNumber: a number of groups up to {self.problem.groups} is due here")
+        self.is_complete = line == COMPLETE
+        self.up_to = int(level[2]) if level and level[1] == b"conflicts" else None
 
     def numbers(self, number, line, greatest, what="groups"):
         """The numbers of a set, which ascend, behind the line's first word."""
