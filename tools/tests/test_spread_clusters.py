@@ -100,7 +100,7 @@ class Dask(Cluster):
     def test_sets_and_interrupts_and_a_worker_that_dies(self):
         self.scheduler()
         workers = self.workers(2, pause=0.1)
-        child = self.call([PYTHON], "--dask", self.ADDRESS, "--sets", "8", pause=0.1)
+        child = self.call([PYTHON], "--dask", self.ADDRESS, "--sets", "8", pause=1)
         _, said = child.communicate(timeout=120)
         self.assertEqual(child.returncode, 4, said)
         self.assertTrue(8 <= len(self.sets()) < EVERY)
@@ -120,7 +120,7 @@ class Dask(Cluster):
 
     def test_a_scheduler_that_goes_and_comes_back(self):
         scheduler, workers = self.scheduler(), self.workers(1, pause=0.1)
-        child = self.call([PYTHON], "--dask", self.ADDRESS, "--sets", "30", pause=0.5)
+        child = self.call([PYTHON], "--dask", self.ADDRESS, "--sets", "30", pause=2)
         self.until(lambda: os.path.exists(self.at("e")) and self.sets())
         scheduler.kill()
         scheduler.wait()
@@ -139,7 +139,7 @@ class Dask(Cluster):
         self.assertEqual(glob.glob(self.at("e*")), [])
         self.scheduler(), self.workers(1, tools="")
         _, said = self.ends_whole(self.call([PYTHON], "--dask", self.ADDRESS, pause=0.2))
-        self.assertIn("No module named 'spread_dask'", said)
+        self.assertIn("No module named 'gmus_tools'", said)
 
 
 @unittest.skipIf(skipped("mpi4py", "mpiexec"), skipped("mpi4py", "mpiexec"))

@@ -4,6 +4,7 @@ The problem and what becomes known go to the workers by Dask's own means: each p
 it fetches it once. A worker that dies is Dask's business, which gives its tasks to others.
 """
 import concurrent.futures
+import contextlib
 import threading
 import time
 import uuid
@@ -34,9 +35,7 @@ class Dask:
 
     def renew(self):
         """Goes to the scheduler anew, and tells whether it is there."""
-        if self.client is not None:
-            self.client.close(timeout=1)
-            self.client = None
+        self.leave(1)
         try:
             client = self.distributed.Client(self.address, timeout=PATIENCE, set_as_default=False)
             self.executor = client.get_executor(pure=False)
@@ -47,6 +46,13 @@ class Dask:
         self.client = client
         threading.Thread(target=self.keep_counting, args=(client,), daemon=True).start()
         return True
+
+    def leave(self, seconds):
+        """Leaves the scheduler, which has so many seconds. If it is gone itself, that is no fault of the files here."""
+        client, self.client = self.client, None
+        if client is not None:
+            with contextlib.suppress(OSError, concurrent.futures.CancelledError, concurrent.futures.TimeoutError):
+                client.close(timeout=seconds)
 
     def keep_counting(self, client):
         """Notes how many tasks the cluster does at one time, beside all else: a scheduler that hangs would be waited for."""
@@ -101,7 +107,7 @@ class Dask:
         if self.client is not None:
             self.hold(True)
             self.executor.shutdown(wait=False)
-            self.client.close(timeout=PATIENCE)
+            self.leave(PATIENCE)
 
 
 # ---- in a worker
