@@ -1,2 +1,3 @@
 pub mod Calls
 pub mod Closes
+pub mod Sharing

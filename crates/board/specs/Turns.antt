@@ -44,6 +44,6 @@ pub record IsEntryOf (call : Call) (used : ℕ) (reply : Reply) (e : Entry) : Ty
 abbrev pub Tells : Op → Answer → Entry → Type 0
 Tells (op.Take used) (answer.Taken told) e = IsEntryOf call.Take used (take_reply told) e
 Tells (op.Refill used asked) (answer.Refilled told) e = IsEntryOf (call.Refill asked) used (refill_reply told) e
-Tells (op.Post used finding) (answer.Posted told) e = IsEntryOf (call.Post (kind_of finding) (set_of finding)) used (post_reply told) e
+Tells (op.Post used finding) (answer.Posted told) e = IsEntryOf (call.Post (kind_of finding) (set_of finding) finding) used (post_reply told) e
 Tells (op.Retire used why) answer.Retired e = IsEntryOf (call.Retire why) used reply.Retired e
 Tells _ _ e = ⊥

@@ -81,7 +81,7 @@ impl<M: MapEngine> Board<M> {
     pub fn post<R: Wait>(&self, rt: &R, seat: &mut Seat, used: u64, finding: Record) -> Posted
         requires may { MayCall self.now seat.old used }
         requires accepted { IsAcceptedAlone self.now.opening.problem finding }
-        ensures call { IsCall self.now.opening seat.old (Post (kind_of finding) (set_of finding)) used (post_reply result) seat.new }
+        ensures call { IsCall self.now.opening seat.old (Post (kind_of finding) (set_of finding) finding) used (post_reply result) seat.new }
         ensures worker { worker_of seat.new.mine ≡ worker_after (worker_of seat.old.mine) used (post_reply result) }
     {
         match self.lock.turn(rt, seat, Op::Post(used, finding)) {

@@ -74,8 +74,8 @@ not_new : (s : State) (t : Turn) (call : Call) (engine : Option ℕ) (u : Turn) 
 not_new s t Take None u records ok marked h = h.0
 not_new s t Take (Some n) u records ok marked h = h.0.1
 not_new s t (Refill asked) engine u records ok marked h = h.1
-not_new s t (Post kind groups) engine u records ok marked h =
-    let (r, of, is) = h.1.3 in
+not_new s t (Post kind groups r) engine u records ok marked h =
+    let (of, is) = h.1.3 in
     let held = held_at_end s.opening.problem s.records r (all_right s ok) (ok.exhausted marked)
     (alone-right s.opening.problem r ok.opening.problem of.accepted) in
     let same = ap (is_held s.records kind) (sym of.set_is) ∙ ap (λ k. is_held s.records k (set_of r)) (sym of.kind_is) in
@@ -93,7 +93,7 @@ job_new : (s : State) (t : Turn) (call : Call) (engine : Option ℕ) (turn n : �
 job_new s t Take None turn n seed u records h = absurd h.0
 job_new s t Take (Some k) turn n seed u records h = h.0.1.1.unexplored.unexplored
 job_new s t (Refill asked) engine turn n seed u records h = absurd h.1
-job_new s t (Post kind groups) engine turn n seed u records h = absurd h.1
+job_new s t (Post kind groups r) engine turn n seed u records h = absurd h.1
 job_new s t (Retire why) engine turn n seed u records h = cc (h.1)
 
 -- no explored set is handed out
@@ -109,7 +109,7 @@ job_top : (s : State) (t : Turn) (call : Call) (engine : Option ℕ) (turn n : �
 job_top s t Take None turn n seed u records h tops = absurd h.0
 job_top s t Take (Some k) turn n seed u records h tops = (h.0.1.1.unexplored, h.0.1.1.top tops)
 job_top s t (Refill asked) engine turn n seed u records h tops = absurd h.1
-job_top s t (Post kind groups) engine turn n seed u records h tops = absurd h.1
+job_top s t (Post kind groups r) engine turn n seed u records h tops = absurd h.1
 job_top s t (Retire why) engine turn n seed u records h tops = cc (h.1)
 
 -- of an engine that gives tops alone, each set that is handed out is one

@@ -94,7 +94,7 @@ pub record IsDrivenOn (old new : EngineState) (records : List Record) (e : Entry
 abbrev pub is_take : Call → Bool
 is_take Take = true
 is_take (Refill asked) = false
-is_take (Post kind groups) = false
+is_take (Post kind groups r) = false
 is_take (Retire why) = false
 
 pub no_take : (c : Call) → is_take c ≡ false → c ≢ Take
@@ -301,12 +301,12 @@ takes_here {groups = groups} {groups' = groups'} {found = found} {found' = found
 
 -- a post's answer over equal parts
 pub posts_here : {size size' : ℕ} {t t' : Turn} (p : Problem) (limit : ℕ) (records : List Record) (kind : Kind)
-    (groups : List ℕ) (reply : Reply) (u : Turn) (records' : List Record) → size ≡ size' → t ≡ t'
-    → Posts p (leb limit size) records t kind groups reply u records'
-    → Posts p (leb limit size') records t' kind groups reply u records'
-posts_here {size = size} {size' = size'} {t = t} p limit records kind groups reply u records' n e h =
-    subst (λ x. Posts p (leb limit size') records x kind groups reply u records') e
-    (subst (λ x. Posts p (leb limit x) records t kind groups reply u records') n h)
+    (groups : List ℕ) (r : Record) (reply : Reply) (u : Turn) (records' : List Record) → size ≡ size' → t ≡ t'
+    → Posts p (leb limit size) records t kind groups r reply u records'
+    → Posts p (leb limit size') records t' kind groups r reply u records'
+posts_here {size = size} {size' = size'} {t = t} p limit records kind groups r reply u records' n e h =
+    subst (λ x. Posts p (leb limit size') records x kind groups r reply u records') e
+    (subst (λ x. Posts p (leb limit x) records t kind groups r reply u records') n h)
 
 -- a worker that has not ended may call, having used nothing
 pub may_from : {s : State} {first capacity : ℕ} {held : Held} {tally : Tally} {engine : EngineState} {proof : Option Derivation}

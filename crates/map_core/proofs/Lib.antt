@@ -10,3 +10,4 @@ pub mod Ended
 pub mod Marks
 pub mod Roles
 pub mod News
+pub mod Sending

@@ -56,7 +56,7 @@ full_not_new : (s : State) (t : Turn) (call : Call) (engine : Option ℕ) (u : T
 full_not_new s t Take None u records full h = h.0
 full_not_new s t Take (Some n) u records full h = h.0.1
 full_not_new s t (Refill asked) engine u records full h = h.1
-full_not_new s t (Post kind set) engine u records full h = true≢false (sym full ∙ h.1.1)
+full_not_new s t (Post kind set r) engine u records full h = true≢false (sym full ∙ h.1.1)
 full_not_new s t (Retire why) engine u records full h = cc (h.1)
 
 limited_ends_posts : (s t : State) (e : Entry) → IsSound s → s.limited ≡ true → CoreStep s e t → e.reply ≢ New
@@ -85,7 +85,7 @@ job_unmarked : (s : State) (t : Turn) (call : Call) (engine : Option ℕ) (turn 
 job_unmarked s t Take None turn n seed u records h = absurd h.0
 job_unmarked s t Take (Some k) turn n seed u records h = (h.0.0.not_exhausted, h.0.0.not_told, h.0.0.not_full, h.0.0.not_stopped)
 job_unmarked s t (Refill asked) engine turn n seed u records h = absurd h.1
-job_unmarked s t (Post kind set) engine turn n seed u records h = absurd h.1
+job_unmarked s t (Post kind set r) engine turn n seed u records h = absurd h.1
 job_unmarked s t (Retire why) engine turn n seed u records h = cc (h.1)
 
 job_step : (s t : State) (e : Entry) (turn n : ℕ) (seed : List ℕ) → CoreStep s e t → e.reply ≡ Job turn seed n
@@ -143,7 +143,7 @@ grant_going : (s : State) (t : Turn) (call : Call) (engine : Option ℕ) (n : �
 grant_going s t Take None n u records h = absurd h.0
 grant_going s t Take (Some k) n u records h = absurd h.0.1
 grant_going s t (Refill asked) engine n u records h = h.1.0
-grant_going s t (Post kind set) engine n u records h = absurd h.1
+grant_going s t (Post kind set r) engine n u records h = absurd h.1
 grant_going s t (Retire why) engine n u records h = cc (h.1)
 
 abbrev GivesNoGrant : Entry → Type 0

@@ -36,14 +36,14 @@ pub record Adds (s : State) (records : List Record) (r : Record) : Type 0 where
   pub room : is_full s.opening s.records ≡ false
   pub is : records ≡ s.records ++ r ∷ []
 
-grown-post : (s : State) (t u : Turn) (kind : Kind) (groups : List ℕ) (reply : Reply) (records : List Record)
-    → Posts s.opening.problem (is_full s.opening s.records) s.records t kind groups reply u records
+grown-post : (s : State) (t u : Turn) (kind : Kind) (groups : List ℕ) (r : Record) (reply : Reply) (records : List Record)
+    → Posts s.opening.problem (is_full s.opening s.records) s.records t kind groups r reply u records
     → (records ≡ s.records) ⊎ ((r : Record) × Adds s records r)
-grown-post s t u kind groups Already records h = inl h.2
-grown-post s t u kind groups Limit records h = inl h.3
-grown-post s t u kind groups Memory records h = inl h.1
-grown-post s t u kind groups New records h =
-    let (r, of, is) = h.3 in
+grown-post s t u kind groups r Already records h = inl h.2
+grown-post s t u kind groups r Limit records h = inl h.3
+grown-post s t u kind groups r Memory records h = inl h.1
+grown-post s t u kind groups r New records h =
+    let (of, is) = h.3 in
     inr (
       r,
       record {
@@ -53,20 +53,20 @@ grown-post s t u kind groups New records h =
         is = is;
       },
     )
-grown-post s t u kind groups (Job a b c) records h = absurd h
-grown-post s t u kind groups (Grant a) records h = absurd h
-grown-post s t u kind groups Exhausted records h = absurd h
-grown-post s t u kind groups Settled records h = absurd h
-grown-post s t u kind groups Dry records h = absurd h
-grown-post s t u kind groups Stopped records h = absurd h
-grown-post s t u kind groups Retired records h = absurd h
+grown-post s t u kind groups r (Job a b c) records h = absurd h
+grown-post s t u kind groups r (Grant a) records h = absurd h
+grown-post s t u kind groups r Exhausted records h = absurd h
+grown-post s t u kind groups r Settled records h = absurd h
+grown-post s t u kind groups r Dry records h = absurd h
+grown-post s t u kind groups r Stopped records h = absurd h
+grown-post s t u kind groups r Retired records h = absurd h
 
 -- a call keeps the records, or adds one
 pub grown : (s : State) (t u : Turn) (call : Call) (engine : Option ℕ) (reply : Reply) (records : List Record)
     → Does s t call engine reply u records → (records ≡ s.records) ⊎ ((r : Record) × Adds s records r)
 grown s t u Take engine reply records h = inl h.1
 grown s t u (Refill asked) engine reply records h = inl h.2
-grown s t u (Post kind groups) engine reply records h = grown-post s t u kind groups reply records h.1
+grown s t u (Post kind groups r) engine reply records h = grown-post s t u kind groups r reply records h.1
 grown s t u (Retire why) engine reply records h = inl h.3
 
 pub is_longer : (s : State) (records : List Record) → (records ≡ s.records) ⊎ ((r : Record) × Adds s records r)

@@ -343,25 +343,25 @@ facts-refills s t used New u le h = absurd h
 facts-refills s t used Already u le h = absurd h
 facts-refills s t used Retired u le h = absurd h
 
-facts-posts : (s : State) (t : Turn) (used : ℕ) (kind : Kind) (set : List ℕ) (reply : Reply) (u : Turn) (records : List Record) → used ≤ t.worker.purse
-    → Posts s.opening.problem (is_full s.opening s.records) s.records (settle used t) kind set reply u records
+facts-posts : (s : State) (t : Turn) (used : ℕ) (kind : Kind) (set : List ℕ) (r : Record) (reply : Reply) (u : Turn) (records : List Record) → used ≤ t.worker.purse
+    → Posts s.opening.problem (is_full s.opening s.records) s.records (settle used t) kind set r reply u records
     → TurnFacts s t used None reply u
-facts-posts s t used kind set Already u records le h =
+facts-posts s t used kind set r Already u records le h =
     subst (TurnFacts s t used None Already) (sym h.1) (facts-kept s t used Already le refl refl)
-facts-posts s t used kind set New u records le h =
+facts-posts s t used kind set r New u records le h =
     subst (TurnFacts s t used None New) (sym h.2) (facts-kept s t used New le refl refl)
-facts-posts s t used kind set Limit u records le h =
+facts-posts s t used kind set r Limit u records le h =
     subst (TurnFacts s t used None Limit) (sym h.2) (facts-limit s t (settle used t) used (paid-settle t used le) h.1)
-facts-posts s t used kind set Memory u records le h =
+facts-posts s t used kind set r Memory u records le h =
     subst (TurnFacts s t used None Memory) (sym h.0)
     (facts-retire s t (settle used t) used None Memory (paid-settle t used le) refl refl)
-facts-posts s t used kind set (Job a b c) u records le h = absurd h
-facts-posts s t used kind set (Grant a) u records le h = absurd h
-facts-posts s t used kind set Exhausted u records le h = absurd h
-facts-posts s t used kind set Settled u records le h = absurd h
-facts-posts s t used kind set Dry u records le h = absurd h
-facts-posts s t used kind set Stopped u records le h = absurd h
-facts-posts s t used kind set Retired u records le h = absurd h
+facts-posts s t used kind set r (Job a b c) u records le h = absurd h
+facts-posts s t used kind set r (Grant a) u records le h = absurd h
+facts-posts s t used kind set r Exhausted u records le h = absurd h
+facts-posts s t used kind set r Settled u records le h = absurd h
+facts-posts s t used kind set r Dry u records le h = absurd h
+facts-posts s t used kind set r Stopped u records le h = absurd h
+facts-posts s t used kind set r Retired u records le h = absurd h
 
 -- what any call does
 pub turn_facts : (s : State) (t : Turn) (used : ℕ) (call : Call) (engine : Option ℕ) (reply : Reply) (u : Turn) (records : List Record)
@@ -369,8 +369,8 @@ pub turn_facts : (s : State) (t : Turn) (used : ℕ) (call : Call) (engine : Opt
 turn_facts s t used Take engine reply u records le h = facts-takes s t used engine reply u le h.0
 turn_facts s t used (Refill asked) engine reply u records le h =
     subst (λ e. TurnFacts s t used e reply u) (sym h.0) (facts-refills s t used reply u le h.1)
-turn_facts s t used (Post kind set) engine reply u records le h =
-    subst (λ e. TurnFacts s t used e reply u) (sym h.0) (facts-posts s t used kind set reply u records le h.1)
+turn_facts s t used (Post kind set r) engine reply u records le h =
+    subst (λ e. TurnFacts s t used e reply u) (sym h.0) (facts-posts s t used kind set r reply u records le h.1)
 turn_facts s t used (Retire why) engine reply u records le h =
     subst (λ e. TurnFacts s t used e reply u) (sym h.0)
     (subst (λ r. TurnFacts s t used None r u) (sym h.1)

@@ -14,7 +14,7 @@ use Rattle.map_core.specs.declared.closing.Verdict.{Verdict}
 use Rattle.map_core.specs.declared.closing.Verdict.TheVariants.{Complete, Settled, Journal, Memory, Limit, Budget}
 use Rattle.map_core.specs.declared.closing.Closing.{Closing}
 use Rattle.map_core.specs.Core.{State, IsReached, is_told}
-use Rattle.map_core.specs.Own.{calls_of, worker_of, is_for_journal, engine_used_in}
+use Rattle.map_core.specs.Own.{calls_of, worker_of, is_for_journal, engine_used_in, brought_in}
 use Rattle.map_core.specs.Sound.{IsSound}
 
 -- exhausted goes before settled, settled before a retirement for the journal, that before any other (stopped), and stopped
@@ -48,6 +48,8 @@ pub record IsClosing (s : State) (closing : Closing) (log : List LogStep) : Type
   pub reached : IsReached s
   pub sound : IsSound s
   pub records : closing.records ≡ s.records
+  -- the opening's, and then those that were posted and were new, in their order
+  pub brought : closing.records ≡ s.opening.records ++ brought_in s.history
   pub history : closing.history ≡ s.history
   pub verdict : closing.verdict ≡ verdict_by s.exhausted s.settled (is_cut_off s.history) s.stopped s.limited
   pub all : closing.verdict ≡ Complete → HoldsAll s.opening.problem s.records

@@ -177,19 +177,19 @@ pub record IsRecordOf (p : Problem) (kind : Kind) (set : List ℕ) (r : Record) 
   pub set_is : set_of r ≡ set
   pub accepted : IsAcceptedAlone p r
 
-abbrev pub Posts : Problem → Bool → List Record → Turn → Kind → List ℕ → Reply → Turn → List Record → Type 0
-Posts p full held t kind set Already new records = (is_held held kind set ≡ true) × (new ≡ t) × (records ≡ held)
-Posts p full held t kind set Limit new records = (is_held held kind set ≡ false) × (full ≡ true) × (new ≡ end_turn (mark_limited t)) × (records ≡ held)
-Posts p full held t kind set New new records =
-    (is_held held kind set ≡ false) × (full ≡ false) × (new ≡ t) × ((r : Record) × IsRecordOf p kind set r × (records ≡ held ++ r ∷ []))
-Posts p full held t kind set Memory new records = (new ≡ retire t) × (records ≡ held)
-Posts p full held t kind set _ new records = ⊥
+abbrev pub Posts : Problem → Bool → List Record → Turn → Kind → List ℕ → Record → Reply → Turn → List Record → Type 0
+Posts p full held t kind set r Already new records = (is_held held kind set ≡ true) × (new ≡ t) × (records ≡ held)
+Posts p full held t kind set r Limit new records = (is_held held kind set ≡ false) × (full ≡ true) × (new ≡ end_turn (mark_limited t)) × (records ≡ held)
+Posts p full held t kind set r New new records =
+    (is_held held kind set ≡ false) × (full ≡ false) × (new ≡ t) × (IsRecordOf p kind set r × (records ≡ held ++ r ∷ []))
+Posts p full held t kind set r Memory new records = (new ≡ retire t) × (records ≡ held)
+Posts p full held t kind set r _ new records = ⊥
 
 -- what a call does to the settled part of the worker, with its reply
 abbrev pub Does : State → Turn → Call → Option ℕ → Reply → Turn → List Record → Type 0
 Does s t Take engine reply new records = Takes s.opening.tops s.opening.problem.groups (founds s.records) (is_told s.opening.goal s.opening.problem.groups (founds s.records)) (is_full s.opening s.records) (length s.history + 1) (give_back t) engine reply new × (records ≡ s.records)
 Does s t (Refill asked) engine reply new records = (engine ≡ None) × Refills (give_back t) reply new × (records ≡ s.records)
-Does s t (Post kind set) engine reply new records = (engine ≡ None) × Posts s.opening.problem (is_full s.opening s.records) s.records t kind set reply new records
+Does s t (Post kind set r) engine reply new records = (engine ≡ None) × Posts s.opening.problem (is_full s.opening s.records) s.records t kind set r reply new records
 Does s t (Retire why) engine reply new records = (engine ≡ None) × (reply ≡ Retired) × (new ≡ retire t) × (records ≡ s.records)
 
 abbrev pub after : State → Entry → Turn → List Record → State

@@ -9,14 +9,14 @@ use Rattle.gm_base.specs.declared.role.Role.{Role}
 use Rattle.gm_base.specs.declared.role.Role.TheVariants.{InEvery, InSome, InNone}
 use Rattle.gm_base.specs.declared.kind.Kind.TheVariants.{Conflict, Correction}
 use Rattle.evidence_rec.specs.declared.record.Record.{Record}
-use Rattle.evidence_rec.specs.Records.{kind_of, found_of, founds}
+use Rattle.evidence_rec.specs.Records.{kind_of, found_of, founds, IsAcceptedAlone}
 use Rattle.evidence_rec.specs.Seeding.{IsTop}
 pub use Rattle.evidence_rec.specs.Held.{Decides}
 use Rattle.map_core.specs.declared.entry.Reply.TheVariants.{Job, Grant, New}
 use Rattle.map_core.specs.declared.entry.Entry.{Entry}
 use Rattle.map_core.specs.declared.entry.Opening.{Opening}
 use Rattle.map_core.specs.Core.{State, is_held, CoreStep, CoreRun, opened}
-use Rattle.map_core.specs.Own.{new_in}
+use Rattle.map_core.specs.Own.{new_in, brought_in}
 use Rattle.map_core.specs.Sound.{IsOpening, IsSound}
 
 abbrev pub OpeningIsSound : Type 0
@@ -74,6 +74,15 @@ NotBoth =
 -- the sets that are held are those of the records before, and then those that were answered New, in their order
 abbrev pub NewAreHeld : Type 0
 NewAreHeld = (s t : State) (log : List Entry) → CoreRun s log t → founds t.records ≡ founds s.records ++ new_in log
+
+-- and the records themselves are those before, and then those that were posted so, of which each is accepted by itself
+abbrev pub NewAreBrought : Type 0
+NewAreBrought =
+    (s t : State) (log : List Entry)
+    → CoreRun s log t
+    → (t.records ≡ s.records ++ brought_in log)
+    × (founds (brought_in log) ≡ new_in log)
+    × AllByRecursion (IsAcceptedAlone s.opening.problem) (brought_in log)
 
 -- once exhausted is marked, each minimal conflict and each minimal correction is held
 abbrev pub ExhaustedHoldsAll : Type 0

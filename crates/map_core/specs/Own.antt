@@ -2,6 +2,7 @@
 use Rattle.std.specs.Prelude.{◌≡◌, ℕ, ◌-◌, ◌<◌, ◌≤◌, ◌==◌, Bool, true, false, List, [], ◌∷◌, filter, sum_by, Option, Some, None}
 use Rattle.std.specs.List.{flat_map}
 use Rattle.gm_base.specs.Explored.{Found}
+use Rattle.evidence_rec.specs.declared.record.Record.{Record}
 use Rattle.map_core.specs.declared.entry.Call.{Call}
 use Rattle.map_core.specs.declared.entry.Call.TheVariants.{Take, Refill, Post, Retire}
 use Rattle.map_core.specs.declared.entry.Retirement.TheVariants as why
@@ -69,16 +70,25 @@ is_for_journal (Retire why.Journal) = true
 is_for_journal (Retire why.Memory) = false
 is_for_journal Take = false
 is_for_journal (Refill asked) = false
-is_for_journal (Post kind set) = false
+is_for_journal (Post kind set r) = false
 
 -- the kind and the set of the record that an entry adds, if it adds one
 abbrev pub news_by : Call → Reply → List Found
-news_by (Post kind set) New = record { kind = kind; set = set } ∷ []
+news_by (Post kind set r) New = record { kind = kind; set = set } ∷ []
 news_by call reply = []
 
 -- those of all entries, in their order
 abbrev pub new_in : List Entry → List Found
 new_in entries = flat_map (λ (e : Entry). news_by e.call e.reply) entries
+
+-- the record that an entry adds, if it adds one
+abbrev pub brought_by : Call → Reply → List Record
+brought_by (Post kind set r) New = r ∷ []
+brought_by call reply = []
+
+-- those of all entries, in their order
+abbrev pub brought_in : List Entry → List Record
+brought_in entries = flat_map (λ (e : Entry). brought_by e.call e.reply) entries
 
 abbrev pub engine_part : Option ℕ → ℕ
 engine_part None = 0
@@ -105,9 +115,9 @@ fits_call (Refill asked) (Grant n) = true
 fits_call (Refill asked) Dry = true
 fits_call (Refill asked) Stopped = true
 fits_call (Refill asked) Memory = true
-fits_call (Post kind set) New = true
-fits_call (Post kind set) Already = true
-fits_call (Post kind set) Limit = true
-fits_call (Post kind set) Memory = true
+fits_call (Post kind set r) New = true
+fits_call (Post kind set r) Already = true
+fits_call (Post kind set r) Limit = true
+fits_call (Post kind set r) Memory = true
 fits_call (Retire why) Retired = true
 fits_call _ _ = false

@@ -118,7 +118,7 @@ pub fn admit<M: MapEngine>(
     requires blocked { (M.state engine.old).blocks ≡ founds records.old.items }
     requires within { IsSubset (set_of finding) (all_groups (M.state engine.old).groups) }
     requires may { CanAdd goal (set_of finding) tally.old }
-    ensures posts { (p : Problem) → IsAcceptedAlone p finding → Posts p full records.old.items turn (kind_of finding) (set_of finding) (post_reply result.reply) result.turn records.new.items }
+    ensures posts { (p : Problem) → IsAcceptedAlone p finding → Posts p full records.old.items turn (kind_of finding) (set_of finding) finding (post_reply result.reply) result.turn records.new.items }
     ensures handed_in { result.reply ≡ New → records.new.items ≡ records.old.items ++ finding ∷ [] }
     ensures set { result.set ≡ set_of finding }
     ensures exhausted { result.turn.common.exhausted ≡ turn.common.exhausted }
@@ -174,7 +174,7 @@ fn keep<M: MapEngine>(
     requires blocked { (M.state engine.old).blocks ≡ founds records.old.items }
     requires within { IsSubset (set_of finding) (all_groups (M.state engine.old).groups) }
     requires may { CanAdd goal (set_of finding) tally.old }
-    ensures posts { (p : Problem) (full : Bool) → full ≡ false → IsAcceptedAlone p finding → Posts p full records.old.items turn (kind_of finding) (set_of finding) (post_reply result.reply) result.turn records.new.items }
+    ensures posts { (p : Problem) (full : Bool) → full ≡ false → IsAcceptedAlone p finding → Posts p full records.old.items turn (kind_of finding) (set_of finding) finding (post_reply result.reply) result.turn records.new.items }
     ensures handed_in { result.reply ≡ New → records.new.items ≡ records.old.items ++ finding ∷ [] }
     ensures set { result.set ≡ set_of finding }
     ensures exhausted { result.turn.common.exhausted ≡ turn.common.exhausted }

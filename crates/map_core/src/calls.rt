@@ -21,7 +21,7 @@ use crate::admit::{admit, kept_post};
 use crate::ask::ask;
 use crate::closing::{Closing, History, verdict_of};
 use crate::common::{Common, all_ended, begin, finish};
-use crate::entry::{Call, Entry, Goal, Reply, Retirement};
+use crate::entry::{Call, Entry, Goal, RecordSnapshot, Reply, Retirement};
 use crate::open::{enter_all, new_workers};
 use crate::regrant::{kept_refill, regrant};
 use crate::replies::{Posted, Refilled, Taken};
@@ -165,13 +165,14 @@ impl<M: MapEngine> MapCore<M> {
     pub fn post(&mut self, w: u32, used: u64, finding: Record) -> Posted
         requires may { CanCall self.old.opening w used (calls_of w self.old.history) }
         requires accepted { IsAcceptedAlone self.old.opening.problem finding }
-        ensures step { Steps self.old w (Post (kind_of finding) (set_of finding)) used (post_reply result) self.new }
+        ensures step { Steps self.old w (Post (kind_of finding) (set_of finding) finding) used (post_reply result) self.new }
         ensures handed_in { result ≡ New → self.new.records ≡ self.old.records ++ finding ∷ [] }
         ensures short { length self.new.history < 2 ^ 63 }
     {
         let turn = self.settled(w, used);
         let full = self.records.len() as u64 >= self.limit;
         let kind = finding.kind();
+        let brought = RecordSnapshot::of(&finding);
         let given = admit(
             self.alloc,
             &mut self.engine,
@@ -187,7 +188,7 @@ impl<M: MapEngine> MapCore<M> {
         );
         let entry = Entry {
             worker: w,
-            call: Call::Post(kind, given.set),
+            call: Call::Post(kind, given.set, brought),
             used,
             engine: None,
             reply: kept_post(given.reply),

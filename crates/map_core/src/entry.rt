@@ -1,6 +1,35 @@
 //! Calls of workers, and their replies.
-use evidence_rec::Records;
+ghost use Rattle.std.specs.Prelude.{◌≡◌};
+
+use evidence_rec::{Record, Records};
 use gm_base::{CompactSet, GroupSet, Kind, Problem};
+use std::marker::Model;
+use std::snapshot::Snapshot;
+
+/// A record as clauses see it. It takes no memory.
+#[derive(Drop)]
+pub struct RecordSnapshot {
+    record: Snapshot<Record>,
+}
+
+impl Model for RecordSnapshot {
+    ghost use Rattle.evidence_rec.specs.declared.record.Record.{Record};
+
+    ghost Value = { Record };
+
+    ghost view = { λ s. s.record.value };
+}
+
+impl RecordSnapshot {
+    /// The record as it is now.
+    pub(crate) fn of(found: &Record) -> RecordSnapshot
+        ensures { result ≡ found.now }
+    {
+        RecordSnapshot {
+            record: Snapshot::of(found),
+        }
+    }
+}
 
 /// What a worker asks for.
 #[derive(Drop)]
@@ -8,8 +37,8 @@ pub enum Call {
     Take,
     /// With the set that its solver was asked about.
     Refill(CompactSet),
-    /// With the kind and the set of the record.
-    Post(Kind, GroupSet),
+    /// With the kind and the set of the record, and the record itself as a snapshot.
+    Post(Kind, GroupSet, RecordSnapshot),
     Retire(Retirement),
 }
 

@@ -1,5 +1,5 @@
 //! What holds after every list of entries, by any workers in any order: each law is the contract of a function with no code.
-ghost use Rattle.map_core.specs.Laws.{OpeningIsSound, StepsKeepSound, RunsAreSound, SoundDecides, StepsExplore, JobsAreNew, JobsAreTops, HeldIsMinimal, NotBoth, NewAreHeld, ExhaustedHoldsAll, SettledTells, MarksStay, NoneIsNew, NoneIsJob, NoneIsGrant};
+ghost use Rattle.map_core.specs.Laws.{OpeningIsSound, StepsKeepSound, RunsAreSound, SoundDecides, StepsExplore, JobsAreNew, JobsAreTops, HeldIsMinimal, NotBoth, NewAreHeld, NewAreBrought, ExhaustedHoldsAll, SettledTells, MarksStay, NoneIsNew, NoneIsJob, NoneIsGrant};
 
 /// The opening state has the core's facts, and each step keeps them.
 pub fn core_is_sound()
@@ -21,6 +21,7 @@ pub fn held_is_right()
     ensures minimal { HeldIsMinimal }
     ensures apart { NotBoth }
     ensures news { NewAreHeld }
+    ensures brought { NewAreBrought }
     ensures all { ExhaustedHoldsAll }
 {}
 

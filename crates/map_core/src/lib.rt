@@ -37,5 +37,5 @@ mod turn;
 
 pub use calls::MapCore;
 pub use closing::{Closing, History, Verdict};
-pub use entry::{Call, Entry, Goal, Opening, Reply, Retirement};
+pub use entry::{Call, Entry, Goal, Opening, RecordSnapshot, Reply, Retirement};
 pub use replies::{Posted, Refilled, Taken};

@@ -17,11 +17,11 @@ use Rattle.worker_pool.proofs.Learned.{by_recursion}
 may_come : (p : Problem) (tops : Bool) (here : Place) (call : Call) → MayCome false p tops here call → is_for_journal call ≡ false
 may_come p tops Free Take may = refl
 may_come p tops Free (Refill asked) may = refl
-may_come p tops Free (Post kind set) may = refl
+may_come p tops Free (Post kind set r) may = refl
 may_come p tops Free (Retire why) never = absurd (cc)
 may_come p tops (At seed) Take may = refl
 may_come p tops (At seed) (Refill asked) may = refl
-may_come p tops (At seed) (Post kind set) may = refl
+may_come p tops (At seed) (Post kind set r) may = refl
 may_come p tops (At seed) (Retire why) is = ap (λ r. is_for_journal (Retire r)) is
 may_come p tops Over call may = absurd may
 

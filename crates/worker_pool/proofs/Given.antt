@@ -1,6 +1,5 @@
 -- The seed of a job is one that some accepted records leave unexplored.
 use Rattle.std.proofs.Common.{◌≡◌, ℕ, List, [], ◌∷◌, ◌++◌, Option, Some, None, refl, sym, subst}
-use Rattle.std.specs.List.{AllByRecursion}
 use Rattle.gm_base.specs.Problem.{Problem}
 use Rattle.evidence_rec.specs.declared.record.Record.{Record}
 use Rattle.evidence_rec.specs.Records.{founds, AllAccepted}
@@ -27,7 +26,7 @@ job_seed : (s : State) (t : Turn) (call : Call) (engine : Option ℕ) (turn n : 
 job_seed s t Take None turn n seed u records h = absurd h.0
 job_seed s t Take (Some k) turn n seed u records h = h.0.1.1
 job_seed s t (Refill asked) engine turn n seed u records h = absurd h.1
-job_seed s t (Post kind groups) engine turn n seed u records h = absurd h.1
+job_seed s t (Post kind groups r) engine turn n seed u records h = absurd h.1
 job_seed s t (Retire why) engine turn n seed u records h = cc (h.1)
 
 at_job : (o : Opening) (mid t : State) (before : List Entry) (e : Entry) (turn n : ℕ) (seed : List ℕ) → IsOpening o → CoreRun (opened o) before mid → CoreStep mid e t

@@ -1,5 +1,5 @@
 -- The pens of a journal, from a list to workers and back.
-use Rattle.std.proofs.Common.{◌≡◌, ℕ, zero, suc, ◌+◌, ◌<◌, ◌≤◌, Bool, true, false, List, [], ◌∷◌, ◌++◌, length, map, get_or, All, Option, Some, None, is_some, option_map, refl, sym, ◌∙◌, ap, subst, arith, append_assoc, length-append}
+use Rattle.std.proofs.Common.{◌≡◌, ℕ, zero, suc, ◌+◌, ◌<◌, ◌≤◌, true, List, [], ◌∷◌, ◌++◌, length, map, get_or, All, Option, Some, None, is_some, option_map, refl, sym, ◌∙◌, ap, subst, arith, append_assoc, length-append}
 use Rattle.std.specs.Prelude.{IfSome, IfNone, IfOk, IfErr, Result, Ok, Err}
 use Rattle.std.specs.declared.alloc.AllocError.{AllocError}
 use Rattle.std.proofs.lemmas.List.{get_or-map, length-map, append-nil}
@@ -10,13 +10,12 @@ use Rattle.map_core.specs.declared.entry.Entry.{Entry}
 use Rattle.map_core.specs.declared.entry.Opening.{Opening}
 use Rattle.map_core.specs.declared.closing.Closing.{Closing}
 use Rattle.map_core.specs.Own.{calls_of}
-use Rattle.gm_journal.specs.Entries.{EntryView}
 use Rattle.board.specs.Boards.{LockView, SeatView}
 use Rattle.worker_pool.specs.declared.worker.Worker.{Worker}
 use Rattle.worker_pool.specs.declared.pool.Ended.{Ended}
 use Rattle.worker_pool.specs.Pens.{JournalView, PenView, written_by, failure_in, first_some, failure_among, one_each, all_some, HasWritten, IsPenOf, IsSamePen, IsReady}
-use Rattle.worker_pool.specs.Workers.{HasNewPen, HasWorked, HasKept, seat_of, pen_of, broken_of}
-use Rattle.worker_pool.specs.Outcomes.{ArePensFor, TellsPens, TellsKept, IsKept, AreWritten, HaveCalls}
+use Rattle.worker_pool.specs.Workers.{HasNewPen, HasWorked, seat_of, pen_of, broken_of}
+use Rattle.worker_pool.specs.Outcomes.{ArePensFor, TellsPens, TellsKept, IsKept, HaveCalls}
 use Rattle.worker_pool.proofs.Crewed.{at_place, told_of}
 
 -- ---- one for each

@@ -227,13 +227,13 @@ may_call_owing w = record { of = w.of; can = record { seat = w.numbered; alive =
 
 -- a post of a record that explores the seed: no job any more, or the end
 post_worker : {keeps : Bool} {b : LockView Opening} {p : Problem} {seed : List ℕ} {n : OracleState} {s t : SeatView Entry Opening} {used : ℕ} {reply : Reply} (made : Record) → IsGiven p b.opening.tops seed
-    → IsOwing keeps b p (At seed) used n s → IsAcceptedAlone p made → explores (found_of made) seed ≡ true → IsCall b.opening s (Post (kind_of made) (set_of made)) used reply t → IsWorker keeps b p n t
+    → IsOwing keeps b p (At seed) used n s → IsAcceptedAlone p made → explores (found_of made) seed ≡ true → IsCall b.opening s (Post (kind_of made) (set_of made) made) used reply t → IsWorker keeps b p n t
 post_worker {keeps} {b} {p} {seed} {n} made given w accepted explored call =
     called keeps b p n w.asks_of w.of w.numbered w.owes w.course
-    (subst (λ x. MayCome keeps p b.opening.tops x (Post (kind_of made) (set_of made))) (sym w.stands) (settles given made accepted explored)) call
+    (subst (λ x. MayCome keeps p b.opening.tops x (Post (kind_of made) (set_of made) made)) (sym w.stands) (settles given made accepted explored)) call
 
 pub post_goes_on : {keeps : Bool} {b : LockView Opening} {p : Problem} {seed : List ℕ} {n : OracleState} {s t : SeatView Entry Opening} {used : ℕ} (made : Record) (r : Posted) → IsGiven p b.opening.tops seed
-    → IsOwing keeps b p (At seed) used n s → IsAcceptedAlone p made → explores (found_of made) seed ≡ true → IsCall b.opening s (Post (kind_of made) (set_of made)) used (post_reply r) t
+    → IsOwing keeps b p (At seed) used n s → IsAcceptedAlone p made → explores (found_of made) seed ≡ true → IsCall b.opening s (Post (kind_of made) (set_of made) made) used (post_reply r) t
     → worker_of t.mine ≡ worker_after (worker_of s.mine) used (post_reply r) → (r ≡ posted.New) ⊎ (r ≡ posted.Already) → IsAt keeps b p Free n t
 post_goes_on {s = s} {used = used} made r given w accepted explored call after is =
     record {
@@ -243,7 +243,7 @@ post_goes_on {s = s} {used = used} made r given w accepted explored call after i
     }
 
 pub post_ends : {keeps : Bool} {b : LockView Opening} {p : Problem} {seed : List ℕ} {n : OracleState} {s t : SeatView Entry Opening} {used : ℕ} (made : Record) (r : Posted) → IsGiven p b.opening.tops seed
-    → IsOwing keeps b p (At seed) used n s → IsAcceptedAlone p made → explores (found_of made) seed ≡ true → IsCall b.opening s (Post (kind_of made) (set_of made)) used (post_reply r) t
+    → IsOwing keeps b p (At seed) used n s → IsAcceptedAlone p made → explores (found_of made) seed ≡ true → IsCall b.opening s (Post (kind_of made) (set_of made) made) used (post_reply r) t
     → worker_of t.mine ≡ worker_after (worker_of s.mine) used (post_reply r) → r ≢ posted.New → r ≢ posted.Already → IsOver keeps b p n t
 post_ends {p = p} {n = n} {s = s} {used = used} made r given w accepted explored call after new already =
     let over = ended-post (worker_of s.mine) used (place_from Free s.mine) r new already in

@@ -1,13 +1,13 @@
 -- Where no append failed, none was refused, and so no worker retired for the journal. That the seats have all appends is told
 -- by closing the journal.
-use Rattle.std.proofs.Common.{◌≡◌, ℕ, zero, suc, ◌<◌, Bool, true, false, ◌||◌, cond, List, [], ◌∷◌, ◌++◌, length, map, get_or, All, Option, Some, None, refl, sym, ◌∙◌, ap, subst, arith, eqb, eq-eqb, append_assoc}
-use Rattle.std.specs.List.{list_any, filter, AllByRecursion}
+use Rattle.std.proofs.Common.{◌≡◌, ℕ, zero, suc, ◌<◌, Bool, true, false, ◌||◌, cond, List, [], ◌∷◌, ◌++◌, length, map, get_or, All, Option, Some, None, refl, sym, ◌∙◌, ap, arith, eqb, eq-eqb, append_assoc}
+use Rattle.std.specs.List.{list_any, AllByRecursion}
 use Rattle.std.proofs.lemmas.Bool.{or_from}
 use Rattle.std.proofs.lemmas.List.Elements.{All-head, All-tail}
 use Rattle.turn_lock.specs.Calls.{calls_by}
 use Rattle.turn_lock.specs.Seats.{AreAll, HasAll}
 use Rattle.map_core.specs.declared.entry.Entry.{Entry}
-use Rattle.map_core.specs.Own.{calls_of, caller_of, is_for_journal}
+use Rattle.map_core.specs.Own.{caller_of, is_for_journal}
 use Rattle.map_core.specs.Closings.{is_cut_off}
 use Rattle.gm_journal.specs.declared.entry.Appended.{Appended}
 use Rattle.gm_journal.specs.declared.entry.Appended.TheVariants as appended

@@ -1,5 +1,5 @@
 -- What a worker writes into a journal, entry by entry.
-use Rattle.std.proofs.Common.{◌≡◌, ◌⊎◌, ℕ, Bool, true, false, ◌||◌, List, [], ◌∷◌, ◌++◌, map, Option, Some, None, refl, sym, ◌∙◌, ap, subst, is_some, option_copied, append_assoc, arith}
+use Rattle.std.proofs.Common.{◌≡◌, ℕ, Bool, true, false, ◌||◌, List, [], ◌∷◌, ◌++◌, map, Option, Some, None, refl, sym, ◌∙◌, ap, subst, is_some, option_copied, arith}
 use denote.Ref.{Bor}
 use Rattle.std.specs.List.{list_any, AllByRecursion}
 use Rattle.std.proofs.lemmas.Bool.{or_from}
@@ -7,27 +7,24 @@ use Rattle.std.proofs.lemmas.List.{map-append, append-nil}
 use Rattle.std.proofs.lemmas.List.Concat.{flat_map-append}
 use Rattle.gm_base.specs.Problem.{Problem}
 use Rattle.gm_base.specs.Explored.{Found}
-use Rattle.turn_lock.specs.Seats.{IsSameSeat, IsSeatOf}
-use Rattle.evidence_text.specs.Alone.{Written}
+use Rattle.evidence_rec.specs.declared.record.Record.{Record}
+use Rattle.evidence_text.specs.Alone.{Written, written_of}
 use Rattle.map_core.specs.declared.entry.Call.{Call}
-use Rattle.map_core.specs.declared.entry.Call.TheVariants.{Retire}
+use Rattle.map_core.specs.declared.entry.Call.TheVariants.{Take, Refill, Post, Retire}
 use Rattle.map_core.specs.declared.entry.Retirement.{Retirement}
-use Rattle.map_core.specs.declared.entry.Retirement.TheVariants as retirement
 use Rattle.map_core.specs.declared.entry.Reply.{Reply}
-use Rattle.map_core.specs.declared.entry.Reply.TheVariants.{Retired}
+use Rattle.map_core.specs.declared.entry.Reply.TheVariants.{Job, Grant, Exhausted, Settled, Limit, Dry, Stopped, New, Already, Retired, Memory}
 use Rattle.map_core.specs.declared.entry.Entry.{Entry}
 use Rattle.map_core.specs.declared.entry.Opening.{Opening}
-use Rattle.map_core.specs.Own.{news_by, new_in, is_for_journal, is_retirement}
+use Rattle.map_core.specs.Own.{news_by, new_in, brought_by, brought_in, is_for_journal, is_retirement}
 use Rattle.map_core.specs.Closings.{is_cut_off}
 use Rattle.gm_journal.specs.declared.entry.Appended.{Appended}
 use Rattle.gm_journal.specs.declared.entry.Appended.TheVariants as appended
-use Rattle.gm_journal.specs.Entries.{EntryView, OpeningView}
+use Rattle.gm_journal.specs.Entries.{EntryView}
 use Rattle.gm_journal.specs.Histories.{IsOfRecord, is_want, has_ended}
-use Rattle.gm_journal.specs.Journals.{MayCall, IsAppend}
 use Rattle.board.specs.Boards.{SeatView, IsCall}
-use Rattle.worker_pool.specs.declared.worker.Worker.{Worker}
-use Rattle.worker_pool.specs.Pens.{JournalView, PenView, written_by, set_in, is_there, is_refused, failure_or, failure_in, AreThereBefore, HasWritten, IsWriting, IsPenOf, IsSamePen}
-use Rattle.worker_pool.specs.Handing.{IsForJournal, set_of_text, MayWrite, TellsWritten, failure_of, retirement_by}
+use Rattle.worker_pool.specs.Pens.{JournalView, PenView, written_by, set_in, text_in, is_there, is_refused, failure_or, failure_in, AreThereBefore, HasWritten, IsWriting, IsPenOf, IsSamePen}
+use Rattle.worker_pool.specs.Handing.{IsForJournal, set_of_text, text_of, MayWrite, TellsWritten, failure_of, retirement_by}
 
 -- a journal is there however it is seen
 pub some_seen : {T : Type 0} (x : Option (Bor T)) → is_some (option_copied x) ≡ is_some x
@@ -51,6 +48,33 @@ any-push f (y ∷ ys) x = ap (λ b. f y || b) (any-push f ys x) ∙ sym (or_asso
 pub new_in-push : (es : List Entry) (e : Entry) → new_in (es ++ e ∷ []) ≡ new_in es ++ news_by e.call e.reply
 new_in-push es e =
     flat_map-append (λ (x : Entry). news_by x.call x.reply) es (e ∷ []) ∙ ap (λ (fs : List Found). new_in es ++ fs) (append-nil (news_by e.call e.reply))
+
+pub brought_in-push : (es : List Entry) (e : Entry) → brought_in (es ++ e ∷ []) ≡ brought_in es ++ brought_by e.call e.reply
+brought_in-push es e =
+    flat_map-append (λ (x : Entry). brought_by x.call x.reply) es (e ∷ []) ∙ ap (λ (rs : List Record). brought_in es ++ rs) (append-nil (brought_by e.call e.reply))
+
+-- a call that makes no record new brings none
+none_brought : (call : Call) (reply : Reply) → news_by call reply ≡ [] → brought_by call reply ≡ []
+none_brought Take reply none = refl
+none_brought (Refill asked) reply none = refl
+none_brought (Retire why) reply none = refl
+none_brought (Post kind set r) New none = absurd (cc)
+none_brought (Post kind set r) (Job turn seed n) none = refl
+none_brought (Post kind set r) (Grant n) none = refl
+none_brought (Post kind set r) Exhausted none = refl
+none_brought (Post kind set r) Settled none = refl
+none_brought (Post kind set r) Limit none = refl
+none_brought (Post kind set r) Dry none = refl
+none_brought (Post kind set r) Stopped none = refl
+none_brought (Post kind set r) Already none = refl
+none_brought (Post kind set r) Retired none = refl
+none_brought (Post kind set r) Memory none = refl
+
+-- and so the records of its worker stay
+pub brought-same : {o : Opening} {s t : SeatView Entry Opening} {call : Call} {used : ℕ} {reply : Reply} → IsCall o s call used reply t → news_by call reply ≡ [] → brought_in t.mine ≡ brought_in s.mine
+brought-same {s = s} {call = call} {reply = reply} c none =
+    let made : brought_by c.entry.call c.entry.reply ≡ [] = ap (λ (x : Call). brought_by x c.entry.reply) c.call_is ∙ ap (brought_by call) c.reply_is ∙ none_brought call reply none in
+    ap brought_in c.mine ∙ brought_in-push s.mine c.entry ∙ ap (λ (rs : List Record). brought_in s.mine ++ rs) made ∙ append-nil (brought_in s.mine)
 
 there-push : (ws : List EntryView) (e : EntryView) → AllByRecursion (λ (x : EntryView). is_there x.reply ≡ true) ws → is_there e.reply ≡ true
     → AllByRecursion (λ (x : EntryView). is_there x.reply ≡ true) (ws ++ e ∷ [])
@@ -109,7 +133,7 @@ all_before (x ∷ y ∷ ys) all = (all.0, all_before (y ∷ ys) all.1)
 
 -- who goes on has written what it found
 pub has_written : {keeps : Bool} {mine : List Entry} {ws : List EntryView} → IsWriting keeps mine ws → HasWritten keeps mine ws
-has_written {ws = ws} w = record { news = w.news; cut_off = w.going ∙ sym (none_refused ws w.there); there = λ _. w.there; before = all_before ws w.there }
+has_written {ws = ws} w = record { news = w.news; texts = w.texts; cut_off = w.going ∙ sym (none_refused ws w.there); there = λ _. w.there; before = all_before ws w.there }
 
 -- a call that makes no record new and is no retirement for the journal changes nothing of it
 pub still_writing : {keeps : Bool} {o : Opening} {s t : SeatView Entry Opening} {call : Call} {used : ℕ} {reply : Reply} {ws : List EntryView} → IsWriting keeps s.mine ws → IsCall o s call used reply t
@@ -118,6 +142,7 @@ still_writing {s = s} {call = call} {reply = reply} w c none other =
     let news : news_by c.entry.call c.entry.reply ≡ [] = ap (λ (x : Call). news_by x c.entry.reply) c.call_is ∙ ap (news_by call) c.reply_is ∙ none in
     record {
       news = λ keeps. w.news keeps ∙ sym (append-nil (new_in s.mine)) ∙ ap (λ (fs : List Found). new_in s.mine ++ fs) (sym news) ∙ sym (new_in-push s.mine c.entry) ∙ ap new_in (sym c.mine);
+      texts = λ keeps. w.texts keeps ∙ ap (map written_of) (sym (brought-same c none));
       going = ap is_cut_off c.mine ∙ any-push (λ (e : Entry). is_for_journal e.call) s.mine c.entry
           ∙ or_from (is_cut_off s.mine) (is_for_journal c.entry.call) w.going (ap is_for_journal c.call_is ∙ other);
       there = w.there;
@@ -173,20 +198,26 @@ there_by appended.Memory is = absurd (cc)
 sets-push : (ws : List EntryView) (e : EntryView) (fs : List Found) {w : Written} → e.text ≡ w → map set_in ws ++ w.found ∷ [] ≡ fs → map set_in (ws ++ e ∷ []) ≡ fs
 sets-push ws e fs is due = map-append set_in ws (e ∷ []) ∙ ap (λ (v : Written). map set_in ws ++ v.found ∷ []) is ∙ due
 
+-- and the texts
+texts-push : (ws : List EntryView) (e : EntryView) (ts : List Written) {w : Written} → e.text ≡ w → map text_in ws ++ w ∷ [] ≡ ts → map text_in (ws ++ e ∷ []) ≡ ts
+texts-push ws e ts is due = map-append text_in ws (e ∷ []) ∙ ap (λ (v : Written). map text_in ws ++ v ∷ []) is ∙ due
+
 -- where it goes on the journal has all that it found
 pub goes_on_writing : (j : Option JournalView) (pen : Option PenView) (text : Option Written) (reply : Option Appended) (after : Option PenView) {mine : List Entry}
-    → AllByRecursion (λ (x : EntryView). is_there x.reply ≡ true) (written_by pen) → (is_some j ≡ true → map set_in (written_by pen) ++ set_of_text text ≡ new_in mine) → is_cut_off mine ≡ false
+    → AllByRecursion (λ (x : EntryView). is_there x.reply ≡ true) (written_by pen) → (is_some j ≡ true → map set_in (written_by pen) ++ set_of_text text ≡ new_in mine)
+    → (is_some j ≡ true → map text_in (written_by pen) ++ text_of text ≡ map written_of (brought_in mine)) → is_cut_off mine ≡ false
     → TellsWritten j pen text reply after → retirement_by reply ≡ None → IsWriting (is_some j) mine (written_by after) × (failure_of reply ≡ None)
-goes_on_writing None pen text reply after all news going told on =
-    (record { news = λ never. absurd (cc); going = going; there = subst (λ x. AllByRecursion (λ (e : EntryView). is_there e.reply ≡ true) (written_by x)) (sym told.1) all }, ap failure_of told.0)
-goes_on_writing (Some j) None text reply after all news going told on = absurd told
-goes_on_writing (Some j) (Some s) None reply after all news going told on = absurd told
-goes_on_writing (Some j) (Some s) (Some w) None after all news going told on = absurd told
-goes_on_writing (Some j) (Some s) (Some w) (Some r) None all news going told on = absurd told
-goes_on_writing (Some j) (Some s) (Some w) (Some r) (Some t) {mine} all news going told on =
+goes_on_writing None pen text reply after all news texts going told on =
+    (record { news = λ never. absurd (cc); texts = λ never. absurd (cc); going = going; there = subst (λ x. AllByRecursion (λ (e : EntryView). is_there e.reply ≡ true) (written_by x)) (sym told.1) all }, ap failure_of told.0)
+goes_on_writing (Some j) None text reply after all news texts going told on = absurd told
+goes_on_writing (Some j) (Some s) None reply after all news texts going told on = absurd told
+goes_on_writing (Some j) (Some s) (Some w) None after all news texts going told on = absurd told
+goes_on_writing (Some j) (Some s) (Some w) (Some r) None all news texts going told on = absurd told
+goes_on_writing (Some j) (Some s) (Some w) (Some r) (Some t) {mine} all news texts going told on =
     let is = there_by r on in (
       record {
         news = λ keeps. ap (map set_in) told.mine ∙ sets-push s.mine told.entry (new_in mine) told.text_is (news keeps);
+        texts = λ keeps. ap (map text_in) told.mine ∙ texts-push s.mine told.entry (map written_of (brought_in mine)) told.text_is (texts keeps);
         going = going;
         there = subst (AllByRecursion (λ (x : EntryView). is_there x.reply ≡ true)) (sym told.mine) (there-push s.mine told.entry all (ap is_there told.reply_is ∙ is));
       },
@@ -207,18 +238,19 @@ retires_by appended.Memory why is = ap for_journal (sym is)
 
 -- where it retires, its retirement is its last entry
 pub ends_writing : (j : Option JournalView) (pen : Option PenView) (text : Option Written) (reply : Option Appended) (after : Option PenView) {o : Opening} {s t : SeatView Entry Opening} (why : Retirement)
-    → AllByRecursion (λ (x : EntryView). is_there x.reply ≡ true) (written_by pen) → (is_some j ≡ true → map set_in (written_by pen) ++ set_of_text text ≡ new_in s.mine) → is_cut_off s.mine ≡ false
+    → AllByRecursion (λ (x : EntryView). is_there x.reply ≡ true) (written_by pen) → (is_some j ≡ true → map set_in (written_by pen) ++ set_of_text text ≡ new_in s.mine)
+    → (is_some j ≡ true → map text_in (written_by pen) ++ text_of text ≡ map written_of (brought_in s.mine)) → is_cut_off s.mine ≡ false
     → TellsWritten j pen text reply after → retirement_by reply ≡ Some why → IsCall o s (Retire why) 0 Retired t
     → (is_some j ≡ true) × HasWritten (is_some j) t.mine (written_by after) × (failure_of reply ≡ failure_in (written_by after))
-ends_writing None pen text reply after why all news going told off call = absurd (never why (sym (ap retirement_by told.0) ∙ off))
+ends_writing None pen text reply after why all news texts going told off call = absurd (never why (sym (ap retirement_by told.0) ∙ off))
   where
     never : (w : Retirement) → None ≡ Some w → ⊥
     never w e = cc
-ends_writing (Some j) None text reply after why all news going told off call = absurd told
-ends_writing (Some j) (Some p) None reply after why all news going told off call = absurd told
-ends_writing (Some j) (Some p) (Some w) None after why all news going told off call = absurd told
-ends_writing (Some j) (Some p) (Some w) (Some r) None why all news going told off call = absurd told
-ends_writing (Some j) (Some p) (Some w) (Some r) (Some q) {s = s} {t = t} why all news going told off call =
+ends_writing (Some j) None text reply after why all news texts going told off call = absurd told
+ends_writing (Some j) (Some p) None reply after why all news texts going told off call = absurd told
+ends_writing (Some j) (Some p) (Some w) None after why all news texts going told off call = absurd told
+ends_writing (Some j) (Some p) (Some w) (Some r) None why all news texts going told off call = absurd told
+ends_writing (Some j) (Some p) (Some w) (Some r) (Some q) {s = s} {t = t} why all news texts going told off call =
     let made : news_by call.entry.call call.entry.reply ≡ [] = ap (λ (x : Call). news_by x call.entry.reply) call.call_is in
     let none : new_in t.mine ≡ new_in s.mine = ap new_in call.mine ∙ new_in-push s.mine call.entry ∙ ap (λ (fs : List Found). new_in s.mine ++ fs) made ∙ append-nil (new_in s.mine) in
     let refused : is_cut_off t.mine ≡ is_refused r =
@@ -232,6 +264,8 @@ ends_writing (Some j) (Some p) (Some w) (Some r) (Some q) {s = s} {t = t} why al
       refl,
       record {
         news = λ keeps. ap (map set_in) told.mine ∙ sets-push p.mine told.entry (new_in s.mine) told.text_is (news keeps) ∙ sym none;
+        texts = λ keeps.
+            ap (map text_in) told.mine ∙ texts-push p.mine told.entry (map written_of (brought_in s.mine)) told.text_is (texts keeps) ∙ ap (map written_of) (sym (brought-same call refl));
         before = subst AreThereBefore (sym told.mine) (before-push p.mine told.entry all);
         cut_off = refused ∙ sym last;
         there = λ not. absurd (apart (sym retired ∙ not));

@@ -1,6 +1,5 @@
 -- What a worker does with its jobs, entry by entry of its own (MARCO: Liffiton, Previti, Malik and Marques-Silva 2016).
 use Rattle.std.specs.Prelude.{◌≡◌, ℕ, Bool, true, List, [], ◌∷◌, ◌++◌}
-use Rattle.std.specs.List.{AllByRecursion}
 use Rattle.gm_base.specs.Sets.{complement}
 use Rattle.gm_base.specs.Problem.{Problem, IsProblem, Sat}
 use Rattle.gm_base.specs.Explored.{explores}
@@ -51,11 +50,11 @@ pub record Settles (p : Problem) (tops : Bool) (seed : List ℕ) (kind : Kind) (
 abbrev pub MayCome : Bool → Problem → Bool → Place → Call → Type 0
 MayCome keeps p tops Free Take = Unit {0}
 MayCome keeps p tops Free (Refill asked) = ⊥
-MayCome keeps p tops Free (Post kind set) = ⊥
+MayCome keeps p tops Free (Post kind set r) = ⊥
 MayCome keeps p tops Free (Retire why) = keeps ≡ true
 MayCome keeps p tops (At seed) Take = ⊥
 MayCome keeps p tops (At seed) (Refill asked) = Unit {0}
-MayCome keeps p tops (At seed) (Post kind set) = Settles p tops seed kind set
+MayCome keeps p tops (At seed) (Post kind set r) = Settles p tops seed kind set
 MayCome keeps p tops (At seed) (Retire why) = why ≡ retirement.Memory
 MayCome keeps p tops Over call = ⊥
 

@@ -7,7 +7,7 @@ use Rattle.evidence_rec.specs.declared.record.Record.{Record}
 use Rattle.evidence_text.specs.Alone.{Written, written_of, IsTextOf}
 use Rattle.map_core.specs.declared.entry.Retirement.{Retirement}
 use Rattle.map_core.specs.declared.entry.Retirement.TheVariants.{Journal, Memory}
-use Rattle.map_core.specs.Own.{new_in}
+use Rattle.map_core.specs.Own.{new_in, brought_in}
 use Rattle.map_core.specs.Closings.{is_cut_off}
 use Rattle.gm_journal.specs.declared.entry.Appended.{Appended}
 use Rattle.gm_journal.specs.declared.entry.Appended.TheVariants as appended
@@ -15,7 +15,7 @@ use Rattle.gm_journal.specs.Entries.{EntryView}
 use Rattle.gm_journal.specs.Histories.{IsOfRecord}
 use Rattle.gm_journal.specs.Journals.{MayCall, IsAppend}
 use Rattle.worker_pool.specs.declared.worker.Worker.{Worker}
-use Rattle.worker_pool.specs.Pens.{JournalView, PenView, written_by, set_in, is_there, failure_or, IsPenOf}
+use Rattle.worker_pool.specs.Pens.{JournalView, PenView, written_by, set_in, text_in, is_there, failure_or, IsPenOf}
 
 -- the text of the record, where it is wanted
 abbrev pub IsTextFor : Problem → Record → Bool → Option Written → Type 0
@@ -35,11 +35,17 @@ abbrev pub set_of_text : Option Written → List Found
 set_of_text None = []
 set_of_text (Some w) = w.found ∷ []
 
+-- the text, if there is one
+abbrev pub text_of : Option Written → List Written
+text_of None = []
+text_of (Some w) = w ∷ []
+
 -- a worker all of whose new records the journal has, but for the last one, whose text this is
 pub record IsDue {O D : Type 0} (j : Option JournalView) (p : Problem) (w : Worker O D) (text : Option Written) : Type 0 where
   pub pen : IsPenOf p j w.pen
   pub is_text : IsForJournal p j text
   pub news : is_some j ≡ true → map set_in (written_by w.pen) ++ set_of_text text ≡ new_in w.seat.mine
+  pub texts : is_some j ≡ true → map text_in (written_by w.pen) ++ text_of text ≡ map written_of (brought_in w.seat.mine)
   pub going : is_cut_off w.seat.mine ≡ false
   pub there : AllByRecursion (λ (e : EntryView). is_there e.reply ≡ true) (written_by w.pen)
   pub whole : w.broken ≡ None

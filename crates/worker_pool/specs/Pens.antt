@@ -3,14 +3,15 @@
 -- Each record of a worker that was new at the board is appended, before its worker takes another job. If the append is
 -- answered that the journal is closed or that the disk failed, the worker retires for the journal, and for want of memory if
 -- that was wanting.
-use Rattle.std.specs.Prelude.{◌≡◌, ℕ, zero, suc, ◌<◌, Bool, true, false, List, [], ◌∷◌, length, map, slice_index_or, Option, Some, None}
+use Rattle.std.specs.Prelude.{◌≡◌, ℕ, zero, suc, ◌<◌, Bool, true, false, List, [], ◌∷◌, map, Option, Some, None}
 use Rattle.std.specs.List.{list_any, AllByRecursion}
 use Rattle.gm_base.specs.Problem.{Problem}
 use Rattle.gm_base.specs.Explored.{Found}
+use Rattle.evidence_text.specs.Alone.{Written, written_of}
 use Rattle.turn_lock.specs.Seats.{LockView, SeatView, IsSeatOf, IsSameSeat, AreNew}
 use Rattle.map_core.specs.declared.entry.Entry.{Entry}
 use Rattle.map_core.specs.declared.entry.Opening.{Opening}
-use Rattle.map_core.specs.Own.{calls_of, new_in, is_retirement}
+use Rattle.map_core.specs.Own.{new_in, brought_in, is_retirement}
 use Rattle.map_core.specs.Closings.{is_cut_off}
 use Rattle.gm_journal.specs.declared.entry.Appended.{Appended}
 use Rattle.gm_journal.specs.declared.entry.Appended.TheVariants as appended
@@ -30,6 +31,10 @@ written_by (Some pen) = pen.mine
 -- the kind and the set that were appended
 abbrev pub set_in : EntryView → Found
 set_in e = e.text.found
+
+-- and with its lines
+abbrev pub text_in : EntryView → Written
+text_in e = e.text
 
 -- the journal has the record
 abbrev pub is_there : Appended → Bool
@@ -76,11 +81,12 @@ AreThereBefore [] = Unit {0}
 AreThereBefore (e ∷ []) = Unit {0}
 AreThereBefore (e ∷ f ∷ es) = (is_there e.reply ≡ true) × AreThereBefore (f ∷ es)
 
--- What a worker wrote that made these entries at the board, where it keeps a journal: its new records, in their order. It
--- retired for the journal exactly where an append was refused; and where it did not retire, the journal has them all, and else
--- all but maybe the last
+-- What a worker wrote that made these entries at the board, where it keeps a journal: its new records, in their order, each as
+-- it was posted. It retired for the journal exactly where an append was refused; and where it did not retire, the journal has
+-- them all, and else all but maybe the last
 pub record HasWritten (keeps : Bool) (mine : List Entry) (written : List EntryView) : Type 0 where
   pub news : keeps ≡ true → map set_in written ≡ new_in mine
+  pub texts : keeps ≡ true → map text_in written ≡ map written_of (brought_in mine)
   pub cut_off : is_cut_off mine ≡ list_any (λ (e : EntryView). is_refused e.reply) written
   pub there : list_any (λ (e : Entry). is_retirement e.reply) mine ≡ false → AllByRecursion (λ (e : EntryView). is_there e.reply ≡ true) written
   pub before : AreThereBefore written
@@ -88,6 +94,7 @@ pub record HasWritten (keeps : Bool) (mine : List Entry) (written : List EntryVi
 -- the same of a worker that goes on
 pub record IsWriting (keeps : Bool) (mine : List Entry) (written : List EntryView) : Type 0 where
   pub news : keeps ≡ true → map set_in written ≡ new_in mine
+  pub texts : keeps ≡ true → map text_in written ≡ map written_of (brought_in mine)
   pub going : is_cut_off mine ≡ false
   pub there : AllByRecursion (λ (e : EntryView). is_there e.reply ≡ true) written
 

@@ -239,7 +239,7 @@ fn call_word(entry: &Entry) -> &'static str {
     match &entry.call {
         Call::Take => "take",
         Call::Refill(_) => "refill",
-        Call::Post(_, _) => "post",
+        Call::Post(_, _, _) => "post",
         Call::Retire(_) => "retire",
     }
 }

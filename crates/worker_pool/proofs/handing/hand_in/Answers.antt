@@ -1,4 +1,4 @@
-use Rattle.std.proofs.Common.{◌≡◌, ◌≢◌, ◌⊎◌, refl, sym, ◌∙◌, subst, inl, inr, option_copied, is_some, arith}
+use Rattle.std.proofs.Common.{◌≡◌, ◌≢◌, ◌⊎◌, refl, sym, ◌∙◌, subst, inl, inr, option_copied, arith}
 use Rattle.evidence_rec.specs.Records.{kind_of, set_of}
 use Rattle.map_core.specs.declared.entry.Call.TheVariants.{Post}
 use Rattle.map_core.specs.declared.entry.Retirement.TheVariants as retirement
@@ -8,9 +8,9 @@ use Rattle.map_core.specs.Replies.{post_reply}
 use Rattle.board.specs.Boards.{IsCall}
 use Rattle.worker_pool.specs.Handing.{IsTextFor}
 use Rattle.worker_pool.specs.Workers.{IsKeeping}
-use Rattle.worker_pool.proofs.Steps.{longer, may_call_owing, post_goes_on, post_ends, retire_ends, same-seat}
+use Rattle.worker_pool.proofs.Steps.{longer, post_goes_on, post_ends, retire_ends}
 use Rattle.worker_pool.proofs.Written.{some_seen, same_pen}
-use Rattle.worker_pool.proofs.Kept.{keeps_on, has_kept, kept_from, is_due, no_news}
+use Rattle.worker_pool.proofs.Kept.{keeps_on, has_kept, is_due, no_news}
 use Rattle.worker_pool.proofs.handing.hand_in.Goals as goal
 
 -- there was no memory for the text
@@ -36,7 +36,7 @@ keep-requires-clause-at g c =
 pub keep-requires-clause-due : goal.keep-requires-clause-due
 keep-requires-clause-due g c =
     let w = c.args.worker.now in
-    is_due w _ c.args.finding c.in-Ok.text c.requires.keeps refl refl (subst (λ r. IsCall c.args.board.now.opening w.seat (Post (kind_of c.args.finding) (set_of c.args.finding)) c.args.used (post_reply r) c.post-posted.new.seat) c.in-New.is c.post-posted.ensures.call) c.requires.accepted
+    is_due w _ c.args.finding c.in-Ok.text c.requires.keeps refl refl (subst (λ r. IsCall c.args.board.now.opening w.seat (Post (kind_of c.args.finding) (set_of c.args.finding) c.args.finding) c.args.used (post_reply r) c.post-posted.new.seat) c.in-New.is c.post-posted.ensures.call) c.requires.accepted
     (subst (λ b. IsTextFor c.args.problem.now c.args.finding b c.in-Ok.text) (c.is_some.ensures ∙ sym (some_seen c.args.journal)) c.in-Ok.ensures)
 
 pub returns-in-New : goal.returns-in-New

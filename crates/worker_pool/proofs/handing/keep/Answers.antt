@@ -17,7 +17,7 @@ returns-in-None g c =
     let old = c.args.worker.now in
     let after = c.write-written.new.pen in
     let pens = pen_after c.args.problem.now j old.pen c.args.text c.write-written.result after due.pen c.write-written.ensures in
-    let on = goes_on_writing j old.pen c.args.text c.write-written.result after due.there due.news due.going c.write-written.ensures (sym c.retirement_by.ensures ∙ c.in-None.is) in
+    let on = goes_on_writing j old.pen c.args.text c.write-written.result after due.there due.news due.texts due.going c.write-written.ensures (sym c.retirement_by.ensures ∙ c.in-None.is) in
     let keeps : IsKeeping j c.args.problem.now _ = record { pen = pens.0; written = on.0; whole = c.failure_of-worker.ensures ∙ on.1 } in
     record {
       same = record { lock = refl; opening = refl; number = refl; made = refl };
@@ -38,7 +38,7 @@ returns-in-Some g c =
     let after = c.write-written.new.pen in
     let call = c.retire.ensures.call in
     let pens = pen_after c.args.problem.now j old.pen c.args.text c.write-written.result after due.pen c.write-written.ensures in
-    let off = ends_writing j old.pen c.args.text c.write-written.result after c.in-Some.why due.there due.news due.going c.write-written.ensures (sym c.retirement_by.ensures ∙ c.in-Some.is) call in
+    let off = ends_writing j old.pen c.args.text c.write-written.result after c.in-Some.why due.there due.news due.texts due.going c.write-written.ensures (sym c.retirement_by.ensures ∙ c.in-Some.is) call in
     let more = longer call in
     record {
       same = call.same;

@@ -1,8 +1,8 @@
-use Rattle.std.proofs.Common.{rules, refl, option_copied}
+use Rattle.std.proofs.Common.{rules, refl}
 use Rattle.worker_pool.proofs.Given.{given}
 use Rattle.worker_pool.proofs.Steps.{new_at, take_job, take_ends, same-seat}
-use Rattle.worker_pool.proofs.Written.{same_pen, same_pens}
-use Rattle.worker_pool.proofs.Kept.{keeps_on, has_kept, kept_from, new_keeps}
+use Rattle.worker_pool.proofs.Written.{same_pen}
+use Rattle.worker_pool.proofs.Kept.{keeps_on, has_kept, new_keeps}
 use Rattle.worker_pool.proofs.marco.work_beside.Goals as goal
 
 -- before its first job it has found nothing

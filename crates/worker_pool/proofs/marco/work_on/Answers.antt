@@ -1,11 +1,11 @@
-use Rattle.std.proofs.Common.{rules, arith, subst, refl, sym, ◌∙◌, option_copied}
+use Rattle.std.proofs.Common.{rules, arith, subst, refl, ◌∙◌}
 use Rattle.map_core.specs.declared.entry.Retirement.TheVariants as retirement
 use Rattle.worker_pool.specs.Pens.{IsSamePen}
 use Rattle.worker_pool.specs.Exploring.{TellsExplored}
 use Rattle.evidence_rec.specs.Records.{IsAcceptedAlone}
 use Rattle.worker_pool.proofs.Steps.{spent-within, longer, same-seat, owing, refill_goes_on, refill_ends, retire_ends}
 use Rattle.worker_pool.proofs.Written.{same_pen}
-use Rattle.worker_pool.proofs.Kept.{keeps_on, has_kept, kept_from}
+use Rattle.worker_pool.proofs.Kept.{keeps_on, has_kept}
 use Rattle.worker_pool.proofs.marco.work_on.Goals as goal
 
 -- what was used is what is no more in the purse

@@ -1,4 +1,4 @@
-use Rattle.std.proofs.Common.{◌≡◌, Some, None, [], IfSome, IfNone, IfOk, length, Option, is_some, option_map, option_copied, refl, sym, ◌∙◌, ap, subst}
+use Rattle.std.proofs.Common.{◌≡◌, Some, None, [], IfSome, IfNone, IfOk, length, is_some, option_map, option_copied, sym, ◌∙◌, ap, subst}
 use Rattle.map_core.specs.Opens.{opening_of}
 use Rattle.worker_pool.specs.Outcomes.{IsEnded}
 use Rattle.worker_pool.proofs.Penned.{told_back, parts_there}

@@ -5,10 +5,11 @@ use Rattle.gm_base.specs.Explored.{Found}
 use Rattle.evidence_rec.specs.Seeding.{IsHonestMap}
 use Rattle.map_core.specs.declared.entry.Entry.{Entry}
 use Rattle.map_core.specs.declared.closing.Verdict.TheVariants.{Budget}
-use Rattle.map_core.specs.Core.{State}
+use Rattle.map_core.specs.Core.{State, opened}
 use Rattle.map_core.specs.Kept.{state_of, StandsDry}
 use Rattle.map_core.specs.Closings.{HaveEnded, IsClosing, verdict_by, is_cut_off}
 use Rattle.map_core.proofs.Kept.{kept_sound}
+use Rattle.map_core.proofs.News.{new_are_brought}
 use Rattle.map_core.proofs.Ended.{spent_all, closing_all, closing_told, closing_dry, closing_proof}
 use Rattle.map_core.proofs.calls.MapCore.closing.Goals as goal
 
@@ -32,6 +33,7 @@ returns g c =
       reached = k.reached;
       sound = ok;
       records = c.from_vec.ensures;
+      brought = c.from_vec.ensures ∙ (new_are_brought (opened s.opening) s s.history k.reached).0;
       history = c.from_vec-2.ensures;
       verdict = verdict;
       all = closing_all s c.verdict_of.result ok verdict;

@@ -4,6 +4,7 @@ use Rattle.evidence_rec.specs.Records.{kind_of, set_of, founds, IsAcceptedAlone}
 use Rattle.map_core.specs.Core.{State, CoreStep, turn_at, settle}
 use Rattle.map_core.specs.Kept.{IsReady, state_of}
 use Rattle.map_core.specs.Replies.{post_reply}
+use Rattle.evidence_rec.specs.declared.record.Record.{Record}
 use Rattle.map_core.specs.declared.turn.Turn.{Turn}
 use Rattle.map_core.specs.declared.entry.Reply.{Reply}
 use Rattle.map_core.specs.declared.entry.Entry.{Entry}
@@ -12,18 +13,19 @@ use Rattle.map_core.proofs.Kept.{call_kept, step_made, proof_kept, posts_here, n
 use Rattle.map_core.proofs.calls.MapCore.post.Goals as goal
 
 -- the entry of a post
-abbrev made : ℕ → ℕ → Kind → List ℕ → Reply → Entry
-made who used kind set reply = record { worker = who; call = Post kind set; used = used; engine = None; reply = reply }
+abbrev made : ℕ → ℕ → Kind → List ℕ → Record → Reply → Entry
+made who used kind set r reply = record { worker = who; call = Post kind set r; used = used; engine = None; reply = reply }
 
--- the entry that was written down has the kind, the set and the reply of the record that was posted
-written : (who used : ℕ) (kind kind' : Kind) (set set' : List ℕ) (reply reply' : Reply) (old mid new : List Entry)
-    → kind' ≡ kind → set' ≡ set → reply' ≡ reply → mid ≡ old → new ≡ mid ++ made who used kind' set' reply' ∷ []
-    → new ≡ old ++ made who used kind set reply ∷ []
-written who used kind kind' set set' reply reply' old mid new k s r same is =
-    is ∙ ap (λ es. es ++ made who used kind' set' reply' ∷ []) same
-    ∙ ap (λ x. old ++ made who used x set' reply' ∷ []) k
-    ∙ ap (λ x. old ++ made who used kind x reply' ∷ []) s
-    ∙ ap (λ x. old ++ made who used kind set x ∷ []) r
+-- the entry that was written down has the kind, the set and the reply of the record that was posted, and that record
+written : (who used : ℕ) (kind kind' : Kind) (set set' : List ℕ) (found found' : Record) (reply reply' : Reply) (old mid new : List Entry)
+    → kind' ≡ kind → set' ≡ set → found' ≡ found → reply' ≡ reply → mid ≡ old → new ≡ mid ++ made who used kind' set' found' reply' ∷ []
+    → new ≡ old ++ made who used kind set found reply ∷ []
+written who used kind kind' set set' found found' reply reply' old mid new k s f r same is =
+    is ∙ ap (λ es. es ++ made who used kind' set' found' reply' ∷ []) same
+    ∙ ap (λ x. old ++ made who used x set' found' reply' ∷ []) k
+    ∙ ap (λ x. old ++ made who used kind x found' reply' ∷ []) s
+    ∙ ap (λ x. old ++ made who used kind set x reply' ∷ []) f
+    ∙ ap (λ x. old ++ made who used kind set found x ∷ []) r
 
 -- the tally is of the records, and an accepted set is of the problem's groups
 pub admit-given-requires-clause-may : goal.admit-given-requires-clause-may
@@ -43,17 +45,17 @@ invariant_of-self g c =
     let given = c.admit-given in
     let f = c.finish-self-inside in
     let u = given.result.turn in
-    let e : Entry = made c.args.w c.args.used (kind_of c.args.finding) (set_of c.args.finding) (post_reply given.result.reply) in
+    let e : Entry = made c.args.w c.args.used (kind_of c.args.finding) (set_of c.args.finding) c.args.finding (post_reply given.result.reply) in
     let is = c.settled-turn.ensures.turn ∙ ap (λ s. settle c.args.used (turn_at s c.args.w)) (sym c.self.view_is) in
     let accepted =
     subst (λ (s : State). IsAcceptedAlone s.opening.problem c.args.finding) (sym c.self.view_is) c.requires.accepted in
     let records : c.len.result ≡ length i.records.items = omega (arith, c.len.ensures, i.records.ok.0) in
     let posts =
-    posts_here i.problem i.limit i.records.items (kind_of c.args.finding) (set_of c.args.finding)
+    posts_here i.problem i.limit i.records.items (kind_of c.args.finding) (set_of c.args.finding) c.args.finding
     (post_reply given.result.reply) u given.new.records.items records is (given.ensures.posts i.problem accepted) in
     let same = given.ensures.exhausted ∙ ap (λ (t : Turn). t.common.exhausted) is in
     let history =
-    written c.args.w c.args.used _ _ _ _ _ _ _ _ _ c.kind-kind.ensures given.ensures.set c.kept_post.ensures
+    written c.args.w c.args.used _ _ _ _ _ _ _ _ _ _ _ c.kind-kind.ensures given.ensures.set c.of-brought.ensures c.kept_post.ensures
     given.ensures.history f.ensures.history in
     let size = ap length given.ensures.history in
     let longer = f.ensures.capacity in
@@ -81,16 +83,16 @@ returns-clause-step g c =
     let given = c.admit-given in
     let f = c.finish-self-inside in
     let u = given.result.turn in
-    let e : Entry = made c.args.w c.args.used (kind_of c.args.finding) (set_of c.args.finding) (post_reply given.result.reply) in
+    let e : Entry = made c.args.w c.args.used (kind_of c.args.finding) (set_of c.args.finding) c.args.finding (post_reply given.result.reply) in
     let is = c.settled-turn.ensures.turn ∙ ap (λ s. settle c.args.used (turn_at s c.args.w)) (sym c.self.view_is) in
     let accepted =
     subst (λ (s : State). IsAcceptedAlone s.opening.problem c.args.finding) (sym c.self.view_is) c.requires.accepted in
     let records : c.len.result ≡ length i.records.items = omega (arith, c.len.ensures, i.records.ok.0) in
     let posts =
-    posts_here i.problem i.limit i.records.items (kind_of c.args.finding) (set_of c.args.finding)
+    posts_here i.problem i.limit i.records.items (kind_of c.args.finding) (set_of c.args.finding) c.args.finding
     (post_reply given.result.reply) u given.new.records.items records is (given.ensures.posts i.problem accepted) in
     let history =
-    written c.args.w c.args.used _ _ _ _ _ _ _ _ _ c.kind-kind.ensures given.ensures.set c.kept_post.ensures
+    written c.args.w c.args.used _ _ _ _ _ _ _ _ _ _ _ c.kind-kind.ensures given.ensures.set c.of-brought.ensures c.kept_post.ensures
     given.ensures.history f.ensures.history in
     let t =
     state_of g.M.MapEngine.TOPS i.goal i.problem i.first i.budget i.limit f.result given.new.records.items f.new.workers.items
