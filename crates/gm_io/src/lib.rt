@@ -43,5 +43,6 @@ pub use ending::{Ending, Enumerated, Finish, Spent, finish_of};
 pub use error_line::write_error_line;
 pub use export_files::write_both;
 pub use longer::{Longer, begin_longer};
+pub use record_ids::ids_fit;
 pub use records_report::{conflict_numbered, counts_of, report_of};
 pub use writing::{Stop, write_outputs};

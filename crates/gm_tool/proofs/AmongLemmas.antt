@@ -43,7 +43,7 @@ pub among-append : (xs ys : List Found) (f : Found) → is_among (xs ++ ys) f �
 among-append xs ys f = list_any-append (λ (g : Found). is_same g f) xs ys
 
 -- what is among the earlier ones is not among those that are new behind them
-among-behind : (before rs : List Record) (f : Found) → AreNew before rs → is_among (founds before) f ≡ true → is_among (founds rs) f ≡ false
+pub among-behind : (before rs : List Record) (f : Found) → AreNew before rs → is_among (founds before) f ≡ true → is_among (founds rs) f ≡ false
 among-behind before [] f new there = refl
 among-behind before (r ∷ rs) f new there =
     or_from (is_same (found_of r) f) (is_among (founds rs) f)
@@ -53,7 +53,7 @@ among-behind before (r ∷ rs) f new there =
     (ap (λ fs. is_among fs f) (map-append found_of before (r ∷ [])) ∙ among-append (founds before) (founds (r ∷ [])) f
     ∙ or_left (is_among (founds before) f) (is_among (founds (r ∷ [])) f) there))
 
-new-behind : (before xs ys : List Record) → AreNew before (xs ++ ys) → AreNew (before ++ xs) ys
+pub new-behind : (before xs ys : List Record) → AreNew before (xs ++ ys) → AreNew (before ++ xs) ys
 new-behind before [] ys new = subst (λ rs. AreNew rs ys) (sym (append-nil before)) new
 new-behind before (x ∷ xs) ys new = subst (λ rs. AreNew rs ys) (append_assoc before (x ∷ []) xs) (new-behind (before ++ x ∷ []) xs ys new.1)
 

@@ -45,7 +45,7 @@ all-others : {E : Type 0} (P : E → Type 0) (b : Bool) (e : E) (xs : List E) �
 all-others P true e xs all = all.1
 all-others P false e xs all = all
 
-all-by_each : {E : Type 0} (caller : E → ℕ) (P : E → Type 0) (n : ℕ) (es : List E) → AllByRecursion (λ e. caller e < n) es → ((w : ℕ) → w < n → AllByRecursion P (calls_by caller w es))
+pub all-by_each : {E : Type 0} (caller : E → ℕ) (P : E → Type 0) (n : ℕ) (es : List E) → AllByRecursion (λ e. caller e < n) es → ((w : ℕ) → w < n → AllByRecursion P (calls_by caller w es))
     → AllByRecursion P es
 all-by_each caller P n [] named each = tt
 all-by_each caller P n (e ∷ es) named each = (

@@ -18,6 +18,7 @@ pub mod GetsLemmas
 pub mod HistoryLemmas
 pub mod AmongLemmas
 pub mod AppendedLemmas
+pub mod BroughtLemmas
 pub mod SalvageLemmas
 pub mod JournalLemmas
 pub mod KeptLemmas

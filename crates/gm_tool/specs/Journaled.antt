@@ -1,6 +1,6 @@
 -- What a listing with a journal tells: what each status says, and its cause.
-use Rattle.std.specs.Prelude.{◌≡◌, ◌≢◌, ◌⊎◌, ℕ, ◌<◌, true, false, All, List, [], ◌∷◌, ◌++◌, Option, Some, None, IfSome, IsSome}
-use Rattle.std.specs.List.{list_any}
+use Rattle.std.specs.Prelude.{◌≡◌, ◌≢◌, ◌⊎◌, ℕ, ◌<◌, true, false, All, List, [], ◌∷◌, ◌++◌, length, map, Option, Some, None, IfSome, IsSome}
+use Rattle.std.specs.List.{list_any, AllByRecursion}
 use Rattle.sat_base.specs.Members.{In}
 use Rattle.gm_base.specs.Problem.{Problem}
 use Rattle.gm_base.specs.Explored.{Found}
@@ -10,15 +10,16 @@ use Rattle.gm_ports.specs.FilesState.{ReadingLeaves, StaysAsTold}
 use Rattle.gm_words.specs.Reading.{Listing}
 use Rattle.evidence_rec.specs.declared.record.Record.{Record}
 use Rattle.evidence_rec.specs.Records.{founds}
+use Rattle.evidence_text.specs.Alone.{written_of}
 use Rattle.map_core.specs.declared.entry.Entry.{Entry}
 use Rattle.map_core.specs.declared.closing.Closing.{Closing}
-use Rattle.map_core.specs.Own.{calls_of, new_in, is_retirement}
+use Rattle.map_core.specs.Own.{calls_of, new_in, brought_in, is_retirement}
 use Rattle.turn_lock.specs.Calls.{calls_by}
 use Rattle.gm_journal.specs.Books.{Keeps}
 use Rattle.gm_journal.specs.Books as books
 use Rattle.gm_journal.specs.Entries.{OpeningView, EntryView, who_of}
 use Rattle.gm_journal.specs.Following.{AreJournalled}
-use Rattle.gm_journal.specs.Histories.{has_failed, is_among, kept_in, IsLegal}
+use Rattle.gm_journal.specs.Histories.{has_failed, is_among, kept_in, tried_in, IsLegal}
 use Rattle.gm_journal.specs.Salvage.{HoldsRecords, HoldsNoRecord}
 use Rattle.worker_pool.specs.Pens.{HasWritten}
 use Rattle.worker_pool.specs.Outcomes as pool
@@ -86,6 +87,11 @@ pub record IsLogOf (o : OpeningView) (workers : ℕ) (history : List Entry) (log
   pub named : All (λ (e : EntryView). e.who < workers) log
   pub written : (w : ℕ) → w < workers → HasWritten true (calls_of w history) (calls_by who_of w log)
 
+-- the records that were appended, in their order: the log has their lines, and each is one that was posted and was new
+pub record AreAppended (history : List Entry) (log : List EntryView) (records : List Record) : Type 0 where
+  pub texts : map written_of records ≡ tried_in log
+  pub brought : AllByRecursion (λ (r : Record). In r (brought_in history)) records
+
 -- The journal's disk behind that: it is salvaged with the first records, and then with one for each append that was answered Ok,
 -- in order, where none failed; and that is so where the disk's count of faults stayed
 pub record HasLog (p : Problem) (first : List Record) (workers faults : ℕ) (history : List Entry) (disk : DiskState) : Type 0 where
@@ -97,6 +103,12 @@ pub record HasLog (p : Problem) (first : List Record) (workers faults : ℕ) (hi
   pub whole : has_failed log ≡ false → ReadsAndLeaves disk (Keeps opening (kept_in log))
   -- whatever failed it is salvaged with a front part of what was appended, in which each is that was answered Ok
   pub front : IsSome disk.reads → books.IsWhole disk opening log
+  -- these records were appended. It is salvaged with the first records and then with so many of these, in their order, with each
+  -- that was answered Ok; and where none failed, these are all
+  pub appended : List Record
+  pub are : AreAppended history log appended
+  pub holds : ReadsAndLeaves disk (books.HoldsFront p first appended (length (kept_in log)))
+  pub all : has_failed log ≡ false → length (kept_in log) ≡ length appended
 
 -- the same where none failed
 pub record HasWholeLog (p : Problem) (first : List Record) (workers faults : ℕ) (history : List Entry) (disk : DiskState) : Type 0 where
@@ -105,7 +117,7 @@ pub record HasWholeLog (p : Problem) (first : List Record) (workers faults : ℕ
 
 -- ---- what it holds at the end
 
--- these bytes are salvaged with the records that a run began with, and then one for each set that was new in it, and no other
+-- these bytes are salvaged with the records that a run began with, and then with those that were new in it, and no other
 pub record IsJournalOf (p : Problem) (first : List Record) (history : List Entry) (bytes : List ℕ) : Type 0 where
   pub more : List Record
   pub gate : ℕ
@@ -113,6 +125,9 @@ pub record IsJournalOf (p : Problem) (first : List Record) (history : List Entry
   pub holds : HoldsRecords p bytes (first ++ more) gate last
   -- one of the later records is of a set exactly where this was new
   pub sets : (f : Found) → is_among (founds more) f ≡ is_among (new_in history) f
+  -- and each is the record that was posted, of which none is missing
+  pub brought : AllByRecursion (λ (r : Record). In r (brought_in history)) more
+  pub none_missing : AllByRecursion (λ (r : Record). In r more) (brought_in history)
   -- no two of all of them are of one kind and one set
   pub journalled : AreJournalled p (first ++ more)
 

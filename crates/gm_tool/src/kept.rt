@@ -1,18 +1,19 @@
 //! An enumeration that keeps a journal, from its workers to what is left of it and the journal's disk.
-ghost use Rattle.std.specs.Prelude.{◌≡◌, true, All, IfOk, length};
+ghost use Rattle.std.specs.Prelude.{◌≡◌, true, All, IfOk, IfSome, length};
 ghost use Rattle.turn_lock.specs.Seats.{AreNew};
 ghost use Rattle.evidence_rec.specs.Records.{AllAccepted};
 ghost use Rattle.evidence_rec.specs.Seeding.{new_engine};
 ghost use Rattle.worker_pool.specs.Workers.{IsFresh};
 ghost use Rattle.gm_words.specs.Requests.{AreGoodJobs};
+ghost use Rattle.gm_io.specs.Evidence.{HasSmallIds};
 ghost use Rattle.gm_io.specs.Resuming.{AreGoodFirst};
 ghost use Rattle.gm_tool.specs.JournalSteps.{IsCrew, IsKept, IsReady, left_of};
 
 use crate::enumeration::{fresh_map, fresh_oracles};
 use evidence_rec::{Record, Records};
 use gm_base::Problem;
-use gm_io::{Bounds, Enumerated};
-use gm_journal::laws::kept_is_salvaged;
+use gm_io::{Bounds, Enumerated, ids_fit};
+use gm_journal::laws::{kept_is_salvaged, texts_are_of_their_records};
 use gm_journal::{Journal, JournalClosing, Seat};
 use gm_ports::{Disk, Gate};
 use group_oracle::GroupOracle;
@@ -115,6 +116,7 @@ pub fn enumerate_into<D: Disk + Send + Drop, G: Gate, R: Threads + Wait + Sync>(
         unreachable!()
     };
     kept_is_salvaged(&disk);
+    texts_are_of_their_records();
     Kept {
         disk,
         is_broken: broken.is_some(),
@@ -122,16 +124,20 @@ pub fn enumerate_into<D: Disk + Send + Drop, G: Gate, R: Threads + Wait + Sync>(
     }
 }
 
-/// What is left, where a board was closed.
+/// What is left, where a board was closed. The ids of its records are ones that a text can hold.
 fn left_of(spent: u64, logs: Logs, closing: Option<Closing>) -> Option<Enumerated>
-    ensures { result ≡ left_of spent logs closing }
+    ensures left { result ≡ left_of spent logs closing }
+    ensures ids { IfSome closing HasSmallIds }
 {
     match closing {
-        Some(closing) => Some(Enumerated {
-            spent,
-            logs,
-            closing,
-        }),
+        Some(closing) => {
+            ids_fit(&closing);
+            Some(Enumerated {
+                spent,
+                logs,
+                closing,
+            })
+        }
         None => None,
     }
 }

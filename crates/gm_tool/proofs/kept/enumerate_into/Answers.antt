@@ -1,4 +1,4 @@
-use Rattle.std.proofs.Common.{◌≡◌, ℕ, Bool, true, Option, Some, List, length, refl, subst, sym, ◌∙◌}
+use Rattle.std.proofs.Common.{◌≡◌, ℕ, Bool, true, Some, length, refl, subst, sym, ◌∙◌}
 use Rattle.std.specs.Prelude.{MatchOption, option_map}
 use Rattle.turn_lock.specs.Seats.{AreNew}
 use Rattle.map_core.specs.declared.closing.Verdict.TheVariants.{Memory}
@@ -36,7 +36,8 @@ returns g c =
     let told =
     subst (λ (m : Bool). MatchOption outcome.closing (outcome.verdict ≡ Memory) (λ k. IsLeft (opened workers) m outcome.logs k × (outcome.verdict ≡ k.verdict))) (sym c.requires.journal)
     c.enumerate-outcome.ensures.outcome.closing in
-    is-kept g.D.Disk.state p c.args.first b j c.in-Some.journal pens left outcome.spent outcome.logs outcome.broken c.in-Ended.disk c.enumerate-outcome.ensures.outcome.spent c.in-Ended.ensures c.requires.ready.seats
+    is-kept g.D.Disk.state p c.args.first b j c.in-Some.journal pens left outcome.spent outcome.logs outcome.broken c.in-Ended.disk c.enumerate-outcome.ensures.outcome.spent c.in-Ended.ensures c.texts_are_of_their_records.ensures.kept c.texts_are_of_their_records.ensures.front c.requires.ready.seats
     c.kept_is_salvaged.ensures.read c.kept_is_salvaged.ensures.crash outcome.closing outcome.verdict (record { disk = c.in-Ended.disk; is_broken = c.is_some.result; left = c.left_of.result })
     (subst (λ n. MatchOption outcome.closing (outcome.verdict ≡ Memory) (λ k. IsLeft (opened n) b.journal outcome.logs k × (outcome.verdict ≡ k.verdict))) count told)
-    (subst (λ n. IsKept (opened n) j pens outcome.closing outcome.broken c.in-Some.journal left) count kept) c.requires.ready.begun refl c.is_some.ensures c.left_of.ensures
+    c.left_of.ensures.ids
+    (subst (λ n. IsKept (opened n) j pens outcome.closing outcome.broken c.in-Some.journal left) count kept) c.requires.ready.begun refl c.is_some.ensures c.left_of.ensures.left
