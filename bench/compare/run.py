@@ -148,20 +148,33 @@ huge   net            1000000 1 100
 """.strip().splitlines()]
 
 
-def build_baselines():
+def build_baselines(baselines=None):
     """The command of each baseline that is there after `make`; says of each other one why not."""
+    baselines = BASELINES if baselines is None else baselines
     folder = os.path.join(HERE, "marco")
     found = {}
-    for program in dict.fromkeys(program for program, *_ in BASELINES.values()):
+    for program in dict.fromkeys(program for program, *_ in baselines.values()):
         made = subprocess.run(["make", "-s", "-C", folder, program], text=True,
                               stdout=subprocess.PIPE, stderr=subprocess.STDOUT)
-        names = [name for name, command in BASELINES.items() if command[0] == program]
+        names = [name for name, command in baselines.items() if command[0] == program]
         if made.returncode == 0:
-            found.update({name: [os.path.join(folder, program), *BASELINES[name][1:]] for name in names})
+            found.update({name: [os.path.join(folder, program), *baselines[name][1:]] for name in names})
         else:
             print(f"{' and '.join(names)}: left out, since {program} can't be built (see marco/Makefile):\n{made.stdout}",
                   file=sys.stderr)
     return found
+
+
+def make(problem, folder):
+    """The problem's file, with each clause as a group if the name of its family says so, and how many groups and clauses it has."""
+    family = problem.family.removesuffix("-cnf")
+    file = os.path.join(folder, f"{problem.family}-{problem.size}-{problem.seed}.gcnf")
+    with open(file, "w") as out:
+        generate = [sys.executable, os.path.join(BENCH, "generate.py"), family, "--size", problem.size, "--seed", problem.seed]
+        subprocess.run([*generate, *(["--cnf"] if family != problem.family else [])], stdout=out, check=True)
+    with open(file) as lines:
+        counts = lines.readline().split()[3:]
+    return file, counts[-1], counts[0]
 
 
 def run(command, report, errors, seconds):
@@ -291,14 +304,7 @@ class Bench:
         return self.faults == before
 
     def row(self, problem):
-        file = os.path.join(self.folder, f"{problem.family}-{problem.size}-{problem.seed}.gcnf")
-        with open(file, "w") as out:
-            family = problem.family.removesuffix("-cnf")
-            generate = [sys.executable, os.path.join(BENCH, "generate.py"), family, "--size", problem.size, "--seed", problem.seed]
-            subprocess.run([*generate, *(["--cnf"] if family != problem.family else [])], stdout=out, check=True)
-        with open(file) as lines:
-            counts = lines.readline().split()[3:]
-        clauses, groups = counts[0], counts[-1]
+        file, groups, clauses = make(problem, self.folder)
         results = {name: self.measure(name, problem, file) for name in self.programs}
         agreed = self.agree(file, results)
         best = best_of(results)
