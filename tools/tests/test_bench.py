@@ -46,7 +46,7 @@ class Numbers(unittest.TestCase):
         self.assertIsNone(endless.most_within(5, attempt_at(0.1, 9, 5)))
 
     def test_ratios_are_by_the_most_of_each_kind_and_of_both(self):
-        results = {"gmus": endless.Have([9, 39], 5, False), "one": endless.Have([19, 0], 5, False), "other": endless.Have([0, 79], 5, False)}
+        results = {name: endless.Have(sets, 5, False) for name, sets in (("gmus", [9, 39]), ("one", [19, 0]), ("other", [0, 79]))}
         self.assertEqual(endless.ratios(results), [10 / 20, 40 / 80, 49 / 80])
         self.assertIsNone(endless.ratios({"one": results["one"]}))
         self.assertIsNone(endless.ratios({"gmus": results["gmus"]}))
@@ -55,6 +55,21 @@ class Numbers(unittest.TestCase):
         told = endless.summary([[0.5, 2.0, 1.0], [2.0, 8.0, 0.25]])
         self.assertEqual(re.findall(r"[0-9.]+(?= of| in)", told), ["1.00", "4.00", "2.00", "0.50"])
         self.assertIn("No problem", endless.summary([]))
+
+    def test_rich_problems_have_means_of_their_own(self):
+        def pair(kind, ours, best, megabytes):
+            took = [run.Result("complete", "1+1", seconds, size, False) for seconds, size in ((ours, megabytes), (best, 10))]
+            return run.Pair("name", kind, *took)
+
+        bench = run.Bench.__new__(run.Bench)
+        bench.programs, bench.floor, bench.behind = {"gmus": [], "minisat": []}, 1, []
+        bench.pairs = [pair("small", 0.1, 0.2, 5), pair("middle", 0.2, 0.1, 5)]
+        bench.pairs += [pair("rich", 0.4, 0.1, 40), pair("rich", 0.1, 0.1, 1)]
+        told = bench.summary()
+        self.assertIn("both end 2. There the geometric mean of gmus / best of 1 is 1: 0.5 over the small ones, 2 over the middle ones.", told)
+        self.assertIn("Of the rich problems they both end 2, with a mean of 2, and that of memory 4 over the 1 where it is known.", told)
+        bench.pairs = bench.pairs[:2]   # none of them rich
+        self.assertNotIn("rich", bench.summary())
 
 
 class Problems(unittest.TestCase):
@@ -78,6 +93,19 @@ class Problems(unittest.TestCase):
 
 
 class Runs(unittest.TestCase):
+    def test_a_run_tells_its_status_and_its_own_peak(self):
+        peak = run.peak_program()
+        if not peak:
+            self.skipTest("bench/compare/marco/peak can't be built")
+        with tempfile.TemporaryDirectory() as folder:
+            names = [os.path.join(folder, name) for name in ("report", "errors")]
+            for script, patience, code in (("exit 3", 60, 3), ("kill -9 $$", 60, -9), ("echo so; sleep 60", 0.5, None)):
+                ended = run.run(["sh", "-c", script], *names, patience, peak)
+                self.assertEqual(ended.code, code, script)
+                self.assertLess(ended.megabytes, 8, script)   # this test itself has more
+            with open(names[0], encoding="utf-8") as report:
+                self.assertEqual(report.read(), "so\n")
+
     def test_a_run_beyond_its_seconds_of_the_processor_is_killed(self):
         with tempfile.TemporaryDirectory() as folder:
             report = os.path.join(folder, "report")
