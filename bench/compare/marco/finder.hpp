@@ -5,11 +5,13 @@
 // group is needed, and often more groups, by rotation and by what is remembered for later sets.
 //
 // A set is grown by a question for each group outside with which no known conflict lies in it. What a model satisfies beside
-// comes in with it. With --recursive the cores of these questions are kept as well, and looked up like conflicts.
+// comes in with it. Where many are grown the cores of these questions are kept as well, and looked up like conflicts.
 #pragma once
 #include "known.hpp"
 
 struct Ways { bool save = false, recursive = false; size_t harvest = 0, limit = 1000000000; };
+
+enum class Keeps { Nothing, Conflicts, Cores };    // of what was unsatisfiable, to be looked up
 
 class Finder {
 public:
@@ -18,8 +20,8 @@ public:
     size_t found() const { return conflicts.size() + corrections.size(); }
 
 protected:
-    // `keeps` tells whether known conflicts are looked up, and `in_map` how the map decides groups.
-    Finder(const Problem& problem, const Ways& ways, bool keeps, Kind in_map)
+    // `in_map` tells how the map decides groups. With Cores conflicts are kept as well.
+    Finder(const Problem& problem, const Ways& ways, Keeps keeps, Kind in_map)
         : ways(ways), keeps(keeps), groups(problem.groups), variables(problem.variables), subset(false), map(true),
           needed(problem.groups), known(problem.groups, conflicts), refuted(problem.groups, cores), rotation(problem),
           in_core(problem.groups + 1) {
@@ -80,7 +82,7 @@ protected:
         for (int group : set) block.push_back(-group);
         map.add(block);
         conflicts.push_back(std::move(set));
-        if (keeps) known.add_last();
+        if (keeps != Keeps::Nothing) known.add_last();
         return true;
     }
 
@@ -102,7 +104,7 @@ protected:
             if (answer == Answer::Unsat) {
                 inside.pop_back();
                 outside.push_back(each);
-                if (ways.recursive) cores.push_back(core()), refuted.add_last();
+                if (keeps == Keeps::Cores) keep(core());
                 continue;
             }
             known.put(each), refuted.put(each);
@@ -115,13 +117,18 @@ protected:
         return true;
     }
 
+    void keep(Groups core) {
+        cores.push_back(std::move(core));
+        refuted.add_last();
+    }
+
     void add_correction(Groups set) {
         map.add(set);
         corrections.push_back(std::move(set));
     }
 
     Ways ways;
-    bool keeps;
+    Keeps keeps;
     int groups, variables;
     Solver subset, map;
     Needed needed;

@@ -33,7 +33,7 @@
 class Marco : public Finder {
 public:
     Marco(const Problem& problem, const Ways& ways)
-        : Finder(problem, ways, ways.save || ways.harvest || ways.recursive, Kind::Map), is_within(problem.groups + 1, true) {}
+        : Finder(problem, ways, kept_by(ways), Kind::Map), is_within(problem.groups + 1, true) {}
 
     Status run() {
         if (ways.save) map.keep_phases();
@@ -41,6 +41,10 @@ public:
     }
 
 private:
+    static Keeps kept_by(const Ways& ways) {
+        return ways.recursive ? Keeps::Cores : ways.save || ways.harvest ? Keeps::Conflicts : Keeps::Nothing;
+    }
+
     // Explores all sets that lie within the groups of `is_within`.
     Status explore() {
         Lits without;

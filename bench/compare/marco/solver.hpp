@@ -16,7 +16,8 @@ using Groups = std::vector<int>;   // ascending where a report has it
 using Lits = std::vector<int>;     // as in DIMACS
 
 enum class Answer { Sat, Unsat, Stopped };
-enum class Kind { Plain, Selector, Map };
+// Of a variable: Map is decided to true first, Unlikely to false, and Counter follows from others.
+enum class Kind { Plain, Selector, Map, Unlikely, Counter };
 
 inline volatile std::sig_atomic_t time_is_up = 0;
 
@@ -31,7 +32,8 @@ public:
     }
     int new_variable(Kind kind) {
         solver.reserve(++variables);
-        if (kind != Kind::Plain) solver.freeze(variables), solver.phase(variables);
+        bool is_negative = kind == Kind::Unlikely || kind == Kind::Counter;
+        if (kind != Kind::Plain) solver.freeze(variables), solver.phase(is_negative ? -variables : variables);
         return variables;
     }
     void keep_phases() { for (int variable = 1; variable <= variables; variable++) solver.unphase(variable); }
@@ -66,7 +68,9 @@ public:
     int new_variable(Kind kind) {
         // The user's polarity is the sign of the literal: false is the positive one. Selectors are never decided, so
         // one is false in a model only where the model falsifies a clause of its group, or it was learnt that it must.
-        solver.newVar(kind == Kind::Map ? l_False : l_Undef, kind != Kind::Selector);
+        // A counter's variable is not decided either: where none of its clauses makes it true, it may be false.
+        solver.newVar(kind == Kind::Map ? l_False : kind == Kind::Unlikely ? l_True : l_Undef,
+                      kind != Kind::Selector && kind != Kind::Counter);
         return solver.nVars();
     }
     // From now on each variable is decided as it was held last, at first to true.
