@@ -14,7 +14,10 @@ a program fails, the run says so, keeps the files, and ends with 1.
 
 Below the table stand, over the problems that gmus and a baseline both end, the geometric mean of the seconds by those of
 the best, the worst such ratio where the best takes 0.2 s or more, and the worst ratio of memory where gmus takes 100 MB or
-more.
+more. Rich problems are small ones with thousands of sets, or of conflicts within a question. They have a mean of their own, and
+one of memory, and don't count in the other.
+
+An idle machine takes some six minutes for the small and middle problems, and one for the rich ones (--only rich).
 """
 import argparse
 import datetime
@@ -38,6 +41,8 @@ BASELINES = {"minisat": ["marco-minisat"], "minisat-save": ["marco-minisat", "--
              "minisat-harvest": ["marco-minisat", "--harvest", "3"],
              "cadical": ["marco-cadical"], "cadical-save": ["marco-cadical", "--save"]}
 ENDS = ["complete", "limit"]
+USUAL = ["small", "middle", "rich"]    # kinds that run where none is named
+RICH = "rich"                          # the one that has a mean of its own
 GRACE = 5      # seconds for its report that a baseline has, which stops by its own clock
 LONG = 0.2     # seconds of the best baseline from which on a ratio counts by itself
 LARGE = 100    # MB of gmus from which on its memory counts
@@ -121,6 +126,42 @@ middle pigeon         16    1  -
 middle pigeon-holes   24    1  -
 middle parity         30    1  -
 middle parity         40    2  -
+rich   chain          600   2  -
+rich   links          80    2  -
+rich   links          100   3  -
+rich   links          150   2  -
+rich   random         26    2  -
+rich   random         32    3  -
+rich   random         36    2  -
+rich   clumps         22    2  -
+rich   clumps         22    6  -
+rich   clumps         22    7  -
+rich   types          50    4  -
+rich   types          70    5  -
+rich   types          70    6  -
+rich   types          80    2  -
+rich   tripled        90    3  -
+rich   tripled        105   7  -
+rich   pigeon         14    1  -
+rich   pigeon         15    2  -
+rich   pigeon         16    2  -
+rich   pigeon-holes   15    2  -
+rich   pigeon-holes   18    3  -
+rich   pigeon-holes   22    2  -
+rich   threshold      14    6  -
+rich   threshold      18    7  -
+rich   threshold      18    8  -
+rich   colour         50    2  -
+rich   colour         60    3  -
+rich   colour         64    2  -
+rich   colour-vertex  60    4  -
+rich   colour-vertex  150   2  -
+rich   parity         36    3  -
+rich   parity         36    4  -
+rich   parity         36    5  -
+rich   miter          220   2  -
+rich   miter          260   3  -
+rich   miter          300   1  -
 big    dense          46    9  -
 big    dense          46    6  48000
 big    adder          1600  1  -
@@ -148,26 +189,54 @@ huge   net            1000000 1 100
 """.strip().splitlines()]
 
 
-def build_baselines():
+def build_baselines(baselines=None):
     """The command of each baseline that is there after `make`; says of each other one why not."""
+    baselines = BASELINES if baselines is None else baselines
     folder = os.path.join(HERE, "marco")
     found = {}
-    for program in dict.fromkeys(program for program, *_ in BASELINES.values()):
+    for program in dict.fromkeys(program for program, *_ in baselines.values()):
         made = subprocess.run(["make", "-s", "-C", folder, program], text=True,
                               stdout=subprocess.PIPE, stderr=subprocess.STDOUT)
-        names = [name for name, command in BASELINES.items() if command[0] == program]
+        names = [name for name, command in baselines.items() if command[0] == program]
         if made.returncode == 0:
-            found.update({name: [os.path.join(folder, program), *BASELINES[name][1:]] for name in names})
+            found.update({name: [os.path.join(folder, program), *baselines[name][1:]] for name in names})
         else:
             print(f"{' and '.join(names)}: left out, since {program} can't be built (see marco/Makefile):\n{made.stdout}",
                   file=sys.stderr)
     return found
 
 
-def run(command, report, errors, seconds):
+def make(problem, folder):
+    """The problem's file, with each clause as a group if the name of its family says so, and how many groups and clauses it has."""
+    family = problem.family.removesuffix("-cnf")
+    file = os.path.join(folder, f"{problem.family}-{problem.size}-{problem.seed}.gcnf")
+    with open(file, "w") as out:
+        generate = [sys.executable, os.path.join(BENCH, "generate.py"), family, "--size", problem.size, "--seed", problem.seed]
+        subprocess.run([*generate, *(["--cnf"] if family != problem.family else [])], stdout=out, check=True)
+    with open(file) as lines:
+        counts = lines.readline().split()[3:]
+    return file, counts[-1], counts[0]
+
+
+def peak_program():
+    """What runs a command and tells its peak of memory, if it can be built; without it a peak begins with this script's own."""
+    made = subprocess.run(["make", "-s", "-C", os.path.join(HERE, "marco"), "peak"], stdout=subprocess.DEVNULL,
+                          stderr=subprocess.DEVNULL, check=False)
+    return [os.path.join(HERE, "marco", "peak")] if made.returncode == 0 else []
+
+
+def run(command, report, errors, seconds, peak=()):
     """Runs a command with its output in files, and kills it when the time is up."""
     outputs = [(os.POSIX_SPAWN_OPEN, number, name, os.O_WRONLY | os.O_CREAT | os.O_TRUNC, 0o644)
                for number, name in ((1, report), (2, errors))]
+    with tempfile.NamedTemporaryFile("w+") as told:
+        code, wall, usage = spawn([*peak, told.name, *command] if peak else command, outputs, seconds)
+        kilobytes = told.read()
+    return Ending(code, wall, usage.ru_utime + usage.ru_stime, int(kilobytes or usage.ru_maxrss) / 1024)
+
+
+def spawn(command, outputs, seconds):
+    """The status, or None if the time was up, the seconds of the clock, and what the system tells of the resources."""
     begin = time.perf_counter()
     child = os.posix_spawnp(command[0], command, os.environ, file_actions=outputs, setpgroup=0)
     ended = False
@@ -179,11 +248,9 @@ def run(command, report, errors, seconds):
         os.close(handle)
     finally:
         if not ended:
-            os.killpg(child, signal.SIGKILL)
+            os.killpg(child, signal.SIGTERM)
         _, status, usage = os.wait4(child, 0)
-    wall = time.perf_counter() - begin
-    code = os.waitstatus_to_exitcode(status) if ended else None
-    return Ending(code, wall, usage.ru_utime + usage.ru_stime, usage.ru_maxrss / 1024)
+    return os.waitstatus_to_exitcode(status) if ended else None, time.perf_counter() - begin, usage
 
 
 def read_ending(code, report, errors):
@@ -245,8 +312,9 @@ class Bench:
         self.programs = build_baselines()
         if given.gmus:
             self.programs = {"gmus": [os.path.abspath(given.gmus), "list"], **self.programs}
-        # A child's peak begins with this script's own, so no figure can be below it.
-        self.floor = run(["true"], os.devnull, os.devnull, 10).megabytes
+        # A child's peak begins with that of what began it, so no figure can be below that.
+        self.peak = peak_program()
+        self.floor = run(["true"], os.devnull, os.devnull, 10, self.peak).megabytes
         self.wall = self.cpu = 0.0   # of all runs
 
     def cry(self, words):
@@ -264,7 +332,7 @@ class Bench:
         patience = self.given.time + (0 if name == "gmus" else GRACE)
         best = None
         for _ in range(self.given.repeat):
-            ending = run(self.command(name, problem, file), report, errors, patience)
+            ending = run(self.command(name, problem, file), report, errors, patience, self.peak)
             self.wall += ending.wall
             self.cpu += ending.cpu
             seconds = ending.cpu if self.given.cpu else ending.wall
@@ -291,14 +359,7 @@ class Bench:
         return self.faults == before
 
     def row(self, problem):
-        file = os.path.join(self.folder, f"{problem.family}-{problem.size}-{problem.seed}.gcnf")
-        with open(file, "w") as out:
-            family = problem.family.removesuffix("-cnf")
-            generate = [sys.executable, os.path.join(BENCH, "generate.py"), family, "--size", problem.size, "--seed", problem.seed]
-            subprocess.run([*generate, *(["--cnf"] if family != problem.family else [])], stdout=out, check=True)
-        with open(file) as lines:
-            counts = lines.readline().split()[3:]
-        clauses, groups = counts[0], counts[-1]
+        file, groups, clauses = make(problem, self.folder)
         results = {name: self.measure(name, problem, file) for name in self.programs}
         agreed = self.agree(file, results)
         best = best_of(results)
@@ -331,7 +392,7 @@ class Bench:
         return [name for name in self.programs if name != "gmus"]
 
     def has_floor(self, result):
-        """Whether the peak may be this script's own, since a child's figure begins with that."""
+        """Whether the peak may be that of what began it, since a child's figure begins with that."""
         return result.megabytes < 1.1 * self.floor and not result.is_own
 
     def megabytes_text(self, result):
@@ -351,15 +412,25 @@ class Bench:
         elif ratio(results).startswith(">"):
             self.behind.append(name)
 
+    def mean_of_all(self, pairs):
+        kinds = dict.fromkeys(pair.kind for pair in pairs)
+        means = [f"{mean(pair for pair in pairs if pair.kind == kind):.2g} over the {kind} ones" for kind in kinds]
+        return (f"Of the problems, gmus and a baseline both end {len(pairs)}. There the geometric mean of gmus / best of "
+                f"{len(self.baselines())} is {mean(pairs):.2g}: {', '.join(means)}.")
+
+    def mean_of_rich(self, pairs):
+        known = [pair for pair in pairs if not self.has_floor(pair.ours)]
+        memory = f", and that of memory {mean(known, megabytes_by_best):.2g} over the {len(known)} where it is known" if known else ""
+        return f"Of the rich problems they both end {len(pairs)}, with a mean of {mean(pairs):.2g}{memory}."
+
     def summary(self):
         """The mean and the worst ratios, in some sentences."""
         if not self.pairs:
             return "No problem is ended by both gmus and a baseline."
-        kinds = dict.fromkeys(pair.kind for pair in self.pairs)
-        means = [f"{mean(pair for pair in self.pairs if pair.kind == kind):.2g} over the {kind} ones" for kind in kinds]
-        sentences = [
-            f"Of the problems, gmus and a baseline both end {len(self.pairs)}. There the geometric mean of gmus / best of "
-            f"{len(self.baselines())} is {mean(self.pairs):.2g}: {', '.join(means)}.",
+        rich, others = ([pair for pair in self.pairs if (pair.kind == RICH) == is_rich] for is_rich in (True, False))
+        sentences = [self.mean_of_all(others)] if others else []
+        sentences += [self.mean_of_rich(rich)] if rich else []
+        sentences += [
             worst(f"Where the best takes {LONG:g} s or more", seconds_by_best,
                   [pair for pair in self.pairs if pair.best.seconds >= LONG]),
             worst(f"Where gmus takes {LARGE} MB or more", megabytes_by_best,
@@ -377,9 +448,9 @@ def megabytes_by_best(pair):
     return pair.ours.megabytes / pair.best.megabytes
 
 
-def mean(pairs):
-    """The geometric mean of the ratios of seconds."""
-    logarithms = [math.log(seconds_by_best(pair)) for pair in pairs]
+def mean(pairs, by_best=seconds_by_best):
+    """The geometric mean of the ratios."""
+    logarithms = [math.log(by_best(pair)) for pair in pairs]
     return math.exp(sum(logarithms) / len(logarithms))
 
 
@@ -413,14 +484,14 @@ def main():
     words = argparse.ArgumentParser(description=__doc__, formatter_class=argparse.RawDescriptionHelpFormatter)
     words.add_argument("--gmus", metavar="PROGRAM", help="the program; without it the baselines run alone")
     words.add_argument("--time", type=float, default=20, metavar="SECONDS", help="for a program and a problem (20)")
-    words.add_argument("--only", metavar="WORD", help="problems of this kind (small, middle, big, huge) or family; big "
-                       "and huge ones run only where their kind is named")
+    words.add_argument("--only", metavar="WORD", help="problems of this kind (small, middle, rich, big, huge) or "
+                       "family; big and huge ones run only where their kind is named")
     words.add_argument("--repeat", type=int, default=1, metavar="N", help="runs, of which the quickest counts (1)")
     words.add_argument("--cpu", action="store_true", help="count seconds of the processor, not of the clock")
     words.add_argument("--keep", metavar="FOLDER", help="where problems and reports are to stay")
     given = words.parse_args()
     problems = [problem for problem in PROBLEMS if given.only == problem.kind
-                or problem.kind in ("small", "middle") and given.only in (None, problem.family)]
+                or problem.kind in USUAL and given.only in (None, problem.family)]
     if not problems or given.time <= 0 or given.repeat < 1:
         words.error("nothing to run")
     if given.gmus and not os.access(given.gmus, os.X_OK):
