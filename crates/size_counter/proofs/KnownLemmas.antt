@@ -1,16 +1,16 @@
 -- What a set of numbers knows, with one number more.
-use Rattle.std.proofs.Common.{◌≡◌, ℕ, ◌+◌, ◌<◌, append-nil, Bool, true, false, not, ◌||◌, cond, List, [], ◌∷◌, ◌++◌, length, take, get_or, refl, sym, ◌∙◌, ap, subst, inl, inr, eqb, arith}
+use Rattle.std.proofs.Common.{◌≡◌, ℕ, ◌+◌, ◌<◌, ◌≤◌, Bool, true, false, not, ◌||◌, cond, List, [], ◌∷◌, ◌++◌, length, take, get_or, refl, sym, ◌∙◌, ap, subst, inl, inr, eqb, arith, length-append}
 use Rattle.std.specs.Ordering.{nat_cmp, is_eq}
 use Rattle.std.specs.declared.cmp.Ordering.TheVariants.{Less, Equal, Greater}
 use Rattle.std.specs.Cmp.{nat_cmp_is}
 use Rattle.std.specs.BTreeSet.{BTreeSet, contains, Updates}
-use Rattle.std.proofs.lemmas.Bool.{cases_Bool, cases_order, eq-eqb, ne_eqb, eqb-true, or_left, not-true, not-false, cond-true, cond-false}
-use Rattle.std.proofs.lemmas.List.{take_more}
+use Rattle.std.proofs.lemmas.Bool.{false≢true, false_from_ne_true, cases_order, eq-eqb, ne_eqb, eqb-true, eqb-false, or_parts, or_from, or_right, or_left, not-true}
+use Rattle.std.proofs.lemmas.List.{take_more, take_at, take-take}
+use Rattle.std.proofs.lemmas.List.Folds.{list_any-append}
 use Rattle.gm_base.specs.Sets.{has}
 use Rattle.size_counter.specs.Sizes.{AreDistinct}
 use Rattle.size_counter.specs.Known.{KnowsAll, Knows}
-use Rattle.size_counter.specs.Names.{first_named}
-use Rattle.size_counter.proofs.NameLemmas.{has-push, has-first_named, distinct-first_named, first_named-same, named-more}
+use Rattle.size_counter.proofs.NameLemmas.{has-push}
 
 pub is_eq-nat_cmp : (x y : ℕ) → is_eq (nat_cmp x y) ≡ eqb x y
 is_eq-nat_cmp x y =
@@ -42,58 +42,67 @@ pub KnowsAll-more : (old new : BTreeSet ℕ) (numbers : List ℕ) (i : ℕ) → 
 KnowsAll-more old new numbers i lt knows updates =
     subst (KnowsAll new) (sym (take_more numbers i 0 lt)) (KnowsAll-push old new (take i numbers) (get_or numbers i 0) knows updates)
 
--- the groups of a set so far
-pub record NamesTo (before set : List ℕ) (i : ℕ) (known : BTreeSet ℕ) (named : List ℕ) : Type 0 where
-  pub are : named ≡ first_named (before ++ take i set)
-  pub knows : KnowsAll known named
+distinct-push : (xs : List ℕ) (g : ℕ) → AreDistinct xs → has xs g ≡ false → AreDistinct (xs ++ g ∷ [])
+distinct-push [] g d new = (refl, tt)
+distinct-push (x ∷ xs) g d new =
+    let parts = or_parts (eqb x g) (has xs g) new in (
+      has-push xs g x ∙ or_from (has xs x) (eqb g x || false) d.0 (or_from (eqb g x) false (ne_eqb g x (λ e. eqb-false x g parts.0 (sym e))) refl),
+      distinct-push xs g d.1 parts.1,
+    )
 
-pub NamesTo-start : (before set : List ℕ) (known : BTreeSet ℕ) → Knows known before → NamesTo before set 0 known before
-NamesTo-start before set known k =
-    record { are = sym (first_named-same before k.0) ∙ sym (ap first_named (append-nil before)); knows = k.1 }
+-- a number that was not known comes behind
+pub Knows-new : (old new : BTreeSet ℕ) (numbers : List ℕ) (g : ℕ) → Knows old numbers → true ≡ not (contains nat_cmp old g)
+    → Updates nat_cmp old new g true → Knows new (numbers ++ g ∷ [])
+Knows-new old new numbers g k added updates =
+    (distinct-push numbers g k.0 (sym (k.1 g) ∙ not-true (contains nat_cmp old g) (sym added)), KnowsAll-push old new numbers g k.1 updates)
 
--- a group that was not known is named
-pub NamesTo-new : (before set : List ℕ) (i : ℕ) (old new : BTreeSet ℕ) (named : List ℕ) → i < length set → NamesTo before set i old named
-    → true ≡ not (contains nat_cmp old (get_or set i 0)) → Updates nat_cmp old new (get_or set i 0) true
-    → NamesTo before set (i + 1) new (named ++ get_or set i 0 ∷ [])
-NamesTo-new before set i old new named lt n added updates =
-    let g = get_or set i 0 in
-    let so_far = before ++ take i set in
-    let out : has so_far g ≡ false =
-    sym (has-first_named so_far g) ∙ (sym (ap (λ xs. has xs g) n.are) ∙ (sym (n.knows g) ∙ not-true (contains nat_cmp old g) (sym added))) in
-    record {
-      are =
-          ap (λ xs. xs ++ g ∷ []) n.are ∙ sym (cond-false (has so_far g) (first_named so_far) (first_named so_far ++ g ∷ []) out)
-          ∙ sym (named-more before set i lt);
-      knows = KnowsAll-push old new named g n.knows updates;
-    }
+distinct-front : (xs ys : List ℕ) → AreDistinct (xs ++ ys) → AreDistinct xs
+distinct-front [] ys d = tt
+distinct-front (x ∷ xs) ys d =
+    (false_from_ne_true (has xs x) (λ h. absurd (false≢true (sym d.0 ∙ (list_any-append (λ k. eqb k x) xs ys ∙ or_left (has xs x) (has ys x) h)))), distinct-front xs ys d.1)
 
--- and one that was is there
-pub NamesTo-known : (before set : List ℕ) (i : ℕ) (old new : BTreeSet ℕ) (named : List ℕ) → i < length set → NamesTo before set i old named
-    → false ≡ not (contains nat_cmp old (get_or set i 0)) → Updates nat_cmp old new (get_or set i 0) true
-    → NamesTo before set (i + 1) new named
-NamesTo-known before set i old new named lt n added updates =
-    let g = get_or set i 0 in
-    let so_far = before ++ take i set in
-    let there : has named g ≡ true = sym (n.knows g) ∙ not-false (contains nat_cmp old g) (sym added) in
-    let known : has so_far g ≡ true = sym (has-first_named so_far g) ∙ (sym (ap (λ xs. has xs g) n.are) ∙ there) in
-    record {
-      are = n.are ∙ sym (cond-true (has so_far g) (first_named so_far) (first_named so_far ++ g ∷ []) known) ∙ sym (named-more before set i lt);
-      knows = λ q. KnowsAll-push old new named g n.knows updates q ∙ has-push named g q ∙ same q there;
-    }
+not-in-front : (xs : List ℕ) (g : ℕ) → AreDistinct (xs ++ g ∷ []) → has xs g ≡ false
+not-in-front [] g d = refl
+not-in-front (x ∷ xs) g d =
+    or_from (eqb x g) (has xs g)
+    (ne_eqb x g (λ e. absurd (false≢true (sym d.0 ∙ (list_any-append (λ k. eqb k x) xs (g ∷ []) ∙ or_right (has xs x) (eqb g x || false) (or_left (eqb g x) false (eq-eqb g x (sym e))))))))
+    (not-in-front xs g d.1)
+
+-- the last one is taken out
+pub Knows-pop : (old new : BTreeSet ℕ) (numbers front : List ℕ) (g : ℕ) → Knows old numbers → numbers ≡ front ++ g ∷ []
+    → Updates nat_cmp old new g false → Knows new front
+Knows-pop old new numbers front g k is updates =
+    let d = subst AreDistinct is k.0 in (
+      distinct-front front (g ∷ []) d,
+      λ q.
+          updates.0 q ∙ ap (λ b. cond b false (contains nat_cmp old q)) (is_eq-nat_cmp g q)
+          ∙ ap (λ b. cond (eqb g q) false b) (k.1 q ∙ ap (λ xs. has xs q) is ∙ has-push front g q)
+          ∙ by q (eqb g q) refl (not-in-front front g d),
+    )
   where
-    same : (q : ℕ) → has named (get_or set i 0) ≡ true → (has named q || (eqb (get_or set i 0) q || false)) ≡ has named q
-    same q there =
-        elim (cases_Bool (eqb (get_or set i 0) q)) [
-          | inl is ↦
-              let on : has named q ≡ true = subst (λ h. has named h ≡ true) (eqb-true (get_or set i 0) q is) there in
-              or_left (has named q) (eqb (get_or set i 0) q || false) on ∙ sym on
-          | inr other ↦ ap (λ b. has named q || (b || false)) other ∙ or_false (has named q)
-        ]
+    by : (q : ℕ) (b : Bool) → eqb g q ≡ b → has front g ≡ false → cond b false (has front q || (b || false)) ≡ has front q
+    by q true e out = sym (subst (λ n. has front n ≡ false) (eqb-true g q e) out)
+    by q false e out = or_false (has front q)
       where
         or_false : (b : Bool) → (b || false) ≡ b
         or_false true = refl
         or_false false = refl
 
--- what was named stands there once
-pub NamesTo-knows : (before set : List ℕ) (i : ℕ) (known : BTreeSet ℕ) (named : List ℕ) → NamesTo before set i known named → Knows known named
-NamesTo-knows before set i known named n = (subst AreDistinct (sym n.are) (distinct-first_named (before ++ take i set)), n.knows)
+-- the first numbers, as many as are left
+pub record CutTo (whole : List ℕ) (len : ℕ) (known : BTreeSet ℕ) (numbers : List ℕ) : Type 0 where
+  pub are : numbers ≡ take (length numbers) whole
+  pub most : length numbers ≤ length whole
+  pub least : len ≤ length numbers
+  pub knows : Knows known numbers
+
+pub CutTo-pop : (whole : List ℕ) (len : ℕ) (old new : BTreeSet ℕ) (numbers front : List ℕ) (g : ℕ) → len < length numbers
+    → CutTo whole len old numbers → numbers ≡ front ++ g ∷ [] → Updates nat_cmp old new g false → CutTo whole len new front
+CutTo-pop whole len old new numbers front g more c is updates =
+    let size : length numbers ≡ length front + 1 = ap length is ∙ length-append front (g ∷ []) in
+    let high = c.most in
+    record {
+      are = sym (take_at front (g ∷ []) (length front) refl) ∙ ap (take (length front)) (sym is ∙ c.are) ∙ take-take (length front) (length numbers) whole (omega arith);
+      most = omega arith;
+      least = omega arith;
+      knows = Knows-pop old new numbers front g c.knows is updates;
+    }

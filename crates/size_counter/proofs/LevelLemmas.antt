@@ -378,3 +378,6 @@ pub level-order : (kind : Kind) (groups most : ℕ) (found : List Found) → ((f
 level-order kind groups most found within =
     let o = names-order kind groups found within in
     order-level groups most (naming kind found) o.distinct o.within
+
+pub LeavesTo-start : (most : ℕ) (alone named : List ℕ) → LeavesTo most alone named 0 [] most
+LeavesTo-start most alone named = record { kept = refl; count = omega arith }

@@ -1,8 +1,8 @@
 -- The groups that sets name, one set or one group more.
-use Rattle.std.proofs.Common.{◌≡◌, ℕ, ◌+◌, ◌<◌, true, false, not, ◌&&◌, ◌||◌, cond, List, [], ◌∷◌, ◌++◌, length, take, get_or, refl, sym, ◌∙◌, ap, inl, inr, eqb, append_assoc, append-nil}
+use Rattle.std.proofs.Common.{◌≡◌, ℕ, ◌+◌, ◌<◌, ◌≤◌, true, false, not, ◌&&◌, ◌||◌, cond, List, [], ◌∷◌, ◌++◌, length, take, get_or, refl, sym, ◌∙◌, ap, inl, inr, eqb, append_assoc, append-nil, length-append, arith}
 use Rattle.std.specs.List.{flat_map}
 use Rattle.std.proofs.lemmas.Bool.{cases_Bool, or_left, or_right, or_from, or_parts, eq-eqb, ne_eqb, eqb-true, eqb-false, cond-true, cond-false}
-use Rattle.std.proofs.lemmas.List.{take_more}
+use Rattle.std.proofs.lemmas.List.{take_more, take_at, take_all}
 use Rattle.std.proofs.lemmas.List.Folds.{list_any-append}
 use Rattle.std.proofs.lemmas.List.Elements.{filter-append}
 use Rattle.gm_base.specs.Sets.{has, without}
@@ -133,3 +133,56 @@ against-other Conflict Conflict set f = absurd (f refl)
 against-other Conflict Correction set f = refl
 against-other Correction Conflict set f = refl
 against-other Correction Correction set f = absurd (f refl)
+
+-- what comes behind takes nothing away
+first_named-front : (xs ys : List ℕ) → (more : List ℕ) × (first_named (xs ++ ys) ≡ first_named xs ++ more)
+first_named-front xs [] = ([], ap first_named (append-nil xs) ∙ sym (append-nil (first_named xs)))
+first_named-front xs (y ∷ ys) =
+    let (more, is) = first_named-front (xs ++ y ∷ []) ys in
+    let all = ap first_named (sym (append_assoc xs (y ∷ []) ys)) ∙ is in
+    elim (cases_Bool (has xs y)) [
+      | inl known ↦
+          (more, all ∙ ap (λ zs. zs ++ more) (first_named-push xs y ∙ cond-true (has xs y) (first_named xs) (first_named xs ++ y ∷ []) known))
+      | inr new ↦ (
+        y ∷ more,
+        all ∙ ap (λ zs. zs ++ more) (first_named-push xs y ∙ cond-false (has xs y) (first_named xs) (first_named xs ++ y ∷ []) new)
+            ∙ append_assoc (first_named xs) (y ∷ []) more,
+      )
+    ]
+
+-- numbers of which each is there once, and what was added behind them
+pub record AddedTo (before numbers : List ℕ) (i : ℕ) (now : List ℕ) : Type 0 where
+  pub are : now ≡ first_named (before ++ take i numbers)
+  pub differ : AreDistinct before
+
+pub AddedTo-start : (before numbers : List ℕ) → AreDistinct before → AddedTo before numbers 0 before
+AddedTo-start before numbers d =
+    record { are = sym (first_named-same before d) ∙ sym (ap first_named (append-nil before)); differ = d }
+
+pub AddedTo-more : (before numbers : List ℕ) (i : ℕ) (now new : List ℕ) → i < length numbers → AddedTo before numbers i now
+    → new ≡ cond (has now (get_or numbers i 0)) now (now ++ get_or numbers i 0 ∷ []) → AddedTo before numbers (i + 1) new
+AddedTo-more before numbers i now new lt a is =
+    let g = get_or numbers i 0 in
+    let so_far = before ++ take i numbers in
+    let known : has now g ≡ has so_far g = ap (λ xs. has xs g) a.are ∙ has-first_named so_far g in
+    record {
+      are =
+          is ∙ ap (λ b. cond b now (now ++ g ∷ [])) known ∙ ap (λ xs. cond (has so_far g) xs (xs ++ g ∷ [])) a.are
+          ∙ sym (named-more before numbers i lt);
+      differ = a.differ;
+    }
+
+-- what was there stands in front
+pub AddedTo-front : (before numbers : List ℕ) (i : ℕ) (now : List ℕ) → AddedTo before numbers i now
+    → (length before ≤ length now) × (take (length before) now ≡ before)
+AddedTo-front before numbers i now a =
+    let (more, is) = first_named-front before (take i numbers) in
+    let all : now ≡ before ++ more = a.are ∙ is ∙ ap (λ xs. xs ++ more) (first_named-same before a.differ) in
+    let sizes = ap length all ∙ length-append before more in
+    (omega arith, ap (take (length before)) all ∙ take_at before more (length before) refl)
+
+pub all-front : (before more now : List ℕ) → AreDistinct before → now ≡ first_named (before ++ more)
+    → (length before ≤ length now) × (take (length before) now ≡ before)
+all-front before more now d is =
+    AddedTo-front before more (length more) now
+    (record { are = is ∙ ap (λ xs. first_named (before ++ xs)) (sym (take_all (length more) more (omega arith))); differ = d })

@@ -2,7 +2,7 @@
 //!
 //! ```text
 //! let mut names = Naming::new(alloc, Kind::Correction);
-//! for record in records { names = names.also(record.kind(), record.set().as_slice())?; }
+//! for record in records { names.add(record.kind(), record.set().as_slice())?; }
 //! let level = names.level(alloc, groups, most)?;        // at most so many groups are out
 //! let Some(vars) = level.vars() else { .. };            // more variables than a literal can name
 //! let clause = level.clause(alloc, at)?;                // one of its `level.len()` clauses
@@ -28,6 +28,7 @@ mod cells;
 mod counter;
 pub mod laws;
 mod level;
+mod names;
 mod naming;
 mod place;
 

@@ -22,7 +22,7 @@ pub fn level_of(
 {
     let mut naming = Naming::new(alloc, kind);
     for record in records {
-        naming = naming.also(record.kind(), record.set().as_slice())?;
+        naming.add(record.kind(), record.set().as_slice())?;
     }
     naming.level(alloc, groups, most)
 }

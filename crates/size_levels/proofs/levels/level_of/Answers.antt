@@ -13,7 +13,7 @@ pub loop-record-preserved : goal.loop-record-preserved
 loop-record-preserved c =
     let r = c.record-item.result in
     let i = c.loop-record.record-index in
-    c.in_ok-naming.ensures
+    c.in_ok-add.ensures.ok
     ∙ ap (λ (n : Naming). also n c.kind.result c.as_slice.result.now) c.loop-record.invariant
     ∙ ap (λ k. also (naming c.args.kind (founds (take i c.args.records.now))) k c.as_slice.result.now) c.kind.ensures
     ∙ ap (λ (set : List ℕ). also (naming c.args.kind (founds (take i c.args.records.now))) (kind_of r) set) (c.as_slice.ensures.groups ∙ c.set.ensures)
