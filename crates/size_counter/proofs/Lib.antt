@@ -1,0 +1,10 @@
+pub mod SizeLemmas
+pub mod ValueLemmas
+pub mod FewLemmas
+pub mod BoundLemmas
+pub mod GrowthLemmas
+pub mod RangeLemmas
+pub mod PlaceLemmas
+pub mod NameLemmas
+pub mod KnownLemmas
+pub mod LevelLemmas

@@ -1,0 +1,9 @@
+pub mod Sizes
+pub mod Counter
+pub mod Places
+pub mod Names
+pub mod Known
+pub mod Levels
+pub mod Laws
+pub mod LevelLaws
+pub mod Rows

@@ -1,0 +1,4 @@
+pub mod Sizes
+pub mod Shown
+pub mod Laws
+pub mod Rows
