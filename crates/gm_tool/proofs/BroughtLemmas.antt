@@ -38,26 +38,32 @@ use Rattle.gm_tool.proofs.AppendedLemmas.{all-by_each}
 
 -- ---- lists
 
+-- what is so of each is so by what follows from it
 all-map : {A : Type 0} (P Q : A → Type 0) → ((x : A) → P x → Q x) → (xs : List A) → AllByRecursion P xs → AllByRecursion Q xs
 all-map P Q f [] all = tt
 all-map P Q f (x ∷ xs) all = (f x all.0, all-map P Q f xs all.1)
 
+-- two facts of each are both facts of each
 all-both : {A : Type 0} (P Q : A → Type 0) (xs : List A) → AllByRecursion P xs → AllByRecursion Q xs → AllByRecursion (λ x. P x × Q x) xs
 all-both P Q [] a b = tt
 all-both P Q (x ∷ xs) a b = ((a.0, b.0), all-both P Q xs a.1 b.1)
 
+-- each element is in its list
 all-in : {A : Type 0} (xs : List A) → AllByRecursion (λ x. In x xs) xs
 all-in [] = tt
 all-in (x ∷ xs) = (inl refl, all-map (λ y. In y xs) (λ y. In y (x ∷ xs)) (λ y there. inr there) xs (all-in xs))
 
+-- what is so of each of two lists is so of each of both together
 all-join : {A : Type 0} (P : A → Type 0) (xs ys : List A) → AllByRecursion P xs → AllByRecursion P ys → AllByRecursion P (xs ++ ys)
 all-join P [] ys a b = b
 all-join P (x ∷ xs) ys a b = (a.0, all-join P xs ys a.1 b)
 
+-- .. and of each of the first part of a list
 all-first : {A : Type 0} (P : A → Type 0) (xs ys : List A) → AllByRecursion P (xs ++ ys) → AllByRecursion P xs
 all-first P [] ys a = tt
 all-first P (x ∷ xs) ys a = (a.0, all-first P xs ys a.1)
 
+-- .. and of each of the rest
 pub all-last : {A : Type 0} (P : A → Type 0) (xs ys : List A) → AllByRecursion P (xs ++ ys) → AllByRecursion P ys
 all-last P [] ys a = a
 all-last P (x ∷ xs) ys a = all-last P xs ys a.1
@@ -78,6 +84,7 @@ own-brought P w (e ∷ es) all =
 abbrev HasTextOf : (Record → Type 0) → EntryView → Type 0
 HasTextOf Q e = (r : Record) × ((e.text ≡ written_of r) × Q r)
 
+-- entries whose texts are those of records, one by one, have texts of such records
 has-texts : (Q : Record → Type 0) (ws : List EntryView) (rs : List Record) → map text_in ws ≡ map written_of rs → AllByRecursion Q rs → AllByRecursion (HasTextOf Q) ws
 has-texts Q [] rs same all = tt
 has-texts Q (e ∷ ws) [] same all = absurd (cc)
@@ -100,6 +107,7 @@ brought-more Q w ws appended.Closed found is q rs same all = (rs, (same, all))
 brought-more Q w ws (appended.Failed count) found is q rs same all = (found ∷ rs, ((ap (λ (x : Written). x ∷ map written_of rs) (sym is) ∙ ap (λ (l : List Written). w ∷ l) same), (q, all)))
 brought-more Q w ws appended.Memory found is q rs same all = (rs, (same, all))
 
+-- over a history: each text that was tried is that of a record of which this is so
 brought : (Q : Record → Type 0) (log : List EntryView) → AllByRecursion (HasTextOf Q) log → Brought Q log
 brought Q [] all = record { records = []; texts = refl; all = tt }
 brought Q (e ∷ es) all =
@@ -145,6 +153,7 @@ kept-tried-more w appended.Closed rest ks ts f h = f h
 kept-tried-more w (appended.Failed count) rest ks ts f h = absurd (false≢true (sym h))
 kept-tried-more w appended.Memory rest ks ts f h = f h
 
+-- over a history in which none failed
 pub kept-tried : (log : List EntryView) → has_failed log ≡ false → kept_in log ≡ tried_in log
 kept-tried [] none = refl
 kept-tried (e ∷ es) none = kept-tried-more e.text e.reply (has_failed es) (kept_in es) (tried_in es) (kept-tried es) none
@@ -179,6 +188,7 @@ module _ (o : Opening) (keeps : Bool) (logs : List (List LogStep)) (closing : Cl
 
 -- ---- which of them are there
 
+-- a set is the same as itself
 same-self : (f : Found) → is_same f f ≡ true
 same-self f = by f.kind (same-refl f.set)
   where
@@ -186,6 +196,7 @@ same-self f = by f.kind (same-refl f.set)
     by Conflict is = is
     by Correction is = is
 
+-- a set that is among those of records is that of one of them
 record-among : (rs : List Record) (f : Found) → is_among (founds rs) f ≡ true → (q : Record) × (In q rs × (found_of q ≡ f))
 record-among [] f is = absurd (false≢true is)
 record-among (r ∷ rs) f is =
@@ -194,6 +205,7 @@ record-among (r ∷ rs) f is =
       | inr there ↦ let more = record-among rs f there in (more.0, (inr more.1.0, more.1.1))
     ]
 
+-- and the set of a record is among those of the list that it is in
 among-record : (rs : List Record) (r : Record) → In r rs → is_among (founds rs) (found_of r) ≡ true
 among-record [] r is = absurd is
 among-record (x ∷ xs) r (inl is) = or_left (is_same (found_of x) (found_of r)) (is_among (founds xs) (found_of r)) (ap (λ (y : Record). is_same (found_of y) (found_of r)) (sym is) ∙ same-self (found_of r))

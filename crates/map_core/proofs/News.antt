@@ -58,6 +58,7 @@ news_does s t u (Post kind set r) engine Dry records h = refl
 news_does s t u (Post kind set r) engine Stopped records h = refl
 news_does s t u (Post kind set r) engine Retired records h = refl
 
+-- so a step adds what its call brought
 brought_step : (s t : State) (e : Entry) → CoreStep s e t → t.records ≡ s.records ++ brought_by e.call e.reply
 brought_step s t e step =
     ap (λ (x : State). x.records) step.is
@@ -71,6 +72,7 @@ brought s t (e ∷ es) run =
     ∙ ap (λ l. l ++ brought_in es) (brought_step s run.0 e run.1)
     ∙ append_assoc s.records (brought_by e.call e.reply) (brought_in es)
 
+-- their kinds and sets are those that the run calls new
 news : (s t : State) (log : List Entry) → CoreRun s log t → founds (brought_in log) ≡ new_in log
 news s t [] run = refl
 news s t (e ∷ es) run =
@@ -97,10 +99,12 @@ alone_does s t u (Post kind set r) engine Dry records h = tt
 alone_does s t u (Post kind set r) engine Stopped records h = tt
 alone_does s t u (Post kind set r) engine Retired records h = tt
 
+-- what is so of each of two lists is so of each of both together
 all-join : {A : Type 0} (P : A → Type 0) (xs ys : List A) → AllByRecursion P xs → AllByRecursion P ys → AllByRecursion P (xs ++ ys)
 all-join P [] ys a b = b
 all-join P (x ∷ xs) ys a b = (a.0, all-join P xs ys a.1 b)
 
+-- over a run
 alone : (s t : State) (log : List Entry) → CoreRun s log t → AllByRecursion (IsAcceptedAlone s.opening.problem) (brought_in log)
 alone s t [] run = tt
 alone s t (e ∷ es) run =
@@ -109,10 +113,12 @@ alone s t (e ∷ es) run =
     (alone_does s (settle e.used (turn_at s e.worker)) step.turn e.call e.engine e.reply step.records step.does)
     (subst (λ (x : State). AllByRecursion (IsAcceptedAlone x.opening.problem) (brought_in es)) step.is (alone run.0 t es run.2))
 
+-- what a run adds, whose sets these are, and that each is accepted
 pub new_are_brought : (s t : State) (log : List Entry) → CoreRun s log t → (t.records ≡ s.records ++ brought_in log) × (founds (brought_in log) ≡ new_in log)
     × AllByRecursion (IsAcceptedAlone s.opening.problem) (brought_in log)
 new_are_brought s t log run = (brought s t log run, news s t log run, alone s t log run)
 
+-- so the sets that are held are those before, and then the new ones
 pub new_are_held : (s t : State) (log : List Entry) → CoreRun s log t → founds t.records ≡ founds s.records ++ new_in log
 new_are_held s t log run =
     ap founds (brought s t log run)

@@ -17,36 +17,47 @@ use Rattle.evidence_rec.specs.declared.engine.MapEngine.{Ghosts}
 use Rattle.map_core.specs.contracts.calls.MapCore as core
 use Rattle.map_core.specs.contracts.calls.MapCore.TheInside as inside
 
+-- an entry is numbers, sets and a snapshot, which any thread may have
 pub entry_send : IsSend the_row
 entry_send = search (sendable, crosses) depth 40
 
+-- a problem is lists of numbers
 pub problem_send : IsSend problem.the_row
 problem_send = search (sendable, crosses) depth 40
 
+-- steps stand in blocks that are shared and never written again
 pub steps_send : IsSend steps.the_row
 steps_send = search (sendable, crosses) depth 40
 
+-- so threads may read them together
 pub steps_sync : IsSync steps.the_row
 steps_sync = search (sendable, crosses) depth 40
 
+-- a cone is a share of such steps
 pub cone_send : IsSend cone.the_row
 cone_send = search (steps_send, steps_sync, sendable, crosses) depth 40
 
+-- and is read only
 pub cone_sync : IsSync cone.the_row
 cone_sync = search (steps_send, steps_sync, sendable, crosses) depth 40
 
+-- a derivation is steps, or a share of them with a cone
 pub derivation_send : IsSend derivation.the_row
 derivation_send = search (steps_send, steps_sync, cone_send, cone_sync, sendable, crosses) depth 40
 
+-- a record is a set with an assignment or a derivation
 pub found_send : IsSend found.the_row
 found_send = search (derivation_send, sendable, crosses) depth 40
 
+-- the sets that are held stand in maps of numbers
 pub held_send : IsSend held.the_row
 held_send = search (maps.crosses, sendable, crosses) depth 40
 
+-- a tally is counts by group
 pub tally_send : IsSend tally.the_row
 tally_send = search (sendable, crosses) depth 40
 
+-- as a field of the core
 problem_field : IsSend (as_row problem.the_field)
 problem_field = as_row_send problem.the_field problem_send
 

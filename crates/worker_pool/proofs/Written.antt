@@ -49,6 +49,7 @@ pub new_in-push : (es : List Entry) (e : Entry) → new_in (es ++ e ∷ []) ≡ 
 new_in-push es e =
     flat_map-append (λ (x : Entry). news_by x.call x.reply) es (e ∷ []) ∙ ap (λ (fs : List Found). new_in es ++ fs) (append-nil (news_by e.call e.reply))
 
+-- one entry more brings what its call does
 pub brought_in-push : (es : List Entry) (e : Entry) → brought_in (es ++ e ∷ []) ≡ brought_in es ++ brought_by e.call e.reply
 brought_in-push es e =
     flat_map-append (λ (x : Entry). brought_by x.call x.reply) es (e ∷ []) ∙ ap (λ (rs : List Record). brought_in es ++ rs) (append-nil (brought_by e.call e.reply))
