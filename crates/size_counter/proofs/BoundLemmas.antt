@@ -12,7 +12,7 @@ use Rattle.gm_base.specs.declared.kind.Kind.{Kind}
 use Rattle.gm_base.proofs.SetLemmas.{all_groups-has, has-head}
 use Rattle.std.proofs.lemmas.Bool.{or_right}
 use Rattle.size_counter.proofs.SizeLemmas.{length-filter_le}
-use Rattle.size_counter.specs.Counter.{counted, at_least, carried, raised, cell, cells, row_of, rows_behind, counter, limit, count_in, IsOrder}
+use Rattle.size_counter.specs.Counter.{counted, at_least, carried, raised, cell, cells, counter_row, rows_behind, counter, limit, how_many_count, IsOrder}
 use Rattle.size_counter.proofs.FewLemmas.{one_if, counted-low}
 
 -- where the one is true, so is the other; where two are, so is the third
@@ -26,6 +26,7 @@ two-then values l m low holds t =
     by true h = refl
     by false h = absurd (false≢true h)
 
+-- the same of a clause with two negations: where both literals are true, so is the third
 three-then : (values : List Bool) (k l m : ℤ) → 0 < var_of k → 0 < var_of l
     → clause_true values (neg_ℤ k ∷ neg_ℤ l ∷ m ∷ []) ≡ true
     → literal_true values k ≡ true → literal_true values l ≡ true → literal_true values m ≡ true
@@ -100,7 +101,7 @@ module _ (groups bound : ℕ) (values : List Bool) where
   one-small false = omega arith
 
   row-reached : (rows count : ℕ) (lit : ℤ) → 0 < var_of lit → Reached rows count
-      → list_all (clause_true values) (row_of groups bound rows lit) ≡ true
+      → list_all (clause_true values) (counter_row groups bound rows lit) ≡ true
       → Reached (rows + 1) (count + one_if (literal_true values lit))
   row-reached rows count lit low r all =
       record {
@@ -135,7 +136,7 @@ module _ (groups bound : ℕ) (values : List Bool) where
 
   rows-reached : (kind : Kind) (rows count : ℕ) (gs : List ℕ) → ((g : ℕ) → has gs g ≡ true → has (all_groups groups) g ≡ true)
       → Reached rows count → list_all (clause_true values) (rows_behind groups bound kind rows gs) ≡ true
-      → Reached (rows + length gs) (count + count_in values kind gs)
+      → Reached (rows + length gs) (count + how_many_count values kind gs)
   rows-reached kind rows count [] within r all =
       subst (λ n. Reached n (count + 0)) (plus_zero rows) (subst (Reached rows) (plus_zero count) r)
     where
@@ -144,11 +145,11 @@ module _ (groups bound : ℕ) (values : List Bool) where
   rows-reached kind rows count (g ∷ gs) within r all =
       let lit = counted kind g in
       let range = all_groups-has groups g (within g (has-head g gs)) in
-      let parts = and_parts (list_all (clause_true values) (row_of groups bound rows lit)) (list_all (clause_true values) (rows_behind groups bound kind (rows + 1) gs))
-      (sym (list_all-append (clause_true values) (row_of groups bound rows lit) (rows_behind groups bound kind (rows + 1) gs)) ∙ all) in
+      let parts = and_parts (list_all (clause_true values) (counter_row groups bound rows lit)) (list_all (clause_true values) (rows_behind groups bound kind (rows + 1) gs))
+      (sym (list_all-append (clause_true values) (counter_row groups bound rows lit) (rows_behind groups bound kind (rows + 1) gs)) ∙ all) in
       let next = row-reached rows count lit (counted-low kind g range.0) r parts.0 in
       let rest = rows-reached kind (rows + 1) (count + one_if (literal_true values lit)) gs (λ h i. within h (or_right (eqb g h) (has gs h) i)) next parts.1 in
-      subst (λ n. Reached n (count + count_in values kind (g ∷ gs))) rows_is
+      subst (λ n. Reached n (count + how_many_count values kind (g ∷ gs))) rows_is
       (subst (λ n. Reached (rows + 1 + length gs) n) (counts (literal_true values lit)) rest)
     where
       rows_is : rows + 1 + length gs ≡ rows + length (g ∷ gs)
@@ -157,19 +158,20 @@ module _ (groups bound : ℕ) (values : List Bool) where
       test : ℕ → Bool
       test h = literal_true values (counted kind h)
 
-      counts : (b : Bool) → count + one_if b + count_in values kind gs ≡ count + length (cond b (g ∷ filter (λ h. literal_true values (counted kind h)) gs) (filter (λ h. literal_true values (counted kind h)) gs))
+      counts : (b : Bool) → count + one_if b + how_many_count values kind gs ≡ count + length (cond b (g ∷ filter (λ h. literal_true values (counted kind h)) gs) (filter (λ h. literal_true values (counted kind h)) gs))
       counts true = omega arith
       counts false = omega arith
 
+-- if more than the bound were counted, the last row would be true in the column above it, which the limit denies
 pub extended-few : (groups bound : ℕ) (kind : Kind) (order : List ℕ) (values : List Bool) → IsOrder groups order
     → list_all (clause_true values) (counter groups bound kind order) ≡ true
     → list_all (literal_true values) (limit groups bound order) ≡ true
-    → count_in values kind order ≤ bound
+    → how_many_count values kind order ≤ bound
 extended-few groups bound kind order values o all limited =
     let start : Reached groups bound values 0 0 = record { few = omega arith; reached = λ column low high within. absurd (omega arith) } in
     let r = rows-reached groups bound values kind 0 0 order o.within start all in
     let fits = length-filter_le (λ g. literal_true values (counted kind g)) order in
-    elim (cases_lt bound (count_in values kind order)) [
+    elim (cases_lt bound (how_many_count values kind order)) [
       | inr few ↦ few
       | inl many ↦
           let last = at_least groups bound (length order) (bound + 1) in

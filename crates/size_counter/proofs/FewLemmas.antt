@@ -15,8 +15,8 @@ use Rattle.gm_base.specs.declared.kind.Kind.{Kind}
 use Rattle.gm_base.specs.declared.kind.Kind.TheVariants.{Conflict, Correction}
 use Rattle.gm_base.proofs.SetLemmas.{all_groups-has, has-head}
 use Rattle.size_counter.proofs.SizeLemmas.{distinct-fit}
-use Rattle.size_counter.specs.Counter.{counted, at_least, counter_vars, carried, raised, cell, cells, row_of, rows_behind, counter, limit, count_in, IsOrder}
-use Rattle.size_counter.specs.Laws.{Extends}
+use Rattle.size_counter.specs.Counter.{counted, at_least, counter_vars, carried, raised, cell, cells, counter_row, rows_behind, counter, limit, how_many_count, IsOrder}
+use Rattle.size_counter.specs.Laws.{ExtendsAssignment}
 use Rattle.size_counter.proofs.ValueLemmas.{count_to, extended, length-extended, take-extended, at_least-extended, counted-extended}
 
 -- a clause that says that the one implies the other, and one that says that two do
@@ -29,6 +29,7 @@ two-true values l m low implies =
     by false b h = refl
     by true b h = ap (λ x. x || false) (h refl)
 
+-- where two literals imply a third, the clause of their negations and the third is true
 pub three-true : (values : List Bool) (k l m : ℤ) → 0 < var_of k → 0 < var_of l
     → (literal_true values k ≡ true → literal_true values l ≡ true → literal_true values m ≡ true)
     → clause_true values (neg_ℤ k ∷ neg_ℤ l ∷ m ∷ []) ≡ true
@@ -50,11 +51,13 @@ pub record Says (groups bound most : ℕ) (values : List Bool) (count : ℕ → 
   says : (row column : ℕ) → 0 < row → row ≤ most → 0 < column → column ≤ bound + 1
       → literal_true values (at_least groups bound row column) ≡ leb column (count row)
 
+-- in or out, what is counted of a group has the group's variable
 var_of-counted : (kind : Kind) (g : ℕ) → var_of (counted kind g) ≡ g
 var_of-counted Conflict g = refl
 var_of-counted Correction zero = refl
 var_of-counted Correction (suc g) = refl
 
+-- groups begin at 1, so what is counted of one is a literal
 pub counted-low : (kind : Kind) (g : ℕ) → 0 < g → 0 < var_of (counted kind g)
 counted-low kind g low = let is = var_of-counted kind g in omega arith
 
@@ -140,16 +143,16 @@ module _ (groups bound most : ℕ) (values : List Bool) (count : ℕ → ℕ) (s
   rows-true kind rows [] fit rises = refl
   rows-true kind rows (g ∷ gs) fit rises =
       let rise = rises.0 in
-      list_all-append (clause_true values) (row_of groups bound rows (counted kind g)) (rows_behind groups bound kind (rows + 1) gs)
-      ∙ and_from (list_all (clause_true values) (row_of groups bound rows (counted kind g)))
+      list_all-append (clause_true values) (counter_row groups bound rows (counted kind g)) (rows_behind groups bound kind (rows + 1) gs)
+      ∙ and_from (list_all (clause_true values) (counter_row groups bound rows (counted kind g)))
       (list_all (clause_true values) (rows_behind groups bound kind (rows + 1) gs))
       (cells-true rows (counted kind g) (min (rows + 1) (bound + 1)) (omega arith) (omega arith) (omega arith) (counted-low kind g rises.1) rise)
       (rows-true kind (rows + 1) gs (omega arith) rises.2)
 
 -- how many are counted, with one group more
-pub count_in-push : (values : List Bool) (kind : Kind) (gs : List ℕ) (g : ℕ)
-    → count_in values kind (gs ++ g ∷ []) ≡ count_in values kind gs + one_if (literal_true values (counted kind g))
-count_in-push values kind gs g =
+pub how_many_count-push : (values : List Bool) (kind : Kind) (gs : List ℕ) (g : ℕ)
+    → how_many_count values kind (gs ++ g ∷ []) ≡ how_many_count values kind gs + one_if (literal_true values (counted kind g))
+how_many_count-push values kind gs g =
     let test = λ (h : ℕ). literal_true values (counted kind h) in
     let split = ap length (filter-append test gs (g ∷ [])) ∙ length-append (filter test gs) (filter test (g ∷ [])) in
     split ∙ ap (λ n. length (filter test gs) + n) (one (test g))
@@ -205,18 +208,18 @@ module _ (groups bound : ℕ) (assign : List Bool) (kind : Kind) (order : List �
       rise : count_to assign kind order (length front + 1)
           ≡ count_to assign kind order (length front) + one_if (literal_true (extended bound assign kind order (length order)) (counted kind g))
       rise =
-          ap (count_in assign kind) behind ∙ count_in-push assign kind front g
-          ∙ ap (λ b. count_in assign kind front + one_if b) (sym (counted-extended groups bound assign kind order total (length order) g range.0 range.1))
-          ∙ ap (λ xs. count_in assign kind xs + one_if (literal_true (extended bound assign kind order (length order)) (counted kind g))) (sym before)
+          ap (how_many_count assign kind) behind ∙ how_many_count-push assign kind front g
+          ∙ ap (λ b. how_many_count assign kind front + one_if b) (sym (counted-extended groups bound assign kind order total (length order) g range.0 range.1))
+          ∙ ap (λ xs. how_many_count assign kind xs + one_if (literal_true (extended bound assign kind order (length order)) (counted kind g))) (sym before)
 
-  limit-true : count_in assign kind order ≤ bound → list_all (literal_true all_values) (limit groups bound order) ≡ true
+  limit-true : how_many_count assign kind order ≤ bound → list_all (literal_true all_values) (limit groups bound order) ≡ true
   limit-true few =
       cond_both (ltb bound (length order)) (neg_ℤ (at_least groups bound (length order) (bound + 1)) ∷ []) []
       (λ lits. list_all (literal_true (extended bound assign kind order (length order))) lits ≡ true)
       (λ e.
       let many = ltb-true bound (length order) e in
       let last = at_least groups bound (length order) (bound + 1) in
-      let whole = ap (count_in assign kind) (take_all (length order) order (omega arith)) in
+      let whole = ap (how_many_count assign kind) (take_all (length order) order (omega arith)) in
       and_from (literal_true (extended bound assign kind order (length order)) (neg_ℤ last)) true
       (literal_true-neg (extended bound assign kind order (length order)) last (omega arith)
       ∙ ap not
@@ -225,10 +228,11 @@ module _ (groups bound : ℕ) (assign : List Bool) (kind : Kind) (order : List �
       refl)
       (λ e. refl)
 
+-- each of the counter's variables gets the value of what it says; then all clauses are true, and the limit is
 pub few-extend : (groups bound : ℕ) (kind : Kind) (order : List ℕ) (assign : List Bool) → IsOrder groups order
-    → length assign ≡ groups → count_in assign kind order ≤ bound
+    → length assign ≡ groups → how_many_count assign kind order ≤ bound
     → (values : List Bool)
-    × Extends groups (counter_vars groups bound (length order)) (counter groups bound kind order) (limit groups bound order) assign values
+    × ExtendsAssignment groups (counter_vars groups bound (length order)) (counter groups bound kind order) (limit groups bound order) assign values
 few-extend groups bound kind order assign o total few = (
   extended bound assign kind order (length order),
   record {

@@ -4,24 +4,26 @@ use Rattle.std.specs.Prelude.{ℤ, neg_ℤ}
 use Rattle.std.proofs.lemmas.Bool.{cases_lt, lt-ltb, le-ltb, cond-true, cond-false}
 use Rattle.std.proofs.lemmas.List.{length-take-le, take_more}
 use Rattle.gm_base.specs.declared.kind.Kind.{Kind}
-use Rattle.size_counter.specs.Counter.{counted, at_least, carried, raised, cell, cells, row_of, rows_behind, counter}
+use Rattle.size_counter.specs.Counter.{counted, at_least, carried, raised, cell, cells, counter_row, rows_behind, counter}
 
+-- the rows of more groups stand behind those of the first ones, and count these as rows before them
 pub rows_behind-append : (groups bound : ℕ) (kind : Kind) (rows : ℕ) (front gs : List ℕ)
     → rows_behind groups bound kind rows (front ++ gs) ≡ rows_behind groups bound kind rows front ++ rows_behind groups bound kind (rows + length front) gs
 rows_behind-append groups bound kind rows [] gs = ap (λ n. rows_behind groups bound kind n gs) (omega arith)
 rows_behind-append groups bound kind rows (g ∷ front) gs =
-    let row = row_of groups bound rows (counted kind g) in
+    let row = counter_row groups bound rows (counted kind g) in
     let at : rows + 1 + length front ≡ rows + length (g ∷ front) = omega arith in
     ap (λ (cs : List (List ℤ)). row ++ cs) (rows_behind-append groups bound kind (rows + 1) front gs)
     ∙ sym (append_assoc row (rows_behind groups bound kind (rows + 1) front) (rows_behind groups bound kind (rows + 1 + length front) gs))
     ∙ ap (λ n. (row ++ rows_behind groups bound kind (rows + 1) front) ++ rows_behind groups bound kind n gs) at
 
+-- the row of a group at the end stands behind those of all others
 pub group-row : (groups bound : ℕ) (kind : Kind) (order : List ℕ) (g : ℕ)
-    → counter groups bound kind (order ++ g ∷ []) ≡ counter groups bound kind order ++ row_of groups bound (length order) (counted kind g)
+    → counter groups bound kind (order ++ g ∷ []) ≡ counter groups bound kind order ++ counter_row groups bound (length order) (counted kind g)
 group-row groups bound kind order g =
     rows_behind-append groups bound kind 0 order (g ∷ [])
     ∙ ap (λ n. counter groups bound kind order ++ rows_behind groups bound kind n (g ∷ [])) (zero_plus (length order))
-    ∙ ap (λ (cs : List (List ℤ)). counter groups bound kind order ++ cs) (append-nil (row_of groups bound (length order) (counted kind g)))
+    ∙ ap (λ (cs : List (List ℤ)). counter groups bound kind order ++ cs) (append-nil (counter_row groups bound (length order) (counted kind g)))
   where
     zero_plus : (n : ℕ) → 0 + n ≡ n
     zero_plus n = omega arith
@@ -36,6 +38,7 @@ length-cell groups bound rows columns lit =
     by true c r = omega arith
     by false c r = omega arith
 
+-- each cell has the clause of its group, and as long as the column is below the row the other one too
 pub length-cells : (groups bound rows : ℕ) (lit : ℤ) (n : ℕ) → length (cells groups bound rows lit n) ≡ n + min rows n
 length-cells groups bound rows lit zero = omega arith
 length-cells groups bound rows lit (suc c) =
@@ -51,6 +54,7 @@ length-cells groups bound rows lit (suc c) =
 abbrev counter_size : ℕ → ℕ → ℕ
 counter_size b rows = 2 * rows * min rows b - min rows b * min rows b
 
+-- with one row more the formula grows by the clauses of that row, in a row of full width as in one below it
 size-next : (b rows : ℕ) → 0 < b → 2 * (rows + 1) * min (rows + 1) b + min rows b * min rows b
     ≡ 2 * rows * min rows b + min (rows + 1) b * min (rows + 1) b + (min (rows + 1) b + min rows (min (rows + 1) b))
 size-next b rows low =
@@ -66,6 +70,7 @@ size-next b rows low =
           rw (now, next, now) (omega arith)
     ]
 
+-- behind some rows come as many clauses as the formula has more with all rows than with these
 size-from : (groups bound : ℕ) (kind : Kind) (rows : ℕ) (gs : List ℕ)
     → length (rows_behind groups bound kind rows gs) + 2 * rows * min rows (bound + 1) + min (rows + length gs) (bound + 1) * min (rows + length gs) (bound + 1)
     ≡ 2 * (rows + length gs) * min (rows + length gs) (bound + 1) + min rows (bound + 1) * min rows (bound + 1)
@@ -74,11 +79,11 @@ size-from groups bound kind rows [] =
     rw same (omega arith)
 size-from groups bound kind rows (g ∷ gs) =
     let row = length-cells groups bound rows (counted kind g) (min (rows + 1) (bound + 1)) in
-    let split = length-append (row_of groups bound rows (counted kind g)) (rows_behind groups bound kind (rows + 1) gs) in
+    let split = length-append (counter_row groups bound rows (counted kind g)) (rows_behind groups bound kind (rows + 1) gs) in
     let rest = size-from groups bound kind (rows + 1) gs in
     let next = size-next (bound + 1) rows (omega arith) in
     let at : rows + 1 + length gs ≡ rows + length (g ∷ gs) = omega arith in
-    join (length (row_of groups bound rows (counted kind g))) (length (rows_behind groups bound kind (rows + 1) gs)) (rows + length (g ∷ gs)) split row
+    join (length (counter_row groups bound rows (counted kind g))) (length (rows_behind groups bound kind (rows + 1) gs)) (rows + length (g ∷ gs)) split row
     (subst (λ n. length (rows_behind groups bound kind (rows + 1) gs) + 2 * (rows + 1) * min (rows + 1) (bound + 1) + min n (bound + 1) * min n (bound + 1)
     ≡ 2 * n * min n (bound + 1) + min (rows + 1) (bound + 1) * min (rows + 1) (bound + 1)) at rest)
     next
@@ -86,20 +91,21 @@ size-from groups bound kind rows (g ∷ gs) =
     linear : (one more all a nn n2 b c d e : ℕ) → all ≡ one + more → one ≡ e → more + a + nn ≡ n2 + b → a + c ≡ d + b + e → all + d + nn ≡ n2 + c
     linear one more all a nn n2 b c d e p q r s = omega arith
 
-    join : (one more n : ℕ) → length (row_of groups bound rows (counted kind g) ++ rows_behind groups bound kind (rows + 1) gs) ≡ one + more
+    join : (one more n : ℕ) → length (counter_row groups bound rows (counted kind g) ++ rows_behind groups bound kind (rows + 1) gs) ≡ one + more
         → one ≡ min (rows + 1) (bound + 1) + min rows (min (rows + 1) (bound + 1))
         → more + 2 * (rows + 1) * min (rows + 1) (bound + 1) + min n (bound + 1) * min n (bound + 1)
         ≡ 2 * n * min n (bound + 1) + min (rows + 1) (bound + 1) * min (rows + 1) (bound + 1)
         → 2 * (rows + 1) * min (rows + 1) (bound + 1) + min rows (bound + 1) * min rows (bound + 1)
         ≡ 2 * rows * min rows (bound + 1) + min (rows + 1) (bound + 1) * min (rows + 1) (bound + 1) + (min (rows + 1) (bound + 1) + min rows (min (rows + 1) (bound + 1)))
-        → length (row_of groups bound rows (counted kind g) ++ rows_behind groups bound kind (rows + 1) gs) + 2 * rows * min rows (bound + 1) + min n (bound + 1) * min n (bound + 1)
+        → length (counter_row groups bound rows (counted kind g) ++ rows_behind groups bound kind (rows + 1) gs) + 2 * rows * min rows (bound + 1) + min n (bound + 1) * min n (bound + 1)
         ≡ 2 * n * min n (bound + 1) + min rows (bound + 1) * min rows (bound + 1)
     join one more n whole row rest next = linear one more
-        (length (row_of groups bound rows (counted kind g) ++ rows_behind groups bound kind (rows + 1) gs))
+        (length (counter_row groups bound rows (counted kind g) ++ rows_behind groups bound kind (rows + 1) gs))
         (2 * (rows + 1) * min (rows + 1) (bound + 1)) (min n (bound + 1) * min n (bound + 1)) (2 * n * min n (bound + 1))
         (min (rows + 1) (bound + 1) * min (rows + 1) (bound + 1)) (min rows (bound + 1) * min rows (bound + 1)) (2 * rows * min rows (bound + 1))
         (min (rows + 1) (bound + 1) + min rows (min (rows + 1) (bound + 1))) whole row rest next
 
+-- the same from the first row on, where the formula has nothing before
 pub counter-size : (groups bound : ℕ) (kind : Kind) (order : List ℕ)
     → length (counter groups bound kind order) + min (length order) (bound + 1) * min (length order) (bound + 1)
     ≡ 2 * length order * min (length order) (bound + 1)
@@ -126,9 +132,9 @@ counter-size groups bound kind order =
 
 -- the rows of the first groups, with one more
 pub counter-next : (groups bound : ℕ) (kind : Kind) (order : List ℕ) (i : ℕ) → i < length order
-    → counter groups bound kind (take i order) ++ row_of groups bound i (counted kind (get_or order i 0)) ≡ counter groups bound kind (take (i + 1) order)
+    → counter groups bound kind (take i order) ++ counter_row groups bound i (counted kind (get_or order i 0)) ≡ counter groups bound kind (take (i + 1) order)
 counter-next groups bound kind order i lt =
     let len : length (take i order) ≡ i = length-take-le i order (omega arith) in
-    ap (λ n. counter groups bound kind (take i order) ++ row_of groups bound n (counted kind (get_or order i 0))) (sym len)
+    ap (λ n. counter groups bound kind (take i order) ++ counter_row groups bound n (counted kind (get_or order i 0))) (sym len)
     ∙ sym (group-row groups bound kind (take i order) (get_or order i 0))
     ∙ ap (counter groups bound kind) (sym (take_more order i 0 lt))

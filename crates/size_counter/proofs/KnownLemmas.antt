@@ -12,6 +12,7 @@ use Rattle.size_counter.specs.Sizes.{AreDistinct}
 use Rattle.size_counter.specs.Known.{KnowsAll, Knows}
 use Rattle.size_counter.proofs.NameLemmas.{has-push}
 
+-- the order of the set finds two numbers equal just if they are
 pub is_eq-nat_cmp : (x y : ℕ) → is_eq (nat_cmp x y) ≡ eqb x y
 is_eq-nat_cmp x y =
     elim (cases_order x y) [
@@ -37,11 +38,13 @@ KnowsAll-push old new numbers g knows updates q =
     by false true = refl
     by false false = refl
 
+-- the same if the number is the next one of a list
 pub KnowsAll-more : (old new : BTreeSet ℕ) (numbers : List ℕ) (i : ℕ) → i < length numbers → KnowsAll old (take i numbers)
     → Updates nat_cmp old new (get_or numbers i 0) true → KnowsAll new (take (i + 1) numbers)
 KnowsAll-more old new numbers i lt knows updates =
     subst (KnowsAll new) (sym (take_more numbers i 0 lt)) (KnowsAll-push old new (take i numbers) (get_or numbers i 0) knows updates)
 
+-- numbers that differ still do with one behind them that none of them is
 distinct-push : (xs : List ℕ) (g : ℕ) → AreDistinct xs → has xs g ≡ false → AreDistinct (xs ++ g ∷ [])
 distinct-push [] g d new = (refl, tt)
 distinct-push (x ∷ xs) g d new =
@@ -56,11 +59,13 @@ pub Knows-new : (old new : BTreeSet ℕ) (numbers : List ℕ) (g : ℕ) → Know
 Knows-new old new numbers g k added updates =
     (distinct-push numbers g k.0 (sym (k.1 g) ∙ not-true (contains nat_cmp old g) (sym added)), KnowsAll-push old new numbers g k.1 updates)
 
+-- of numbers that differ the first ones do
 distinct-front : (xs ys : List ℕ) → AreDistinct (xs ++ ys) → AreDistinct xs
 distinct-front [] ys d = tt
 distinct-front (x ∷ xs) ys d =
     (false_from_ne_true (has xs x) (λ h. absurd (false≢true (sym d.0 ∙ (list_any-append (λ k. eqb k x) xs ys ∙ or_left (has xs x) (has ys x) h)))), distinct-front xs ys d.1)
 
+-- and the last one is not among those before it
 not-in-front : (xs : List ℕ) (g : ℕ) → AreDistinct (xs ++ g ∷ []) → has xs g ≡ false
 not-in-front [] g d = refl
 not-in-front (x ∷ xs) g d =
@@ -95,6 +100,7 @@ pub record CutTo (whole : List ℕ) (len : ℕ) (known : BTreeSet ℕ) (numbers 
   pub least : len ≤ length numbers
   pub knows : Knows known numbers
 
+-- without the last one they are still the first ones, and no fewer than wanted are left
 pub CutTo-pop : (whole : List ℕ) (len : ℕ) (old new : BTreeSet ℕ) (numbers front : List ℕ) (g : ℕ) → len < length numbers
     → CutTo whole len old numbers → numbers ≡ front ++ g ∷ [] → Updates nat_cmp old new g false → CutTo whole len new front
 CutTo-pop whole len old new numbers front g more c is updates =

@@ -15,10 +15,10 @@ use Rattle.gm_base.specs.declared.kind.Kind.TheVariants.{Conflict, Correction}
 use Rattle.gm_base.specs.Explored.{Found}
 use Rattle.gm_base.proofs.SetLemmas.{has-filter, has-head}
 use Rattle.size_counter.specs.Sizes.{AreDistinct}
-use Rattle.size_counter.specs.Counter.{IsOrder, counted, at_least, counter_vars, counter, count_in}
-use Rattle.size_counter.specs.Names.{Naming, against, naming}
-use Rattle.size_counter.specs.Levels.{Level, level_counter, level_vars, level_limit, left_out, level_of, level}
-use Rattle.size_counter.specs.Laws.{Extends}
+use Rattle.size_counter.specs.Counter.{IsOrder, counted, at_least, counter_vars, counter, how_many_count}
+use Rattle.size_counter.specs.Names.{Naming, against, names_of}
+use Rattle.size_counter.specs.Levels.{Level, level_counter, level_vars, level_limit, left_out, level_by, level}
+use Rattle.size_counter.specs.Laws.{ExtendsAssignment}
 use Rattle.size_counter.specs.LevelLaws.{ArePartsOf}
 use Rattle.size_counter.proofs.SizeLemmas.{distinct-filter, length-filter_le}
 use Rattle.size_counter.proofs.NameLemmas.{has-first_named, distinct-first_named}
@@ -27,6 +27,7 @@ use Rattle.size_counter.proofs.BoundLemmas.{extended-few}
 use Rattle.size_counter.proofs.RangeLemmas.{counter-over}
 use Rattle.size_counter.proofs.GrowthLemmas.{counter-size}
 
+-- a number that solves the equation of a counter's size is how many clauses the level has, if it has a counter
 pub length-level : (l : Level) (n rows : ℕ) → rows ≡ length l.order
     → n + min rows (l.bound + 1) * min rows (l.bound + 1) ≡ 2 * rows * min rows (l.bound + 1)
     → ltb l.bound (length l.order) ≡ true → n ≡ length (level_counter l)
@@ -52,6 +53,7 @@ abbrev pub but_first : ℕ → (ℕ → Bool) → List ℕ → List ℕ
 but_first k p [] = []
 but_first k p (x ∷ xs) = cond (p x && ltb 0 k) (but_first (k - 1) p xs) (x ∷ but_first k p xs)
 
+-- a number at the end is dropped if it passes and fewer than so many before it did
 pub but_first-push : (k : ℕ) (p : ℕ → Bool) (xs : List ℕ) (x : ℕ)
     → but_first k p (xs ++ x ∷ []) ≡ but_first k p xs ++ cond (p x && ltb 0 (k - length (filter p xs))) [] (x ∷ [])
 but_first-push k p [] x = by (p x && ltb 0 k) ∙ ap (λ n. cond (p x && ltb 0 n) [] (x ∷ [])) (none k)
@@ -101,17 +103,19 @@ but_first-push k p (y ∷ ys) x =
         ∙ ap (λ n. but_first (k - 1) p ys ++ cond (p x && ltb 0 n) [] (x ∷ [])) same
         ∙ ap (λ zs. zs ++ cond (p x && ltb 0 (k - length (filter p (y ∷ ys)))) [] (x ∷ [])) (sym (cond-true (p y && ltb 0 k) (but_first (k - 1) p ys) (y ∷ but_first k p ys) test))
 
--- of numbers that differ it is what is outside of these
+-- tests that agree on the numbers of a list leave the same of it
 filter-alike : (p q : ℕ → Bool) (xs : List ℕ) → ((x : ℕ) → has xs x ≡ true → p x ≡ q x) → filter p xs ≡ filter q xs
 filter-alike p q [] same = refl
 filter-alike p q (x ∷ xs) same =
     ap (λ b. cond b (x ∷ filter p xs) (filter p xs)) (same x (has-head x xs))
     ∙ ap (λ ys. cond (q x) (x ∷ ys) ys) (filter-alike p q xs (λ y i. same y (or_right (eqb x y) (has xs y) i)))
 
+-- a test that everything passes drops nothing
 filter-all : (xs : List ℕ) → filter (λ x. true) xs ≡ xs
 filter-all [] = refl
 filter-all (x ∷ xs) = ap (λ ys. x ∷ ys) (filter-all xs)
 
+-- what is among the first numbers is in the list
 has-take : (n : ℕ) (xs : List ℕ) (g : ℕ) → has (take n xs) g ≡ true → has xs g ≡ true
 has-take zero xs g h = absurd (false≢true h)
 has-take (suc n) [] g h = absurd (false≢true h)
@@ -121,6 +125,7 @@ has-take (suc n) (x ∷ xs) g h =
       | inr later ↦ or_right (eqb x g) (has xs g) (has-take n xs g later)
     ]
 
+-- of numbers that differ, what remains is what is not among the first so many that pass
 pub but_first-outside : (k : ℕ) (p : ℕ → Bool) (xs : List ℕ) → AreDistinct xs
     → but_first k p xs ≡ filter (λ g. not (has (take k (filter p xs)) g)) xs
 but_first-outside k p [] d = refl
@@ -168,6 +173,7 @@ pub record LeavesTo (most : ℕ) (alone named : List ℕ) (i : ℕ) (order : Lis
   pub kept : order ≡ but_first most (has alone) (take i named)
   pub count : left ≡ most - length (filter (has alone) (take i named))
 
+-- a number at the end counts once more if it passes
 length-filter-push : (p : ℕ → Bool) (xs : List ℕ) (x : ℕ) → length (filter p (xs ++ x ∷ [])) ≡ length (filter p xs) + cond (p x) 1 0
 length-filter-push p xs x =
     ap length (filter-append p xs (x ∷ [])) ∙ length-append (filter p xs) (filter p (x ∷ [])) ∙ ap (λ n. length (filter p xs) + n) (by (p x))
@@ -176,6 +182,7 @@ length-filter-push p xs x =
     by true = refl
     by false = refl
 
+-- a group that is sure is left out as long as more may count, and one fewer may then
 pub LeavesTo-out : (most : ℕ) (alone named : List ℕ) (i : ℕ) (order : List ℕ) (left : ℕ) → i < length named
     → LeavesTo most alone named i order left → has alone (get_or named i 0) ≡ true → 0 < left
     → LeavesTo most alone named (i + 1) order (left - 1)
@@ -195,6 +202,7 @@ LeavesTo-out most alone named i order left lt l sure some =
       count = let whole : left - 1 ≡ most - length (filter p (xs ++ g ∷ [])) = omega arith in whole ∙ ap (λ ys. most - length (filter p ys)) (sym more);
     }
 
+-- any other group goes into the order, and as many may count as before
 pub LeavesTo-kept : (most : ℕ) (alone named : List ℕ) (i : ℕ) (order : List ℕ) (left : ℕ) → i < length named
     → LeavesTo most alone named i order left → (has alone (get_or named i 0) && ltb 0 left) ≡ false
     → LeavesTo most alone named (i + 1) (order ++ get_or named i 0 ∷ []) left
@@ -229,7 +237,7 @@ LeavesTo-kept most alone named i order left lt l out =
 
 -- all groups are an order
 pub order-level : (groups most : ℕ) (names : Naming) → AreDistinct names.named → IsSubset names.named (all_groups groups)
-    → IsOrder groups (level_of groups most names).order
+    → IsOrder groups (level_by groups most names).order
 order-level groups most names distinct within =
     record {
       within = λ g i. within g (and_parts (out g) (has names.named g) (sym (has-filter out names.named g) ∙ i)).1;
@@ -242,7 +250,7 @@ order-level groups most names distinct within =
 -- what was left out when all were gone through
 pub LeavesTo-end : (most groups : ℕ) (names : Naming) (i : ℕ) (order : List ℕ) (left : ℕ) → AreDistinct names.named → length names.named ≤ i
     → LeavesTo most names.alone names.named i order left
-    → (order ≡ (level_of groups most names).order) × (left ≡ (level_of groups most names).bound)
+    → (order ≡ (level_by groups most names).order) × (left ≡ (level_by groups most names).bound)
 LeavesTo-end most groups names i order left distinct end l =
     let all = take_all i names.named end in
     let sizes = length-take most (filter (has names.alone) names.named) in
@@ -251,19 +259,20 @@ LeavesTo-end most groups names i order left distinct end l =
       omega arith,
     )
 
-pub level-made : (groups most : ℕ) (names : Naming) (left : ℕ) (order : List ℕ) → order ≡ (level_of groups most names).order
-    → left ≡ (level_of groups most names).bound
-    → record { kind = names.kind; groups = groups; bound = left; order = order } ≡ level_of groups most names
+-- an order and a bound that are the level's give the level
+pub level-made : (groups most : ℕ) (names : Naming) (left : ℕ) (order : List ℕ) → order ≡ (level_by groups most names).order
+    → left ≡ (level_by groups most names).bound
+    → record { kind = names.kind; groups = groups; bound = left; order = order } ≡ level_by groups most names
 level-made groups most names left order is bound =
-    ap (λ (gs : List ℕ). made left gs) is ∙ ap (λ (b : ℕ). made b (level_of groups most names).order) bound
+    ap (λ (gs : List ℕ). made left gs) is ∙ ap (λ (b : ℕ). made b (level_by groups most names).order) bound
   where
     made : ℕ → List ℕ → Level
     made b gs = record { kind = names.kind; groups = groups; bound = b; order = gs }
 
 -- a level's counter and its limit, where it has one and where not
 pub level-few : (l : Level) (assign : List Bool) → IsOrder l.groups l.order → length assign ≡ l.groups
-    → count_in assign l.kind l.order ≤ l.bound
-    → (values : List Bool) × Extends l.groups (level_vars l) (level_counter l) (level_limit l) assign values
+    → how_many_count assign l.kind l.order ≤ l.bound
+    → (values : List Bool) × ExtendsAssignment l.groups (level_vars l) (level_counter l) (level_limit l) assign values
 level-few l assign o total few =
     elim (cases_Bool (ltb l.bound (length l.order))) [
       | inl more ↦
@@ -293,8 +302,9 @@ level-few l assign o total few =
       )
     ]
 
+-- with a counter that is its own law; without one no more groups are in the order than may count
 pub level-extended : (l : Level) (values : List Bool) → IsOrder l.groups l.order → list_all (clause_true values) (level_counter l) ≡ true
-    → list_all (literal_true values) (level_limit l) ≡ true → count_in values l.kind l.order ≤ l.bound
+    → list_all (literal_true values) (level_limit l) ≡ true → how_many_count values l.kind l.order ≤ l.bound
 level-extended l values o all limited =
     elim (cases_Bool (ltb l.bound (length l.order))) [
       | inl more ↦
@@ -307,6 +317,7 @@ level-extended l values o all limited =
           omega arith
     ]
 
+-- with a counter each is over its variables; without one there is no clause
 pub level-over : (l : Level) (clause : List ℤ) (lit : ℤ) → IsOrder l.groups l.order → In clause (level_counter l) → In lit clause
     → IsLiteral (level_vars l) lit
 level-over l clause lit o i j =
@@ -319,7 +330,7 @@ level-over l clause lit o i j =
     ]
 
 -- how a level parts the groups
-pub level-parts : (groups most : ℕ) (names : Naming) → AreDistinct names.named → ArePartsOf most names (level_of groups most names)
+pub level-parts : (groups most : ℕ) (names : Naming) → AreDistinct names.named → ArePartsOf most names (level_by groups most names)
 level-parts groups most names distinct =
     record {
       each = λ g. parts (has (left_out most names) g) (has names.named g) (from_left g) ∙ ap (λ b. has (left_out most names) g || b) (sym (has-filter out names.named g));
@@ -364,8 +375,9 @@ within-named kind groups (f ∷ fs) within g i =
     by Correction Conflict h = h
     by Correction Correction h = absurd (false≢true h)
 
+-- what sets of the problem name are its groups, and each is named once
 pub names-order : (kind : Kind) (groups : ℕ) (found : List Found) → ((f : Found) → In f found → IsSubset f.set (all_groups groups))
-    → IsOrder groups (naming kind found).named
+    → IsOrder groups (names_of kind found).named
 names-order kind groups found within =
     let names = flat_map (λ (f : Found). against kind f.kind f.set) found in
     record {
@@ -373,11 +385,13 @@ names-order kind groups found within =
       distinct = distinct-first_named names;
     }
 
+-- the groups that are counted are some of those that were named
 pub level-order : (kind : Kind) (groups most : ℕ) (found : List Found) → ((f : Found) → In f found → IsSubset f.set (all_groups groups))
     → IsOrder groups (level kind groups most found).order
 level-order kind groups most found within =
     let o = names-order kind groups found within in
-    order-level groups most (naming kind found) o.distinct o.within
+    order-level groups most (names_of kind found) o.distinct o.within
 
+-- before the first group none is left out, and as many may count as at the outset
 pub LeavesTo-start : (most : ℕ) (alone named : List ℕ) → LeavesTo most alone named 0 [] most
 LeavesTo-start most alone named = record { kept = refl; count = omega arith }

@@ -11,9 +11,10 @@ use Rattle.gm_base.specs.declared.kind.Kind.TheVariants.{Conflict, Correction}
 use Rattle.gm_base.specs.Explored.{Found}
 use Rattle.gm_base.proofs.SetLemmas.{has-without}
 use Rattle.size_counter.specs.Sizes.{AreDistinct}
-use Rattle.size_counter.specs.Names.{Naming, first_named, against, alone_in, also, naming}
+use Rattle.size_counter.specs.Names.{Naming, first_named, against, alone_in, also, names_of}
 use Rattle.size_counter.proofs.SizeLemmas.{distinct-filter}
 
+-- a list with a number at the end has that one and those that it had
 pub has-push : (xs : List ℕ) (g h : ℕ) → has (xs ++ g ∷ []) h ≡ (has xs h || (eqb g h || false))
 has-push xs g h = list_any-append (λ k. eqb k h) xs (g ∷ [])
 
@@ -44,6 +45,7 @@ distinct-first_named (x ∷ xs) = (
   distinct-filter (λ h. not (eqb h x)) (first_named xs) (distinct-first_named xs),
 )
 
+-- where no number stands twice, nothing is dropped
 pub first_named-same : (xs : List ℕ) → AreDistinct xs → first_named xs ≡ xs
 first_named-same [] d = refl
 first_named-same (x ∷ xs) d = ap (λ ys. x ∷ without ys x) (first_named-same xs d.1) ∙ ap (λ ys. x ∷ ys) (without-absent xs x d.0)
@@ -84,16 +86,18 @@ first_named-behind xs ys (z ∷ zs) e =
     ap first_named (sym (append_assoc xs (z ∷ []) zs)) ∙ first_named-behind (xs ++ z ∷ []) (ys ++ z ∷ []) zs one
     ∙ ap first_named (append_assoc ys (z ∷ []) zs)
 
+-- to drop in front beforehand what stands there twice changes nothing
 pub first_named-twice : (xs ys : List ℕ) → first_named (first_named xs ++ ys) ≡ first_named (xs ++ ys)
 first_named-twice xs ys = first_named-behind (first_named xs) xs ys (first_named-same (first_named xs) (distinct-first_named xs))
 
+-- what an element at the end gives stands behind all else
 flat_map-push : (f : Found → List ℕ) (found : List Found) (g : Found) → flat_map f (found ++ g ∷ []) ≡ flat_map f found ++ f g
 flat_map-push f [] g = append-nil (f g)
 flat_map-push f (e ∷ fs) g = ap (λ ys. f e ++ ys) (flat_map-push f fs g) ∙ sym (append_assoc (f e) (flat_map f fs) (f g))
 
 -- one set more
-pub naming-grows : (kind : Kind) (found : List Found) (f : Found) → naming kind (found ++ f ∷ []) ≡ also (naming kind found) f.kind f.set
-naming-grows kind found f =
+pub names_of-grows : (kind : Kind) (found : List Found) (f : Found) → names_of kind (found ++ f ∷ []) ≡ also (names_of kind found) f.kind f.set
+names_of-grows kind found f =
     let names = λ (e : Found). against kind e.kind e.set in
     let alone = λ (e : Found). alone_in (against kind e.kind e.set) in
     ap (λ (xs : List ℕ). made xs (flat_map alone (found ++ f ∷ []))) (ap first_named (flat_map-push names found f) ∙ sym (first_named-twice (flat_map names found) (names f)))
@@ -155,10 +159,12 @@ pub record AddedTo (before numbers : List ℕ) (i : ℕ) (now : List ℕ) : Type
   pub are : now ≡ first_named (before ++ take i numbers)
   pub differ : AreDistinct before
 
+-- before the first number the list is as it was
 pub AddedTo-start : (before numbers : List ℕ) → AreDistinct before → AddedTo before numbers 0 before
 AddedTo-start before numbers d =
     record { are = sym (first_named-same before d) ∙ sym (ap first_named (append-nil before)); differ = d }
 
+-- the next number goes to the end if it is not there
 pub AddedTo-more : (before numbers : List ℕ) (i : ℕ) (now new : List ℕ) → i < length numbers → AddedTo before numbers i now
     → new ≡ cond (has now (get_or numbers i 0)) now (now ++ get_or numbers i 0 ∷ []) → AddedTo before numbers (i + 1) new
 AddedTo-more before numbers i now new lt a is =
@@ -181,6 +187,7 @@ AddedTo-front before numbers i now a =
     let sizes = ap length all ∙ length-append before more in
     (omega arith, ap (take (length before)) all ∙ take_at before more (length before) refl)
 
+-- so after all of them what was there still stands in front
 pub all-front : (before more now : List ℕ) → AreDistinct before → now ≡ first_named (before ++ more)
     → (length before ≤ length now) × (take (length before) now ≡ before)
 all-front before more now d is =

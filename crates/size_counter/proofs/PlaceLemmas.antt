@@ -9,7 +9,7 @@ use Rattle.std.proofs.lemmas.Nat.{mul-le}
 use Rattle.std.proofs.lemmas.List.{take-append-drop, length-take-le, get_or_append_left, get_or-append-add}
 use Rattle.std.proofs.lemmas.Option.{slice_get-get_or}
 use Rattle.gm_base.specs.declared.kind.Kind.{Kind}
-use Rattle.size_counter.specs.Counter.{counted, at_least, raised, cell, cells, row_of, rows_behind, counter}
+use Rattle.size_counter.specs.Counter.{counted, at_least, raised, cell, cells, counter_row, rows_behind, counter}
 use Rattle.size_counter.specs.Places.{rows_len, IsPlace}
 use Rattle.size_counter.specs.declared.place.Place.{Place}
 use Rattle.size_counter.proofs.GrowthLemmas.{rows_behind-append, length-cell, length-cells, counter-size}
@@ -24,6 +24,7 @@ area wide rows le =
     by : (d : ℕ) → rows ≡ wide + d → wide * (wide + 2 * d) + wide * wide ≡ 2 * rows * wide
     by d is = rw is (omega arith)
 
+-- a product of 33 bits by 32 that has room in 64, since it is no more than the square of the rows
 pub area-small : (wide rows : ℕ) → wide ≤ rows → rows < 4294967296 → wide * (2 * rows - wide) < 18446744073709551616
 area-small wide rows le small =
     let is = area wide rows le in
@@ -43,6 +44,7 @@ wide-below rows at wide le from within =
     whole : (r : ℕ) → r ≡ wide → at + wide * wide < 2 * r * wide → ⊥
     whole r e lt = absurd (omega (arith, subst (λ n. at + wide * wide < 2 * n * wide) e lt))
 
+-- if the quotient went past the last row, the clause would stand behind all of them
 pub row-below : (rows at wide : ℕ) → wide ≤ rows → wide * wide ≤ at → at + wide * wide < 2 * rows * wide
     → wide + (at - wide * wide) / (2 * wide) < rows
 row-below rows at wide le from within =
@@ -211,7 +213,7 @@ clause-at groups bound kind order r c q lt under within small =
     rest : List (List ℤ)
     rest = rows_behind groups bound kind (r + 1) (drop (suc r) order)
 
-    more : (cs : List (List ℤ)) × (row_of groups bound r lit ≡ cells groups bound r lit c ++ (cell groups bound r c lit ++ cs))
+    more : (cs : List (List ℤ)) × (counter_row groups bound r lit ≡ cells groups bound r lit c ++ (cell groups bound r c lit ++ cs))
     more = cells-split groups bound r lit c (min (r + 1) (bound + 1)) (omega arith)
 
     rows : length (take r order) ≡ r

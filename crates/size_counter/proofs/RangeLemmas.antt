@@ -11,15 +11,17 @@ use Rattle.gm_base.specs.Sets.{has, all_groups}
 use Rattle.gm_base.specs.declared.kind.Kind.{Kind}
 use Rattle.gm_base.specs.declared.kind.Kind.TheVariants.{Conflict, Correction}
 use Rattle.gm_base.proofs.SetLemmas.{all_groups-has, has-head}
-use Rattle.size_counter.specs.Counter.{counted, at_least, counter_vars, carried, raised, cell, cells, row_of, rows_behind, counter, IsOrder}
-use Rattle.size_counter.specs.Laws.{IsApart}
+use Rattle.size_counter.specs.Counter.{counted, at_least, counter_vars, carried, raised, cell, cells, counter_row, rows_behind, counter, IsOrder}
+use Rattle.size_counter.specs.Laws.{IsOwnVar}
 use Rattle.size_counter.proofs.FewLemmas.{order_fits}
 
+-- a literal and its negation are of one variable
 var_of-neg : (l : ℤ) → var_of (neg_ℤ l) ≡ var_of l
 var_of-neg (pos zero) = refl
 var_of-neg (pos (suc v)) = refl
 var_of-neg (negsuc v) = refl
 
+-- so the one is over the variables if the other is
 pub literal-neg : (vars : ℕ) (l : ℤ) → IsLiteral vars l → IsLiteral vars (neg_ℤ l)
 literal-neg vars l i =
     record {
@@ -38,6 +40,7 @@ var-within groups bound rows row column low row_high high =
     next : (row rows : ℕ) → 0 < row → row ≤ rows → row - 1 + 1 ≤ rows
     next row rows low high = omega arith
 
+-- each row that is there and each of its columns has a variable of the counter
 pub at_least-literal : (groups bound rows row column : ℕ) → 0 < row → row ≤ rows → 0 < column → column ≤ bound + 1
     → IsLiteral (counter_vars groups bound rows) (at_least groups bound row column)
 at_least-literal groups bound rows row column low row_high column_low high =
@@ -46,6 +49,7 @@ at_least-literal groups bound rows row column low row_high column_low high =
     positive : 0 < groups + (bound + 1) * (row - 1) + column
     positive = omega arith
 
+-- the variables of the groups are the first ones of the counter
 counted-literal : (groups bound rows : ℕ) (kind : Kind) (g : ℕ) → 0 < g → g ≤ groups → IsLiteral (counter_vars groups bound rows) (counted kind g)
 counted-literal groups bound rows kind g low high = by kind
   where
@@ -60,19 +64,23 @@ counted-literal groups bound rows kind g low high = by kind
 abbrev EachIs : (ℤ → Type 0) → List (List ℤ) → Type 0
 EachIs P clauses = (clause : List ℤ) (l : ℤ) → In clause clauses → In l clause → P l
 
+-- of clauses in two parts, if it is so in each
 each-append : (P : ℤ → Type 0) (xs ys : List (List ℤ)) → EachIs P xs → EachIs P ys → EachIs P (xs ++ ys)
 each-append P xs ys a b clause l i j =
     elim (In-append_cases clause xs ys i) [ inl first ↦ a clause l first j | inr later ↦ b clause l later j ]
 
+-- of one clause, if it is so of its literals
 each-single : (P : ℤ → Type 0) (c : List ℤ) → ((l : ℤ) → In l c → P l) → EachIs P (c ∷ [])
 each-single P c h clause l (inl e) j = h l (subst (In l) e j)
 each-single P c h clause l (inr i) j = absurd i
 
+-- the members of a clause of two literals are these two
 two-are : (P : ℤ → Type 0) (k m : ℤ) → P k → P m → (l : ℤ) → In l (k ∷ m ∷ []) → P l
 two-are P k m a b l (inl e) = subst P (sym e) a
 two-are P k m a b l (inr (inl e)) = subst P (sym e) b
 two-are P k m a b l (inr (inr i)) = absurd i
 
+-- and those of a clause of three are the first and these two
 three-are : (P : ℤ → Type 0) (k k' m : ℤ) → P k → P k' → P m → (l : ℤ) → In l (k ∷ k' ∷ m ∷ []) → P l
 three-are P k k' m a a' b l (inl e) = subst P (sym e) a
 three-are P k k' m a a' b l (inr i) = two-are P k' m a' b l i
@@ -132,10 +140,11 @@ module _ (groups bound most : ℕ) (kind : Kind) (P : ℤ → Type 0)
   rows-each rows [] fit within = λ clause l i j. absurd i
   rows-each rows (g ∷ gs) fit within =
       let range = all_groups-has groups g (within g (has-head g gs)) in
-      each-append P (row_of groups bound rows (counted kind g)) (rows_behind groups bound kind (rows + 1) gs)
+      each-append P (counter_row groups bound rows (counted kind g)) (rows_behind groups bound kind (rows + 1) gs)
       (cells-each rows g (min (rows + 1) (bound + 1)) (omega arith) (omega arith) (omega arith) range.0 range.1)
       (rows-each (rows + 1) gs (omega arith) (λ h i. within h (or_right (eqb g h) (has gs h) i)))
 
+-- a counter has no other literals than these, and all of them are over its variables
 pub counter-over : (groups bound : ℕ) (kind : Kind) (order : List ℕ) (clause : List ℤ) (l : ℤ) → IsOrder groups order
     → In clause (counter groups bound kind order) → In l clause → IsLiteral (counter_vars groups bound (length order)) l
 counter-over groups bound kind order clause l o i j =
@@ -158,7 +167,8 @@ apart-below groups bound r c row column r_low high low lt e =
     next : (a b : ℕ) → 0 < a → a < b → a - 1 + 1 ≤ b - 1
     next a b low h = omega arith
 
-pub vars-apart : (groups bound row column : ℕ) → 0 < row → 0 < column → column ≤ bound + 1 → IsApart groups bound row column
+-- if two have one number, they are of one row, since rows do not overlap, and then of one column
+pub vars-apart : (groups bound row column : ℕ) → 0 < row → 0 < column → column ≤ bound + 1 → IsOwnVar groups bound row column
 vars-apart groups bound row column low column_low column_high =
     record {
       behind = omega arith;

@@ -8,6 +8,7 @@ use Rattle.gm_base.specs.declared.kind.Kind.TheVariants.{Conflict, Correction}
 use Rattle.gm_base.proofs.SetLemmas.{has-filter, has-without, has-head, not_has-bound, complement_twice}
 use Rattle.size_counter.specs.Sizes.{AreDistinct, seed_of, size_for}
 
+-- no more numbers pass a test than there are
 pub length-filter_le : (p : ℕ → Bool) (xs : List ℕ) → length (filter p xs) ≤ length xs
 length-filter_le p [] = omega arith
 length-filter_le p (x ∷ xs) =
@@ -33,6 +34,7 @@ length-without (x ∷ xs) g h =
           ]
     ]
 
+-- each number takes one away from the other list, and the rest fits into what is left of it
 pub distinct-fit : (xs ys : List ℕ) → AreDistinct xs → IsSubset xs ys → length xs ≤ length ys
 distinct-fit [] ys distinct sub = omega arith
 distinct-fit (x ∷ xs) ys distinct sub =
@@ -46,6 +48,7 @@ distinct-fit (x ∷ xs) ys distinct sub =
         false_from_ne_true (eqb g x) (λ e. false≢true (sym distinct.0 ∙ (sym (ap (has xs) (eqb-true g x e)) ∙ i))) in
         has-without ys x g ∙ and_from (not (eqb g x)) (has ys g) (ap not other) (sub g (or_right (eqb x g) (has xs g) i))
 
+-- in an ascending list all that follows a number is above it
 pub distinct-ascends : (low : ℕ) (gs : List ℕ) → AscendsAbove low gs → AreDistinct gs
 distinct-ascends low [] h = tt
 distinct-ascends low (g ∷ gs) h = (not_has-bound g g gs (omega arith) h.1, distinct-ascends g gs h.1)
@@ -66,6 +69,7 @@ distinct-filter p (x ∷ xs) h =
     and_false true = refl
     and_false false = refl
 
+-- a correction is what its complement leaves out
 pub kind_has-size : (kind : Kind) (groups : ℕ) (set : List ℕ) → IsGroupSet set → IsSubset set (all_groups groups)
     → size_for kind groups (seed_of kind groups set) ≡ length set
 kind_has-size Conflict groups set ok within = refl

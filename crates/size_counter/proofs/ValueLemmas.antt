@@ -9,11 +9,11 @@ use Rattle.std.proofs.lemmas.List.FromFn.{length-map-range_with_len, get_or-map-
 use Rattle.sat_base.specs.Literals.{literal_true}
 use Rattle.gm_base.specs.declared.kind.Kind.{Kind}
 use Rattle.gm_base.specs.declared.kind.Kind.TheVariants.{Conflict, Correction}
-use Rattle.size_counter.specs.Counter.{counted, at_least, count_in}
+use Rattle.size_counter.specs.Counter.{counted, at_least, how_many_count}
 
 -- how many are counted up to a row
 abbrev pub count_to : List Bool → Kind → List ℕ → ℕ → ℕ
-count_to assign kind order row = count_in assign kind (take row order)
+count_to assign kind order row = how_many_count assign kind (take row order)
 
 abbrev pub values_in : ℕ → List Bool → Kind → List ℕ → ℕ → List Bool
 values_in bound assign kind order row = map (λ column. leb column (count_to assign kind order row)) (range_with_len 1 (bound + 1))

@@ -46,13 +46,13 @@ cells groups bound rows lit zero = []
 cells groups bound rows lit (suc columns) = cells groups bound rows lit columns ++ cell groups bound rows columns lit
 
 -- the row behind so many rows: a column for each number up to one above the bound, but no more than there are groups
-abbrev pub row_of : ℕ → ℕ → ℕ → ℤ → List (List ℤ)
-row_of groups bound rows lit = cells groups bound rows lit (min (rows + 1) (bound + 1))
+abbrev pub counter_row : ℕ → ℕ → ℕ → ℤ → List (List ℤ)
+counter_row groups bound rows lit = cells groups bound rows lit (min (rows + 1) (bound + 1))
 
 -- the rows of these groups, behind so many rows
 abbrev pub rows_behind : ℕ → ℕ → Kind → ℕ → List ℕ → List (List ℤ)
 rows_behind groups bound kind rows [] = []
-rows_behind groups bound kind rows (g ∷ gs) = row_of groups bound rows (counted kind g) ++ rows_behind groups bound kind (rows + 1) gs
+rows_behind groups bound kind rows (g ∷ gs) = counter_row groups bound rows (counted kind g) ++ rows_behind groups bound kind (rows + 1) gs
 
 -- all clauses of the counter of these groups, in their order
 abbrev pub counter : ℕ → ℕ → Kind → List ℕ → List (List ℤ)
@@ -64,8 +64,8 @@ limit groups bound order =
     if nat_lt bound (length order) then neg_ℤ (at_least groups bound (length order) (bound + 1)) ∷ [] else []
 
 -- how many of the groups are counted under an assignment
-abbrev pub count_in : List Bool → Kind → List ℕ → ℕ
-count_in assign kind order = length (filter (λ g. literal_true assign (counted kind g)) order)
+abbrev pub how_many_count : List Bool → Kind → List ℕ → ℕ
+how_many_count assign kind order = length (filter (λ g. literal_true assign (counted kind g)) order)
 
 -- the problem's groups, each at most once
 pub record IsOrder (groups : ℕ) (order : List ℕ) : Type 0 where

@@ -7,10 +7,10 @@ use Rattle.gm_base.specs.Sets.{has, IsSubset, all_groups}
 use Rattle.gm_base.specs.declared.kind.Kind.{Kind}
 use Rattle.gm_base.specs.Explored.{Found}
 use Rattle.size_counter.specs.Sizes.{AreDistinct}
-use Rattle.size_counter.specs.Counter.{count_in, IsOrder}
-use Rattle.size_counter.specs.Names.{Naming, also, naming}
-use Rattle.size_counter.specs.Levels.{Level, left_out, level_of, level, level_counter, level_vars, level_limit}
-use Rattle.size_counter.specs.Laws.{Extends}
+use Rattle.size_counter.specs.Counter.{how_many_count, IsOrder}
+use Rattle.size_counter.specs.Names.{Naming, also, names_of}
+use Rattle.size_counter.specs.Levels.{Level, left_out, level_by, level, level_counter, level_vars, level_limit}
+use Rattle.size_counter.specs.Laws.{ExtendsAssignment}
 
 -- each assignment of the groups at which at most the bound count extends to one of all variables
 abbrev pub LevelFewExtend : Type 0
@@ -18,8 +18,8 @@ LevelFewExtend =
     (l : Level) (assign : List Bool)
     → IsOrder l.groups l.order
     → length assign ≡ l.groups
-    → count_in assign l.kind l.order ≤ l.bound
-    → (values : List Bool) × Extends l.groups (level_vars l) (level_counter l) (level_limit l) assign values
+    → how_many_count assign l.kind l.order ≤ l.bound
+    → (values : List Bool) × ExtendsAssignment l.groups (level_vars l) (level_counter l) (level_limit l) assign values
 
 -- and no other does
 abbrev pub LevelExtendedAreFew : Type 0
@@ -28,7 +28,7 @@ LevelExtendedAreFew =
     → IsOrder l.groups l.order
     → list_all (clause_true values) (level_counter l) ≡ true
     → list_all (literal_true values) (level_limit l) ≡ true
-    → count_in values l.kind l.order ≤ l.bound
+    → how_many_count values l.kind l.order ≤ l.bound
 
 -- each literal is over the level's variables
 abbrev pub LevelIsOverVars : Type 0
@@ -41,14 +41,14 @@ LevelIsOverVars =
 
 -- one set more
 abbrev pub NamingGrows : Type 0
-NamingGrows = (kind : Kind) (found : List Found) (f : Found) → naming kind (found ++ f ∷ []) ≡ also (naming kind found) f.kind f.set
+NamingGrows = (kind : Kind) (found : List Found) (f : Found) → names_of kind (found ++ f ∷ []) ≡ also (names_of kind found) f.kind f.set
 
 -- the groups that sets of the problem name are an order
 abbrev pub NamesAreOrder : Type 0
 NamesAreOrder =
     (kind : Kind) (groups : ℕ) (found : List Found)
     → ((f : Found) → In f found → IsSubset f.set (all_groups groups))
-    → IsOrder groups (naming kind found).named
+    → IsOrder groups (names_of kind found).named
 
 -- and so are those that are counted
 abbrev pub LevelHasOrder : Type 0
@@ -68,4 +68,4 @@ pub record ArePartsOf (most : ℕ) (names : Naming) (l : Level) : Type 0 where
 
 -- where each group was named once
 abbrev pub LevelParts : Type 0
-LevelParts = (groups most : ℕ) (names : Naming) → AreDistinct names.named → ArePartsOf most names (level_of groups most names)
+LevelParts = (groups most : ℕ) (names : Naming) → AreDistinct names.named → ArePartsOf most names (level_by groups most names)

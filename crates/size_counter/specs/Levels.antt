@@ -5,7 +5,7 @@ use Rattle.gm_base.specs.Sets.{has}
 use Rattle.gm_base.specs.declared.kind.Kind.{Kind}
 use Rattle.gm_base.specs.Explored.{Found}
 use Rattle.size_counter.specs.Counter.{counter_vars, counter, limit}
-use Rattle.size_counter.specs.Names.{Naming, naming}
+use Rattle.size_counter.specs.Names.{Naming, names_of}
 
 -- of a problem with so many groups, a kind, the groups that are counted in their order, and how many of them may count
 pub record Level : Type 0 where
@@ -19,8 +19,8 @@ abbrev pub left_out : ℕ → Naming → List ℕ
 left_out most names = take most (filter (has names.alone) names.named)
 
 -- the level at which at most so many groups count: those that are left out do, and of the others as many as remain may
-abbrev pub level_of : ℕ → ℕ → Naming → Level
-level_of groups most names =
+abbrev pub level_by : ℕ → ℕ → Naming → Level
+level_by groups most names =
     record {
       kind = names.kind;
       groups = groups;
@@ -30,7 +30,7 @@ level_of groups most names =
 
 -- the level of the sets that were found
 abbrev pub level : Kind → ℕ → ℕ → List Found → Level
-level kind groups most found = level_of groups most (naming kind found)
+level kind groups most found = level_by groups most (names_of kind found)
 
 -- the clauses by which at most the bound count, none where there are no more groups than that
 abbrev pub level_counter : Level → List (List ℤ)

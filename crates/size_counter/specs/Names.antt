@@ -41,8 +41,8 @@ also names kind set =
     }
 
 -- what sets name that were found
-abbrev pub naming : Kind → List Found → Naming
-naming kind found =
+abbrev pub names_of : Kind → List Found → Naming
+names_of kind found =
     record {
       kind = kind;
       named = first_named (flat_map (λ (f : Found). against kind f.kind f.set) found);

@@ -5,8 +5,8 @@ use Rattle.std.proofs.Common.{refl}
 use Rattle.gm_base.specs.declared.kind.Kind.TheVariants.{Conflict, Correction}
 use Rattle.gm_base.specs.Explored.{Found}
 use Rattle.size_counter.specs.Sizes.{size_for}
-use Rattle.size_counter.specs.Counter.{counter, limit, count_in}
-use Rattle.size_counter.specs.Names.{first_named, naming}
+use Rattle.size_counter.specs.Counter.{counter, limit, how_many_count}
+use Rattle.size_counter.specs.Names.{first_named, names_of}
 use Rattle.size_counter.specs.Levels.{level, level_counter, level_vars, level_limit}
 
 abbrev conflict : List ℕ → Found
@@ -22,10 +22,10 @@ three_found = conflict (1 ∷ 2 ∷ []) ∷ conflict (1 ∷ 3 ∷ 4 ∷ []) ∷ 
 pub each_is_named_once : first_named (3 ∷ 1 ∷ 3 ∷ 2 ∷ 1 ∷ []) ≡ 3 ∷ 1 ∷ 2 ∷ []
 each_is_named_once = refl
 
-pub conflicts_name : naming Correction three_found ≡ record { kind = Correction; named = 1 ∷ 2 ∷ 3 ∷ 4 ∷ []; alone = [] }
+pub conflicts_name : names_of Correction three_found ≡ record { kind = Correction; named = 1 ∷ 2 ∷ 3 ∷ 4 ∷ []; alone = [] }
 conflicts_name = refl
 
-pub corrections_name : naming Conflict three_found ≡ record { kind = Conflict; named = 1 ∷ []; alone = 1 ∷ [] }
+pub corrections_name : names_of Conflict three_found ≡ record { kind = Conflict; named = 1 ∷ []; alone = 1 ∷ [] }
 corrections_name = refl
 
 -- at most one group out: of the rows, 1 has variable 5, 2 has 7 and 8, 3 has 9 and 10, and 4 has 11 and 12
@@ -86,10 +86,10 @@ pub none_of_two : level Conflict 3 0 two_sure ≡ record { kind = Conflict; grou
 none_of_two = refl
 
 -- with groups 1 and 3 in, one of 1 and 2 is in, and the other is out
-pub in_are_counted : count_in (true ∷ false ∷ true ∷ []) Conflict (1 ∷ 2 ∷ []) ≡ 1
+pub in_are_counted : how_many_count (true ∷ false ∷ true ∷ []) Conflict (1 ∷ 2 ∷ []) ≡ 1
 in_are_counted = refl
 
-pub out_are_counted : count_in (true ∷ false ∷ false ∷ []) Correction (3 ∷ 1 ∷ 2 ∷ []) ≡ 2
+pub out_are_counted : how_many_count (true ∷ false ∷ false ∷ []) Correction (3 ∷ 1 ∷ 2 ∷ []) ≡ 2
 out_are_counted = refl
 
 pub in_of_four : size_for Conflict 4 (1 ∷ []) ≡ 1

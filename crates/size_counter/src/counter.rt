@@ -4,7 +4,7 @@
 //! there to be counted, and up to one above the bound, since nobody asks for more. So where a clause stands can be
 //! computed, and whoever wants one makes no other.
 ghost use Rattle.std.specs.Prelude.{◌≡◌, ◌+◌, ◌*◌, ◌<◌, ◌≤◌, ◌^◌, ◌∷◌, ◌++◌, [], min, Some, None, neg_ℤ, nat_lt, if◌then◌else◌, length, slice_get, IfOk, OnOk};
-ghost use Rattle.size_counter.specs.Counter.{counted, at_least, row_of, counter, IsOrder};
+ghost use Rattle.size_counter.specs.Counter.{counted, at_least, counter_row, counter, IsOrder};
 ghost use Rattle.size_counter.specs.Counter.{counter_vars as vars_of};
 
 use crate::cells::{at_least, carried, counted_lit, raised};
@@ -60,7 +60,7 @@ pub fn add_row(
     requires small { vars_of groups bound (rows + 1) < 2 ^ 31 }
     requires low { 0 < group }
     requires high { group ≤ groups }
-    ensures { OnOk result (clauses.new ≡ clauses.old ++ row_of groups bound rows (counted kind group)) }
+    ensures { OnOk result (clauses.new ≡ clauses.old ++ counter_row groups bound rows (counted kind group)) }
 {
     let lit = counted_lit(kind, group);
     for columns in 0..rows.min(bound) + 1 {

@@ -5,7 +5,7 @@ ghost use Rattle.std.specs.Prelude.{◌≡◌, ◌++◌, [], IfOk, OnOk, OnErr};
 ghost use Rattle.gm_base.specs.Sets.{IsSubset, all_groups};
 ghost use Rattle.size_counter.specs.Known.{KnowsAll};
 ghost use Rattle.size_counter.specs.Names.{alone_in, also, first_named};
-ghost use Rattle.size_counter.specs.Levels.{level_of};
+ghost use Rattle.size_counter.specs.Levels.{level_by};
 
 use crate::level::Level;
 use crate::names::Names;
@@ -61,7 +61,8 @@ impl Naming {
 
     // Adds what a set of the other kind names.
     fn add_set(&mut self, set: &[u32]) -> Result<(), AllocError>
-        ensures ok { OnOk result (self.new ≡ record { kind = self.old.kind; named = first_named (self.old.named ++ set.now); alone = self.old.alone ++ alone_in set.now }) }
+        ensures ok { OnOk result (self.new
+            ≡ record { kind = self.old.kind; named = first_named (self.old.named ++ set.now); alone = self.old.alone ++ alone_in set.now }) }
         ensures err { OnErr result (self.new ≡ self.old) }
     {
         let before = self.names.len();
@@ -81,7 +82,7 @@ impl Naming {
     /// The level at which at most so many of the groups count, for a problem that has all that were named.
     pub fn level(&self, alloc: Global, groups: u32, most: u32) -> Result<Level, AllocError>
         requires { IsSubset self.now.named (all_groups groups) }
-        ensures { IfOk result (λ level. level ≡ level_of groups most self.now) }
+        ensures { IfOk result (λ level. level ≡ level_by groups most self.now) }
     {
         let sure = set_of(alloc, self.alone.as_slice())?;
         let mut order = Vec::new(alloc);

@@ -23,7 +23,7 @@ use Rattle.evidence_rec.proofs.Explored.{unsat_above, sat_outside}
 use Rattle.evidence_rec.proofs.SetListLemmas.{times, SameSets, In-times, filter-In, subsets-In, IsPermutation-same}
 use Rattle.evidence_rec.proofs.HeldLemmas.{SameSets-held}
 use Rattle.size_counter.proofs.SizeLemmas.{kind_has-size}
-use Rattle.size_levels.specs.Sizes.{IsOfKind, minimal_sets, listed, up_to, ExploredUpTo, HoldsUpTo}
+use Rattle.size_levels.specs.Sizes.{IsOfKind, minimal_sets, sets_of_kind, up_to, ExploredUpTo, HoldsUpTo}
 use Rattle.size_levels.proofs.SizeLemmas.{times-filter_is}
 
 -- of two sets with no group in common, a group of the one is not in the other
@@ -48,6 +48,7 @@ lacks (x ∷ xs) small h =
           (g, or_right (eqb x g) (has xs g) inside, out)
     ]
 
+-- a part of a set has all its groups, or it lacks one
 same_or_proper : (small large : List ℕ) → IsGroupSet small → IsGroupSet large → IsSubset small large
     → (small ≡ large) ⊎ IsProperSubset small large
 same_or_proper small large a b sub =
@@ -56,11 +57,13 @@ same_or_proper small large a b sub =
       | inr not_all ↦ inr (sub, lacks large small not_all)
     ]
 
+-- what is so of all records is so of each of them
 right_at : (p : Problem) (rs : List Record) (r : Record) → AllByRecursion (IsRight p) rs → In r rs → IsRight p r
 right_at p [] r h i = absurd i
 right_at p (q ∷ qs) r h (inl e) = subst (IsRight p) (sym e) h.0
 right_at p (q ∷ qs) r h (inr i) = right_at p qs r h.1 i
 
+-- a set is explored if one of the records explores it
 explorer : (rs : List Record) (set : List ℕ) → is_explored (founds rs) set ≡ true
     → (r : Record) × In r rs × (explores (found_of r) set ≡ true)
 explorer rs set h =
@@ -68,10 +71,12 @@ explorer rs set h =
     let (r, j, same) = In-from_map found_of f rs i in
     (r, j, sym (ap (λ x. explores x set) same) ∙ e)
 
+-- the test of kinds finds a kind the same as itself
 same_kind-refl : (kind : Kind) → same_kind kind kind ≡ true
 same_kind-refl kinds.Conflict = refl
 same_kind-refl kinds.Correction = refl
 
+-- a set is held if one of the records is about it, and of its kind
 held-from : (rs : List Record) (r : Record) (kind : Kind) (set : List ℕ) → In r rs → kind_of r ≡ kind
     → set_of r ≡ set → is_held rs kind set ≡ true
 held-from rs r kind set i k s =
@@ -153,6 +158,7 @@ holds-up_to kinds.Correction p bound records ok accepted all =
           (all.explored rest (IsGroupSet-complement p.groups set rest refl) rest_within (subst (λ n. n ≤ bound) (sym size) few));
     }
 
+-- if it had so few groups, it would be held
 pub missing-larger : (kind : Kind) (p : Problem) (bound : ℕ) (records : List Record) (set : List ℕ) → HoldsUpTo p records kind bound
     → IsGroupSet set → IsSubset set (all_groups p.groups) → IsOfKind p kind set → is_held records kind set ≡ false
     → bound < length set
@@ -175,16 +181,18 @@ minimal-is p kinds.Correction s i =
     let (ok, within) = subsets-In p.groups s there in
     (ok, within, IsCorrection-from_test p s ok t)
 
-same-listed : (kind : Kind) (p : Problem) (records : List Record) → IsProblem p → AllAccepted p records → AreNew [] records
-    → SameSets (listed records kind) (filter (is_held records kind) (minimal_sets p kind))
-same-listed kinds.Conflict p records ok accepted new = SameSets-held p kinds.Conflict records ok accepted new
-same-listed kinds.Correction p records ok accepted new = SameSets-held p kinds.Correction records ok accepted new
+-- accepted records that are about no set twice are about the minimal sets that they hold, each as often
+same-sets_of_kind : (kind : Kind) (p : Problem) (records : List Record) → IsProblem p → AllAccepted p records → AreNew [] records
+    → SameSets (sets_of_kind records kind) (filter (is_held records kind) (minimal_sets p kind))
+same-sets_of_kind kinds.Conflict p records ok accepted new = SameSets-held p kinds.Conflict records ok accepted new
+same-sets_of_kind kinds.Correction p records ok accepted new = SameSets-held p kinds.Correction records ok accepted new
 
+-- of the minimal sets with so few groups all are held, so these are the ones that records are about
 pub exactly-up_to : (kind : Kind) (p : Problem) (bound : ℕ) (records : List Record) → IsProblem p → AllAccepted p records
     → AreNew [] records → HoldsUpTo p records kind bound
-    → IsPermutation (up_to bound (listed records kind)) (up_to bound (minimal_sets p kind))
+    → IsPermutation (up_to bound (sets_of_kind records kind)) (up_to bound (minimal_sets p kind))
 exactly-up_to kind p bound records ok accepted new h =
-    IsPermutation-same (up_to bound (listed records kind)) (up_to bound (minimal_sets p kind)) same
+    IsPermutation-same (up_to bound (sets_of_kind records kind)) (up_to bound (minimal_sets p kind)) same
   where
     test : List ℕ → Bool
     test s = leb (length s) bound
@@ -192,16 +200,16 @@ exactly-up_to kind p bound records ok accepted new h =
     minimal : List (List ℕ)
     minimal = minimal_sets p kind
 
-    same : (s : List ℕ) → times s (up_to bound (listed records kind)) ≡ times s (up_to bound (minimal_sets p kind))
+    same : (s : List ℕ) → times s (up_to bound (sets_of_kind records kind)) ≡ times s (up_to bound (minimal_sets p kind))
     same s =
-        times-filter_is (λ x. leb (length x) bound) s (listed records kind)
-        ∙ elim (cases_Bool (leb (length s) bound)) as (λ _. cond (leb (length s) bound) (times s (listed records kind)) 0 ≡ cond (leb (length s) bound) (times s (minimal_sets p kind)) 0) [
+        times-filter_is (λ x. leb (length x) bound) s (sets_of_kind records kind)
+        ∙ elim (cases_Bool (leb (length s) bound)) as (λ _. cond (leb (length s) bound) (times s (sets_of_kind records kind)) 0 ≡ cond (leb (length s) bound) (times s (minimal_sets p kind)) 0) [
           | inr large ↦
-              ap (λ b. cond b (times s (listed records kind)) 0) large ∙ sym (ap (λ b. cond b (times s (minimal_sets p kind)) 0) large)
+              ap (λ b. cond b (times s (sets_of_kind records kind)) 0) large ∙ sym (ap (λ b. cond b (times s (minimal_sets p kind)) 0) large)
           | inl few ↦
-              ap (cond (leb (length s) bound) (times s (listed records kind))) refl
+              ap (cond (leb (length s) bound) (times s (sets_of_kind records kind))) refl
               ∙ ap (λ n. cond (leb (length s) bound) n 0)
-              (same-listed kind p records ok accepted new s ∙ times-filter_is (is_held records kind) s (minimal_sets p kind) ∙ held s (leb-true (length s) bound few))
+              (same-sets_of_kind kind p records ok accepted new s ∙ times-filter_is (is_held records kind) s (minimal_sets p kind) ∙ held s (leb-true (length s) bound few))
         ]
         ∙ sym (times-filter_is (λ x. leb (length x) bound) s (minimal_sets p kind))
       where

@@ -25,12 +25,12 @@ use Rattle.evidence_rec.specs.declared.record.Record.{Record}
 use Rattle.evidence_rec.specs.Records.{kind_of, set_of, found_of, founds, AllAccepted, AllAcceptedBehind}
 use Rattle.evidence_rec.proofs.BlockLemmas.{block_clause-literal}
 use Rattle.size_counter.specs.Sizes.{AreDistinct, seed_of, size_for}
-use Rattle.size_counter.specs.Counter.{counted, at_least, counter_vars, count_in, IsOrder}
-use Rattle.size_counter.specs.Names.{Naming, against, alone_in, also, naming}
+use Rattle.size_counter.specs.Counter.{counted, at_least, counter_vars, how_many_count, IsOrder}
+use Rattle.size_counter.specs.Names.{Naming, against, alone_in, also, names_of}
 use Rattle.size_counter.specs.Levels.{Level, left_out, level, level_counter, level_vars, level_limit}
 use Rattle.size_counter.specs.LevelLaws.{ArePartsOf}
 use Rattle.size_counter.proofs.SizeLemmas.{distinct-fit, distinct-filter}
-use Rattle.size_counter.proofs.NameLemmas.{naming-grows}
+use Rattle.size_counter.proofs.NameLemmas.{names_of-grows}
 use Rattle.size_counter.proofs.LevelLemmas.{level-few, level-over, level-parts, level-order, names-order}
 use Rattle.size_levels.specs.Sizes.{ExploredUpTo}
 use Rattle.size_levels.specs.Shown.{is_more, level_clauses, shows_level}
@@ -46,6 +46,7 @@ literal-alike groups assign values (negsuc v) same i =
     let high = i.in_range in
     ap not (sym (get_or-take groups values v false (omega arith)) ∙ ap (λ vs. get_or vs v false) same)
 
+-- so clauses over the groups are alike
 clause-alike : (groups : ℕ) (assign values : List Bool) (clause : List ℤ) → take groups values ≡ assign
     → ((l : ℤ) → In l clause → IsLiteral groups l) → clause_true values clause ≡ clause_true assign clause
 clause-alike groups assign values [] same over = refl
@@ -53,6 +54,7 @@ clause-alike groups assign values (l ∷ ls) same over =
     ap (λ b. b || clause_true values ls) (literal-alike groups assign values l same (over l (inl refl)))
     ∙ ap (λ b. literal_true assign l || b) (clause-alike groups assign values ls same (λ m i. over m (inr i)))
 
+-- and so are all blocks, of which each is over the groups
 pub model-alike : (groups : ℕ) (assign values : List Bool) (found : List Found) → take groups values ≡ assign → AreWithin groups found
     → is_model found values ≡ is_model found assign
 model-alike groups assign values [] same within = refl
@@ -69,9 +71,11 @@ good-all vars values from (c ∷ cs) all over =
     let parts = and_parts (clause_true values c) (list_all (clause_true values) cs) all in
     ((parts.0, λ l i. over c l (inl refl) i), good-all vars values (from + 1) cs parts.1 (λ clause l i j. over clause l (inr i) j))
 
+-- a literal over some variables is over more of them too
 wider : (groups vars : ℕ) (l : ℤ) → groups ≤ vars → IsLiteral groups l → IsLiteral vars l
 wider groups vars l le i = record { not_zero = i.not_zero; in_range = let high = i.in_range in omega arith }
 
+-- a level has the variables of the groups, with a counter or without
 pub groups-fit : (l : Level) → l.groups ≤ level_vars l
 groups-fit l =
     elim (cases_Bool (ltb l.bound (length l.order))) [
@@ -100,6 +104,7 @@ value-of groups set g all =
     let (low, high) = all_groups-has groups g all in
     get_or-map-range_with_len (has set) 1 groups (g - 1) g false (omega arith) (omega arith)
 
+-- if it is true, the group is in the set at which a minimal set of the kind is found
 counted-seed : (groups : ℕ) (set : List ℕ) (kind : Kind) (g : ℕ) → has (all_groups groups) g ≡ true
     → literal_true (values_of groups set) (counted kind g) ≡ true → has (seed_of kind groups set) g ≡ true
 counted-seed groups set Conflict g all t = sym (value-of groups set g all) ∙ t
@@ -140,13 +145,14 @@ one-counts groups set g Correction Conflict (a ∷ []) within out h =
     and_true true e = absurd (false≢true (sym e))
     and_true false e = refl
 
+-- the same of all sets that were found, where none of them explores it
 pub alone-counts : (kind : Kind) (groups : ℕ) (found : List Found) (set : List ℕ) (g : ℕ) → AreWithin groups found
-    → is_explored found set ≡ false → has (naming kind found).alone g ≡ true → has (seed_of kind groups set) g ≡ true
+    → is_explored found set ≡ false → has (names_of kind found).alone g ≡ true → has (seed_of kind groups set) g ≡ true
 alone-counts kind groups [] set g within out h = absurd (false≢true h)
 alone-counts kind groups (f ∷ fs) set g within out h =
     let parts = or_parts (explores f set) (is_explored fs set) out in
-    elim (or_cases (has (alone_in (against kind f.kind f.set)) g) (has (naming kind fs).alone g)
-    (sym (list_any-append (λ k. eqb k g) (alone_in (against kind f.kind f.set)) (naming kind fs).alone) ∙ h)) [
+    elim (or_cases (has (alone_in (against kind f.kind f.set)) g) (has (names_of kind fs).alone g)
+    (sym (list_any-append (λ k. eqb k g) (alone_in (against kind f.kind f.set)) (names_of kind fs).alone) ∙ h)) [
       | inl here ↦ one-counts groups set g kind f.kind f.set (within f (inl refl)) parts.0 here
       | inr later ↦ alone-counts kind groups fs set g (λ e i. within e (inr i)) parts.1 later
     ]
@@ -163,7 +169,7 @@ distinct-append (x ∷ xs) ys a b apart = (
 -- at a set that nothing explores, and at which at most so many groups count, at most the bound count of those in the order
 few-counted : (kind : Kind) (groups most : ℕ) (found : List Found) (set : List ℕ) → AreWithin groups found
     → is_explored found set ≡ false → size_for kind groups set ≤ most
-    → count_in (values_of groups set) kind (level kind groups most found).order ≤ (level kind groups most found).bound
+    → how_many_count (values_of groups set) kind (level kind groups most found).order ≤ (level kind groups most found).bound
 few-counted kind groups most found set within out few =
     let all = distinct-fit (left ++ kept) (seed_of kind groups set) differ inside in
     let sizes = length-append left kept in
@@ -171,10 +177,10 @@ few-counted kind groups most found set within out few =
     omega arith
   where
     names : Naming
-    names = naming kind found
+    names = names_of kind found
 
     left : List ℕ
-    left = left_out most (naming kind found)
+    left = left_out most (names_of kind found)
 
     order : List ℕ
     order = (level kind groups most found).order
@@ -188,8 +194,8 @@ few-counted kind groups most found set within out few =
     ordered : IsOrder groups (level kind groups most found).order
     ordered = level-order kind groups most found within
 
-    parts : ArePartsOf most (naming kind found) (level kind groups most found)
-    parts = level-parts groups most (naming kind found) (names-order kind groups found within).distinct
+    parts : ArePartsOf most (names_of kind found) (level kind groups most found)
+    parts = level-parts groups most (names_of kind found) (names-order kind groups found within).distinct
 
     of_kept : (g : ℕ) → has kept g ≡ true → (test g ≡ true) × (has order g ≡ true)
     of_kept g i = and_parts (test g) (has order g) (sym (has-filter test order g) ∙ i)
@@ -223,6 +229,7 @@ more-false l values lit limited more =
     ap (literal_true values) (sym ((Decides-int_eq last lit).0 parts.1))
     ∙ not-true (literal_true values last) (sym (literal_true-neg values last (omega arith)) ∙ denied)
 
+-- if nothing explored such a set, the clauses would be true under values that make each goal false
 pub level-explores : (kind : Kind) (groups most : ℕ) (found : List Found) (d : Derivation) → AreWithin groups found
     → shows_level kind groups most found d ≡ true → ExploredUpTo kind groups most found
 level-explores kind groups most found d within shown =
@@ -250,6 +257,7 @@ level-explores kind groups most found d within shown =
         (good-all (level_vars l) values 1 (level_clauses l found) all (level_clauses-over l found within ordered)) shown in
         false≢true (sym (more-false l values lit e.limit_true allowed) ∙ made)
 
+-- each record is accepted behind those before it, and so its set is of the problem
 within_of : (p : Problem) (earlier rs : List Record) → AllAcceptedBehind p earlier rs → AreWithin p.groups (founds rs)
 within_of p earlier [] all f i = absurd i
 within_of p earlier (r ∷ rs) all f (inl e) = subst (λ (g : Found). IsSubset g.set (all_groups p.groups)) (sym e) all.0.within
@@ -259,13 +267,14 @@ within_of p earlier (r ∷ rs) all f (inr i) = within_of p (earlier ++ r ∷ [])
 pub accepted-within : (p : Problem) (records : List Record) → AllAccepted p records → AreWithin p.groups (founds records)
 accepted-within p records accepted = within_of p [] records accepted
 
+-- so what holds of sets of the problem holds of the sets of accepted records
 pub level-of_records : (kind : Kind) (p : Problem) (most : ℕ) (records : List Record) (d : Derivation) → AllAccepted p records
     → shows_level kind p.groups most (founds records) d ≡ true → ExploredUpTo kind p.groups most (founds records)
 level-of_records kind p most records d accepted shown = level-explores kind p.groups most (founds records) d (accepted-within p records accepted) shown
 
 -- what records name, with one record more
-pub naming-more : (kind : Kind) (records : List Record) (i : ℕ) (r : Record) → i < length records → r ≡ get_or records i r
-    → naming kind (founds (take (i + 1) records)) ≡ also (naming kind (founds (take i records))) (kind_of r) (set_of r)
-naming-more kind records i r lt is =
-    ap (naming kind) (map_more found_of records i r lt ∙ ap (λ x. founds (take i records) ++ found_of x ∷ []) (sym is))
-    ∙ naming-grows kind (founds (take i records)) (found_of r)
+pub names_of-more : (kind : Kind) (records : List Record) (i : ℕ) (r : Record) → i < length records → r ≡ get_or records i r
+    → names_of kind (founds (take (i + 1) records)) ≡ also (names_of kind (founds (take i records))) (kind_of r) (set_of r)
+names_of-more kind records i r lt is =
+    ap (names_of kind) (map_more found_of records i r lt ∙ ap (λ x. founds (take i records) ++ found_of x ∷ []) (sym is))
+    ∙ names_of-grows kind (founds (take i records)) (found_of r)

@@ -19,12 +19,13 @@ use Rattle.evidence_rec.proofs.AcceptedLemmas.{accepted-right}
 use Rattle.evidence_rec.proofs.Explored.{unsat_above, sat_outside}
 use Rattle.evidence_rec.proofs.BlockLemmas.{in_has}
 use Rattle.size_counter.proofs.SizeLemmas.{length-filter_le}
-use Rattle.size_levels.specs.Sizes.{IsOfKind, listed, other_kind, packed_behind, packed}
+use Rattle.size_levels.specs.Sizes.{IsOfKind, sets_of_kind, other_kind, packed_behind, packed}
 
 -- the set has a group of the other
 abbrev Meets : List ℕ → List ℕ → Type 0
 Meets set other = (g : ℕ) × In g other × (has set g ≡ true)
 
+-- if not all groups of the other are outside the set, one of them is in it
 fails-meets : (set other : List ℕ) → list_all (λ g. not (has set g)) other ≡ false → Meets set other
 fails-meets set [] h = absurd (false≢true (sym h))
 fails-meets set (g ∷ gs) h =
@@ -39,6 +40,7 @@ fails-meets set (g ∷ gs) h =
 abbrev EachMeets : List ℕ → List (List ℕ) → Type 0
 EachMeets set sets = (other : List ℕ) → In other sets → Meets set other
 
+-- a conflict within what a correction leaves would be satisfiable
 meets-corrections : (p : Problem) (set : List ℕ) (records : List Record) → AllByRecursion (IsRight p) records
     → IsSubset set (all_groups p.groups) → IsConflict p set → EachMeets set (corrections_in records)
 meets-corrections p set [] right within conflict other i = absurd i
@@ -50,6 +52,7 @@ meets-corrections p set (Correction part w proofs ∷ rs) right within conflict 
     (false_from_ne_true (list_all (λ g. not (has set g)) part)
     (λ none. conflict.unsat (sat_outside p part set right.0.minimal within none))))
 
+-- a conflict within what a correction leaves would make that unsatisfiable
 meets-conflicts : (p : Problem) (set : List ℕ) (records : List Record) → AllByRecursion (IsRight p) records
     → IsCorrection p set → EachMeets set (conflicts_in records)
 meets-conflicts p set [] right correction other i = absurd i
@@ -119,6 +122,7 @@ length-stricter p q (x ∷ xs) g less (inr i) t f =
           ]
     ]
 
+-- what the test finds in a set is a member of it
 has-in : (set : List ℕ) (g : ℕ) → has set g ≡ true → In g set
 has-in set g h =
     let (k, i, e) = any_from (λ k. eqb k g) set h in
@@ -150,16 +154,17 @@ packed-left set taken (s ∷ ss) meets =
         by true b e = e
         by false b e = refl
 
+-- before the first set is taken, all groups of the minimal set are free
 pub packed-fewer : (kind : Kind) (p : Problem) (records : List Record) (set : List ℕ) → IsProblem p → AllAccepted p records
     → IsSubset set (all_groups p.groups) → IsOfKind p kind set → packed kind records ≤ length set
 packed-fewer kind p records set ok accepted within is =
     let most = length-filter_le (λ g. not (has [] g)) set in
-    let packed_are = packed-left set [] (listed records (other_kind kind)) (meets kind is) in
+    let packed_are = packed-left set [] (sets_of_kind records (other_kind kind)) (meets kind is) in
     omega arith
   where
     right : AllByRecursion (IsRight p) records
     right = accepted-right p records ok accepted
 
-    meets : (k : Kind) → IsOfKind p k set → EachMeets set (listed records (other_kind k))
+    meets : (k : Kind) → IsOfKind p k set → EachMeets set (sets_of_kind records (other_kind k))
     meets kinds.Conflict conflict = meets-corrections p set records right within conflict
     meets kinds.Correction correction = meets-conflicts p set records right correction

@@ -24,8 +24,8 @@ use Rattle.evidence_rec.proofs.BlockLemmas.{in_has}
 use Rattle.evidence_rec.specs.declared.record.Record.{Record}
 use Rattle.evidence_rec.specs.Records.{founds, AllAccepted}
 use Rattle.size_counter.specs.Sizes.{AreDistinct, seed_of, size_for}
-use Rattle.size_counter.specs.Counter.{counted, at_least, counter_vars, count_in, IsOrder}
-use Rattle.size_counter.specs.Names.{against, naming}
+use Rattle.size_counter.specs.Counter.{counted, at_least, counter_vars, how_many_count, IsOrder}
+use Rattle.size_counter.specs.Names.{against, names_of}
 use Rattle.size_counter.specs.Levels.{Level, left_out, level, level_counter, level_vars, level_limit}
 use Rattle.size_counter.specs.LevelLaws.{ArePartsOf}
 use Rattle.size_counter.proofs.SizeLemmas.{distinct-fit, distinct-ascends}
@@ -49,6 +49,7 @@ is_in kind named values g = cond (has named g) (literal_true values (pos g)) (el
 abbrev read_set : Kind → ℕ → List ℕ → List Bool → List ℕ
 read_set kind groups named values = filter (is_in kind named values) (all_groups groups)
 
+-- of a group of the problem the test tells whether it is in that set
 has-read : (kind : Kind) (groups : ℕ) (named : List ℕ) (values : List Bool) (g : ℕ) → has (all_groups groups) g ≡ true
     → has (read_set kind groups named values) g ≡ is_in kind named values g
 has-read kind groups named values g within =
@@ -60,7 +61,7 @@ has-read kind groups named values g within =
 
 -- a set of the other kind names its groups
 names-other : (kind : Kind) (found : List Found) (f : Found) (g : ℕ) → In f found → has (against kind f.kind f.set) g ≡ true
-    → has (naming kind found).named g ≡ true
+    → has (names_of kind found).named g ≡ true
 names-other kind found f g i h = has-first_named (flat_map (λ (e : Found). against kind e.kind e.set) found) g ∙ there found i
   where
     there : (fs : List Found) → In f fs → has (flat_map (λ (e : Found). against kind e.kind e.set) fs) g ≡ true
@@ -72,6 +73,7 @@ names-other kind found f g i h = has-first_named (flat_map (λ (e : Found). agai
         list_any-append (λ k. eqb k g) (against kind e.kind e.set) (flat_map (λ (d : Found). against kind d.kind d.set) es)
         ∙ or_right (has (against kind e.kind e.set) g) _ (there es j)
 
+-- not all pass if one of them fails
 any-false : {X : Type 0} (p : X → Bool) (xs : List X) (x : X) → In x xs → p x ≡ false → list_all p xs ≡ false
 any-false p xs x i f = false_from_ne_true (list_all p xs) (λ all. absurd (false≢true (sym f ∙ all_at p xs x all i)))
 
@@ -114,6 +116,7 @@ read-unexplored groups named values kind Correction set within names t =
           | inr not_there ↦ cond-false (has named g) (literal_true values (pos g)) true not_there
         ]
 
+-- where all blocks are true, none of the sets that were found explores it
 none-explores : (groups : ℕ) (named : List ℕ) (values : List Bool) (kind : Kind) (found : List Found) → AreWithin groups found
     → ((f : Found) (g : ℕ) → In f found → has (against kind f.kind f.set) g ≡ true → has named g ≡ true)
     → is_model found values ≡ true → is_explored found (read_set kind groups named values) ≡ false
@@ -148,46 +151,46 @@ read-counts groups named values Correction g i =
 -- so a model of a level would be a set of few groups that nothing explores
 no-model : (kind : Kind) (groups most : ℕ) (found : List Found) → AreWithin groups found → ExploredUpTo kind groups most found
     → (values : List Bool) → is_model found values ≡ true
-    → count_in values kind (level kind groups most found).order ≤ (level kind groups most found).bound → ⊥
+    → how_many_count values kind (level kind groups most found).order ≤ (level kind groups most found).bound → ⊥
 no-model kind groups most found within all values model few =
-    false≢true (sym (none-explores groups (naming kind found).named values kind found within (λ f g i h. names-other kind found f g i h) model)
+    false≢true (sym (none-explores groups (names_of kind found).named values kind found within (λ f g i h. names-other kind found f g i h) model)
     ∙ all.explored set is_set inside size)
   where
     set : List ℕ
-    set = read_set kind groups (naming kind found).named values
+    set = read_set kind groups (names_of kind found).named values
 
-    is_set : IsGroupSet (read_set kind groups (naming kind found).named values)
-    is_set = AscendsAbove-filter (is_in kind (naming kind found).named values) 0 (all_groups groups) (AscendsAbove-range 0 groups)
+    is_set : IsGroupSet (read_set kind groups (names_of kind found).named values)
+    is_set = AscendsAbove-filter (is_in kind (names_of kind found).named values) 0 (all_groups groups) (AscendsAbove-range 0 groups)
 
-    inside : IsSubset (read_set kind groups (naming kind found).named values) (all_groups groups)
-    inside g i = (and_parts (is_in kind (naming kind found).named values g) (has (all_groups groups) g) (sym (has-filter (is_in kind (naming kind found).named values) (all_groups groups) g) ∙ i)).1
+    inside : IsSubset (read_set kind groups (names_of kind found).named values) (all_groups groups)
+    inside g i = (and_parts (is_in kind (names_of kind found).named values g) (has (all_groups groups) g) (sym (has-filter (is_in kind (names_of kind found).named values) (all_groups groups) g) ∙ i)).1
 
-    parts : ArePartsOf most (naming kind found) (level kind groups most found)
-    parts = level-parts groups most (naming kind found) (names-order kind groups found within).distinct
+    parts : ArePartsOf most (names_of kind found) (level kind groups most found)
+    parts = level-parts groups most (names_of kind found) (names-order kind groups found within).distinct
 
     test : ℕ → Bool
     test g = literal_true values (counted kind g)
 
     left : List ℕ
-    left = left_out most (naming kind found)
+    left = left_out most (names_of kind found)
 
     order : List ℕ
     order = (level kind groups most found).order
 
-    differ : (k : Kind) → AreDistinct (seed_of k groups (read_set kind groups (naming kind found).named values))
-    differ Conflict = distinct-ascends 0 (read_set kind groups (naming kind found).named values) is_set
-    differ Correction = distinct-ascends 0 (complement groups (read_set kind groups (naming kind found).named values)) (IsGroupSet-complement groups set (complement groups set) refl)
+    differ : (k : Kind) → AreDistinct (seed_of k groups (read_set kind groups (names_of kind found).named values))
+    differ Conflict = distinct-ascends 0 (read_set kind groups (names_of kind found).named values) is_set
+    differ Correction = distinct-ascends 0 (complement groups (read_set kind groups (names_of kind found).named values)) (IsGroupSet-complement groups set (complement groups set) refl)
 
-    held : IsSubset (seed_of kind groups (read_set kind groups (naming kind found).named values)) (left ++ filter test order)
+    held : IsSubset (seed_of kind groups (read_set kind groups (names_of kind found).named values)) (left ++ filter test order)
     held g i =
-        let (there, counts) = read-counts groups (naming kind found).named values kind g i in
+        let (there, counts) = read-counts groups (names_of kind found).named values kind g i in
         list_any-append (λ k. eqb k g) left (filter test order)
         ∙ elim (or_cases (has left g) (has order g) (sym (parts.each g) ∙ there)) [
           | inl sure ↦ or_left (has left g) (has (filter test order) g) sure
           | inr other ↦ or_right (has left g) (has (filter test order) g) (has-filter test order g ∙ and_from (test g) (has order g) counts other)
         ]
 
-    size : size_for kind groups (read_set kind groups (naming kind found).named values) ≤ most
+    size : size_for kind groups (read_set kind groups (names_of kind found).named values) ≤ most
     size =
         let fit = distinct-fit (seed_of kind groups set) (left ++ filter test order) (differ kind) held in
         let sizes = length-append left (filter test order) in
@@ -302,6 +305,7 @@ explored-shown kind groups most found within all =
             only values (negsuc v) le lt o f =
                 absurd (false≢true (sym f ∙ ap not (get_or_past values v false (omega arith))))
 
+-- the sets of accepted records are of the problem, so there is a derivation for them too
 pub records-shown : (kind : Kind) (p : Problem) (most : ℕ) (records : List Record) → AllAccepted p records
     → ExploredUpTo kind p.groups most (founds records) → (d : Derivation) × (shows_level kind p.groups most (founds records) d ≡ true)
 records-shown kind p most records accepted all = explored-shown kind p.groups most (founds records) (accepted-within p records accepted) all

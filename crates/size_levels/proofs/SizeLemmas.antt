@@ -62,6 +62,7 @@ times-filter_is test s (x ∷ xs) =
     differ' : test x ≡ false → test s ≡ true → x ≡ s → ⊥
     differ' a b same = let e = ap test same in cc
 
+-- a set with at most so many groups stands in the part of its own size, and in no other
 times-by_size : (bound : ℕ) (sets : List (List ℕ)) (s : List ℕ) → times s (by_size bound sets) ≡ times s (up_to bound sets)
 times-by_size zero sets s =
     times-filter_is (λ x. eqb (length x) 0) s sets
@@ -109,6 +110,7 @@ times-by_size (suc b) sets s =
               ]
         ]
 
+-- two lists are one up to the order if each set is in both as often
 pub by_size-all : (bound : ℕ) (sets : List (List ℕ)) → IsPermutation (by_size bound sets) (up_to bound sets)
 by_size-all bound sets = IsPermutation-same (by_size bound sets) (up_to bound sets) (times-by_size bound sets)
 
@@ -119,6 +121,7 @@ record FirstFrom (sets : List (List ℕ)) (wanted size end found : ℕ) : Type 0
   enough : found < end → wanted ≤ length (up_to found sets)
   least : (lesser : ℕ) → size ≤ lesser → lesser < found → length (up_to lesser sets) < wanted
 
+-- sizes are tried upwards, so where the search stops each lesser one had too few sets
 first-from : (sets : List (List ℕ)) (wanted size more : ℕ) → FirstFrom sets wanted size (size + more) (size_for_count sets wanted size more)
 first-from sets wanted size zero =
     record {
@@ -156,6 +159,7 @@ first-from sets wanted size (suc more) =
           })
     ]
 
+-- that search begins at size 0, and goes no further than the number of groups
 pub level_for-least : (p : Problem) (kind : Kind) (wanted : ℕ) → IsLevelFor p kind wanted (level_for p kind wanted)
 level_for-least p kind wanted =
     let f = first-from (minimal_sets p kind) wanted 0 p.groups in

@@ -14,10 +14,11 @@ use Rattle.sat_base.specs.Derivation.{Step, Derivation, numbered, clause_of, con
 use Rattle.sat_base.proofs.Members.{all_from, any_at, any_from}
 use Rattle.sat_base.proofs.FollowsLemmas.{literal_true-neg}
 
--- what is under an id stays there where more comes behind
+-- clauses, each with its id
 abbrev Known : Type 0
 Known = List (ℕ × List ℤ)
 
+-- what is under an id stays there where more comes behind
 clause_of-kept : (known more : Known) (id : ℕ) (c : List ℤ) → clause_of known id ≡ Some c → clause_of (known ++ more) id ≡ Some c
 clause_of-kept [] more id c h = cc
 clause_of-kept (e ∷ es) more id c h =
@@ -47,6 +48,7 @@ clause_of-behind (e ∷ es) more id h =
     some_none : (c : List ℤ) → Some c ≡ None → ⊥
     some_none c e = cc
 
+-- a single clause is under its own id alone
 clause_of-one : (id at : ℕ) (c : List ℤ) → clause_of ((at, c) ∷ []) id ≡ cond (eqb at id) (Some c) None
 clause_of-one id at c = by (eqb at id)
   where
@@ -74,6 +76,7 @@ numbered-above (x ∷ xs) from id le =
 contains-in : (lits : List ℤ) (l : ℤ) → In l lits → contains_lit lits l ≡ true
 contains-in lits l i = any_at (λ m. int_eq m l) lits l i ((Decides-int_eq l l).1 refl)
 
+-- and what the test finds is a member
 in-contains : (lits : List ℤ) (l : ℤ) → contains_lit lits l ≡ true → In l lits
 in-contains lits l h =
     let (m, i, e) = any_from (λ m. int_eq m l) lits h in
@@ -179,6 +182,7 @@ abbrev clause_at : List ℤ → List Bool → List ℤ
 clause_at base [] = base
 clause_at base (b ∷ bs) = off (suc (length bs)) b ∷ clause_at base bs
 
+-- the assignment has a value for each of these variables
 length-values_at : (bs : List Bool) → length (values_at bs) ≡ length bs
 length-values_at [] = refl
 length-values_at (b ∷ bs) = let rest = length-values_at bs in length-append (values_at bs) (b ∷ []) ∙ (omega arith)
@@ -196,6 +200,7 @@ literal-push : (values : List Bool) (b : Bool) (l : ℤ) → 0 < var_of l → va
 literal-push values b (pos v) low high = get_or_append_left values (b ∷ []) false (v - 1) (omega arith)
 literal-push values b (negsuc v) low high = ap not (get_or_append_left values (b ∷ []) false v (omega arith))
 
+-- and it is the value at the end
 literal-last : (values : List Bool) (b : Bool) → get_or (values ++ b ∷ []) (length values) false ≡ b
 literal-last values b = get_or-append_right values (b ∷ []) (length values) (length values) false refl (omega arith) ∙ here (length values - length values) (omega arith)
   where

@@ -9,7 +9,7 @@ use Rattle.gm_base.specs.Explored.{Found}
 use Rattle.evidence_rec.specs.declared.record.Record.{Record}
 use Rattle.evidence_rec.specs.Records.{founds, AllAccepted}
 use Rattle.evidence_rec.specs.Held.{is_held, AreNew}
-use Rattle.size_levels.specs.Sizes.{IsOfKind, minimal_sets, listed, up_to, by_size, level_for, AreSetsOf, ExploredUpTo, HoldsUpTo, packed}
+use Rattle.size_levels.specs.Sizes.{IsOfKind, minimal_sets, sets_of_kind, up_to, by_size, level_for, AreSetsOf, ExploredUpTo, HoldsUpTo, packed}
 use Rattle.size_levels.specs.Shown.{shows_level}
 
 -- a derivation over a level's clauses shows that each set at which so few groups count is explored, whoever made it
@@ -76,7 +76,7 @@ HeldAreExactlyUpTo =
     → AllAccepted p records
     → AreNew [] records
     → HoldsUpTo p records kind most
-    → IsPermutation (up_to most (listed records kind)) (up_to most (minimal_sets p kind))
+    → IsPermutation (up_to most (sets_of_kind records kind)) (up_to most (minimal_sets p kind))
 
 -- the list in order of size has the sets with few groups, each as often
 abbrev pub BySizeHasAll : Type 0

@@ -1,11 +1,12 @@
 -- Worked examples, computed from the definitions. The wanted lists and the derivations were worked out by hand.
-use Rattle.std.specs.Prelude.{◌≡◌, ℕ, true, false, List, [], ◌∷◌, ℤ, pos}
+use Rattle.std.specs.Prelude.{◌≡◌, ℕ, true, false, List, [], ◌∷◌, pos}
 use Rattle.std.proofs.Common.{refl}
 use Rattle.sat_base.specs.Derivation.{Derivation}
 use Rattle.gm_base.specs.Minimal.{conflicts, corrections, is_conflict, is_correction, is_sat}
 use Rattle.gm_base.specs.declared.kind.Kind.TheVariants.{Conflict, Correction}
 use Rattle.gm_base.specs.Explored.{Found}
 use Rattle.gm_base.specs.Rows.{four_clauses}
+use Rattle.gm_base.specs.EvidenceRows.{one_step}
 use Rattle.size_levels.specs.Sizes.{by_size, level_for, packed_behind}
 use Rattle.size_levels.specs.Shown.{shows_level}
 
@@ -55,9 +56,6 @@ conflict set = record { kind = Conflict; set = set }
 
 abbrev correction : List ℕ → Found
 correction set = record { kind = Correction; set = set }
-
-abbrev pub one_step : ℕ → List ℤ → List ℕ → Derivation
-one_step id lits hints = record { steps = record { id = id; lits = lits; hints = hints } ∷ []; goal = id }
 
 -- both conflicts and the correction 1 explore each set with at most one group out. The blocks are clauses 1 to 3, the counter
 -- has 4 to 15, and variable 12 says that two are out

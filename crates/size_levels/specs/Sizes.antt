@@ -23,9 +23,9 @@ minimal_sets p Conflict = conflicts p
 minimal_sets p Correction = corrections p
 
 -- the sets of a kind that records are about
-abbrev pub listed : List Record → Kind → List (List ℕ)
-listed records Conflict = conflicts_in records
-listed records Correction = corrections_in records
+abbrev pub sets_of_kind : List Record → Kind → List (List ℕ)
+sets_of_kind records Conflict = conflicts_in records
+sets_of_kind records Correction = corrections_in records
 
 -- those with at most so many groups
 abbrev pub up_to : ℕ → List (List ℕ) → List (List ℕ)
@@ -75,4 +75,4 @@ packed_behind taken (set ∷ sets) =
 
 -- how many sets of the other kind are taken so of the records
 abbrev pub packed : Kind → List Record → ℕ
-packed kind records = packed_behind [] (listed records (other_kind kind))
+packed kind records = packed_behind [] (sets_of_kind records (other_kind kind))
