@@ -16,7 +16,7 @@ CEILINGS = {
     "names of definitions that two crates or more have": (
         148, "One name has one meaning: cite the definition of the lower crate, or give this one a name of its own."),
     "lemmas without a line above that says why": (
-        2024, "Write a line of plain words above it: what it says, or why it holds."),
+        2022, "Write a line of plain words above it: what it says, or why it holds."),
     "lines of code of more than 160 columns": (
         121, "Break it, or name a part of it. Imports may be longer."),
     "functions of nine arguments or more": (
