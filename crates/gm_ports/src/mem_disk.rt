@@ -212,7 +212,7 @@ impl Disk for MemDisk {
     ghost state = { disk_state };
 
     fn open_disk(&mut self, name: &str) -> Result<(), Failed>
-        ensures fails { IsErr result ↔ (WillFail self.old ⊎ (2 ^ 63 ≤ length name.now)) }
+        ensures fails { IsErr result ↔ WillFail self.old }
         ensures ok { OnOk result (self.new ≡ after_open self.old name.now) }
         ensures err { OnErr result (self.new ≡ after_fault self.old) }
         ensures opened { OnOk result ((disk_state self.new).reads ≡ (disk_state self.old).held name.now) }
@@ -221,8 +221,7 @@ impl Disk for MemDisk {
         ensures tells { TellsStill (disk_state self.old) (disk_state self.new) }
         ensures cause { HasCause self.old.calls.faults self.new.calls.faults result }
     {
-        let fits = name.len() < 0x8000_0000_0000_0000;
-        self.begin(fits)?;
+        self.begin(true)?;
         self.look();
         self.name.keep(name);
         Ok(())
