@@ -263,8 +263,13 @@ class Renamer:
                 if mine and renamed:
                     return c
                 return antt_bare(old, new)(c) if (mine or at_home) else c
+            def unless_use(c):
+                u = USE.match(c)
+                if u and u[3]:
+                    return piece(c) if u[2] in paths else c
+                return piece(c)
             def whole(text):
-                text = by_lines(text, "--" if p.endswith(".antt") else "//", piece, ticks(old, new))
+                text = by_lines(text, "--" if p.endswith(".antt") else "//", unless_use, ticks(old, new))
                 for a in alias:
                     text = re.sub(rf"(?<![\w.']){re.escape(a)}\.{re.escape(old)}(?![\w'-])", f"{a}.{new}", text)
                 return text
@@ -358,6 +363,30 @@ class Renamer:
             for p in [p for p in self.t.texts if p.startswith(base)]:
                 self.t.set(p, by_lines(self.t.texts[p], "--", lambda c: self.goal_code(c, old, new), lambda r: r))
 
+    def follow_goals(self):
+        """An answer has the name of its goal."""
+        for p, s in list(self.t.texts.items()):
+            if p.endswith(".antt") and "/proofs/" in p:
+                pairs = [(a, b) for a, b in re.findall(r"(?m)^(?:abbrev |unfoldable )?(?:pub )?([^\s:({]+) : goal\.([^\s(){}\[\],;.]+)", s) if a != b]
+                for a, b in pairs:
+                    s = re.sub(rf"(?m)^((?:abbrev |unfoldable )?(?:pub )?){re.escape(a)}(?=\s)", lambda m: m[1] + b, s)
+                self.t.set(p, s)
+
+    def lemma_names(self, old, new, files):
+        """Lemmas whose hyphened name has the definition's as a part."""
+        names = set()
+        for p in files:
+            if p.endswith(".antt") and "/proofs/" in p:
+                for n in re.findall(r"(?m)^\s*(?:abbrev |unfoldable )?(?:pub )?([^\s:({]+) :(?: (?!goal\.)|$)", self.t.texts[p]):
+                    if "-" in n and old in n.split("-") and not GOALISH.match(n):
+                        names.add(n)
+        for n in sorted(names):
+            to = "-".join(new if x == old else x for x in n.split("-"))
+            for p in list(self.t.texts):
+                if n in self.t.texts[p]:
+                    self.t.set(p, re.sub(rf"(?<![^\s(){{}}\[\],;.:]){re.escape(n)}(?![^\s(){{}}\[\],;.:])", to, self.t.texts[p]))
+            print("lemma", n, to)
+
     @staticmethod
     def goal_code(c, old, new):
         out, at = [], 0
@@ -407,6 +436,7 @@ class Renamer:
             assert re.search(rf"(?m)^(?:(?:abbrev|unfoldable|opaque) )?(?:pub )?(?:record |data )?{re.escape(old)} *[:({{]", t.texts[home]), (rule, "not defined there")
             hit = self.antt_rename(path, old, new, rule, home)
             assert hit, rule
+            self.lemma_names(old, new, hit)
             p = "dev/definitions.txt"
             if p in t.others:
                 s = re.sub(rf"(?m)^({crate} {re.escape(mod)}) {re.escape(old)}(?=[:\s])", lambda m: f"{m[1]} {new}", t.others[p])
@@ -429,10 +459,11 @@ class Renamer:
             folder = f"{top}/proofs/{mod}/"
             more = {p[len(folder):].split("/")[0] for p in t.texts if p.startswith(folder)}
             for d in sorted(more):
-                if d == old or re.match(re.escape(old) + r"[A-Z]", d):
+                if d == old or re.match(re.escape(old) + r"[A-Z+]", d):
                     self.path_rename(crate, mod, [], d, new + d[len(old):])
             self.path_rename(crate, mod, [], old, new)
             self.goal_names(hit, old, new)
+            self.follow_goals()
             dt = "dev/definitions.txt"
             left = [p for p, s in t.texts.items() if p.startswith(f"{top}/") and w(old).search(s)]
             for p in left:
@@ -465,7 +496,11 @@ class Renamer:
                 hit = self.rust_rename(files, code, ticks(old, new))
                 names = []
             self.path_rename(crate, mod, names, old, new)
+            for p in hit:
+                if re.search(rf"\blet (?:mut )?{old}\b|\((?:ref |mut )?{old}\) =", t.texts[p]):
+                    print("LOOK a local of the name", p, rule)
             self.goal_names(hit, old, new)
+            self.follow_goals()
             if not hit:
                 print("LOOK no hit", rule)
         elif kind == "var":
@@ -485,6 +520,7 @@ class Renamer:
             assert m and w(old).search(m[0]), (rule, "no such variant")
             t.set(home, s[:m.start()] + by_lines(m[0], "//", lambda c: re.sub(rf"^(\s+){old}(?!\w)", rf"\g<1>{new}", c), lambda r: r) + s[m.end():])
             self.goal_names(set(hit) | {home}, old, new)
+            self.follow_goals()
         elif kind == "field":
             mod, of, old, new, globs = rule[2:]
             for p in list(t.texts):
@@ -553,6 +589,9 @@ class Renamer:
                 if any(fnmatch.fnmatch(p, g) for g in globs):
                     code = (lambda c: w(old).sub(new, c)) if not p.endswith(".antt") else (lambda c: re.sub(rf"(?<![\w'-]){re.escape(old)}(?![\w'-])", new, c))
                     n += t.set(p, by_lines(t.texts[p], "--" if p.endswith(".antt") else "//", code, ticks(old, new)))
+                    if p.endswith(".antt"):
+                        t.set(p, by_lines(t.texts[p], "--", lambda c: self.goal_code(c, old, new), lambda r: r))
+            self.follow_goals()
             assert n, rule
         elif kind == "doc":
             globs, old, new = rule[1].split(","), rule[2], rule[3]
