@@ -363,11 +363,11 @@ class Renamer:
             for p in [p for p in self.t.texts if p.startswith(base)]:
                 self.t.set(p, by_lines(self.t.texts[p], "--", lambda c: self.goal_code(c, old, new), lambda r: r))
 
-    def follow_goals(self):
+    def follow_goals(self, old, new):
         """An answer has the name of its goal."""
         for p, s in list(self.t.texts.items()):
             if p.endswith(".antt") and "/proofs/" in p:
-                pairs = [(a, b) for a, b in re.findall(r"(?m)^(?:abbrev |unfoldable )?(?:pub )?([^\s:({]+) : goal\.([^\s(){}\[\],;.]+)", s) if a != b]
+                pairs = [(a, b) for a, b in re.findall(r"(?m)^(?:abbrev |unfoldable )?(?:pub )?([^\s:({]+) : goal\.([^\s(){}\[\],;.]+)", s) if a != b and "-".join(new if x == old else x for x in a.split("-")) == b]
                 for a, b in pairs:
                     s = re.sub(rf"(?m)^((?:abbrev |unfoldable )?(?:pub )?){re.escape(a)}(?=\s)", lambda m: m[1] + b, s)
                 self.t.set(p, s)
@@ -463,7 +463,7 @@ class Renamer:
                     self.path_rename(crate, mod, [], d, new + d[len(old):])
             self.path_rename(crate, mod, [], old, new)
             self.goal_names(hit, old, new)
-            self.follow_goals()
+            self.follow_goals(old, new)
             dt = "dev/definitions.txt"
             left = [p for p, s in t.texts.items() if p.startswith(f"{top}/") and w(old).search(s)]
             for p in left:
@@ -500,7 +500,7 @@ class Renamer:
                 if re.search(rf"\blet (?:mut )?{old}\b|\((?:ref |mut )?{old}\) =", t.texts[p]):
                     print("LOOK a local of the name", p, rule)
             self.goal_names(hit, old, new)
-            self.follow_goals()
+            self.follow_goals(old, new)
             if not hit:
                 print("LOOK no hit", rule)
         elif kind == "var":
@@ -520,7 +520,7 @@ class Renamer:
             assert m and w(old).search(m[0]), (rule, "no such variant")
             t.set(home, s[:m.start()] + by_lines(m[0], "//", lambda c: re.sub(rf"^(\s+){old}(?!\w)", rf"\g<1>{new}", c), lambda r: r) + s[m.end():])
             self.goal_names(set(hit) | {home}, old, new)
-            self.follow_goals()
+            self.follow_goals(old, new)
         elif kind == "field":
             mod, of, old, new, globs = rule[2:]
             for p in list(t.texts):
@@ -591,7 +591,7 @@ class Renamer:
                     n += t.set(p, by_lines(t.texts[p], "--" if p.endswith(".antt") else "//", code, ticks(old, new)))
                     if p.endswith(".antt"):
                         t.set(p, by_lines(t.texts[p], "--", lambda c: self.goal_code(c, old, new), lambda r: r))
-            self.follow_goals()
+            self.follow_goals(old, new)
             assert n, rule
         elif kind == "doc":
             globs, old, new = rule[1].split(","), rule[2], rule[3]
