@@ -20,6 +20,7 @@ def main(top):
         if p.endswith(".rt"):
             items[p] = set(re.findall(r"\b(?:fn|struct|enum|trait|type|mod|const|static|union|macro_rules!) (\w+)", s))
     bad = []
+    functions = set().union(*items.values())
     names = {}
     def names_of(path):
         if path not in names:
@@ -90,6 +91,17 @@ def main(top):
                     bad.append(f"{p}: use {q}: {f} has no {rest[k]}")
                 if f and k == 0 and len(rest) > 1:
                     bad.append(f"{p}: use {q}: no module")
+            code = re.sub(r"//[^\n]*", "", s)
+            for a, b in reversed(ghosts(code)):
+                code = code[:a] + code[b:]
+            bound = items[p] | {a for _, _, a in rust_uses(s)} | set(re.findall(r"\b(\w+)\s*:", code)) | set(re.findall(r"\blet (?:mut )?(\w+)", code))
+            for n in set(re.findall(r"(?<![\w.:])([a-z_]\w*)\(", code)) - bound:
+                bad.append(f"{p}: call {n}")
+            for n in set(re.findall(r"(?:\.|::)([a-z_]\w*)\(", code)):
+                if n not in functions:
+                    bad.append(f"{p}: method {n}")
+            for n in set(re.findall(r"(?<![\w:])([A-Z]\w*[a-z]\w*)(?![\w!])", re.sub(r'"(?:\\.|[^"\\])*"', "", code))) - bound:
+                bad.append(f"{p}: type {n}")
             for m in re.findall(r"(?m)^\s*(?:pub )?mod (\w+);", s):
                 d = os.path.dirname(p) if os.path.basename(p) in ("lib.rt", "main.rt", "mod.rt") else p[:-3]
                 if f"{d}/{m}.rt" not in t.texts and f"{d}/{m}/mod.rt" not in t.texts:

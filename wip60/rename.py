@@ -1,5 +1,5 @@
 #!/usr/bin/env python3
-"""rename.py TREE RULES..: renames definitions, types, functions, variants and files across a tree, resolved by imports.
+"""rename.py TREE RULES.. [--heads HEADS]: renames definitions, types, functions, variants and files across a tree, resolved by imports.
 
 Rules, one a line ('#' comments):
   def   CRATE Module old new             a definition of crates/CRATE/specs/Module.antt (or of proofs/, as proofs.Module)
@@ -174,13 +174,16 @@ def split_spans(text):
 
 
 def by_lines(text, mark, code, prose):
-    out = []
+    """Code and prose of each line, apart. An example in a head, between ```, is code."""
+    out, example = [], False
     for line in text.split("\n"):
         at = line.find(mark)
         if at >= 0 and mark == "--" and not (at == 0 or line[at - 1] in " \t"):
             at = -1
         c, r = (line, "") if at < 0 else (line[:at], line[at:])
-        out.append(code(c) + (prose(r) if r else ""))
+        if mark == "//" and re.match(r"//[/!]\s*```", r):
+            example = not example
+        out.append(code(c) + (code(r) if example and r else prose(r) if r else ""))
     return "\n".join(out)
 
 
@@ -475,7 +478,9 @@ class Renamer:
             globs = rule[5].split(",") if len(rule) > 5 else []
             mod, _, of = mod.partition(":")
             home = f"{top}/src/{mod}.rt"
-            assert home in t.texts and re.search(rf"\bfn {old}\b", t.texts[home]), (rule, "no such function")
+            m = re.search(rf"(?m)^( *)(?:pub(?:\([a-z]+\))? )?fn {old}\b", t.texts.get(home, ""))
+            assert m, (rule, "no such function")
+            assert bool(m[1]) == bool(of), (rule, "in an impl, or not")
             if of:
                 places = [p for p, s in t.texts.items() if p.endswith(".rt") and re.search(rf"\bfn {old}\b", s)]
                 every = [p for p, s in t.texts.items() if p.endswith(".rt") and re.search(rf"(\.|::){old}\s*[(<]|\bfn {old}\b", s)]
@@ -636,16 +641,35 @@ def rules_of(path):
             yield rule, line
 
 
+def edit_heads(tree, path):
+    """Old lines become new ones, in the files that are named; each stands there once."""
+    for block in open(path, encoding="utf-8").read().split("\n\n"):
+        lines = [l for l in block.split("\n") if l and not l.startswith("#")]
+        if lines:
+            p = lines[0][len("file: "):]
+            old = "\n".join(l[5:] for l in lines if l.startswith("old:")) + "\n"
+            new = "\n".join(l[5:] for l in lines if l.startswith("new:")) + "\n"
+            assert tree.texts[p].count(old) == 1, (p, old)
+            tree.set(p, tree.texts[p].replace(old, new))
+
+
 if __name__ == "__main__":
-    tree = Tree(sys.argv[1])
+    args, heads = sys.argv[1:], None
+    if "--heads" in args:
+        at = args.index("--heads")
+        heads = args[at + 1]
+        del args[at:at + 2]
+    tree = Tree(args[0])
     renamer = Renamer(tree)
     bad = 0
-    for path in sys.argv[2:]:
+    for path in args[1:]:
         for rule, line in rules_of(path):
             try:
                 renamer.do(rule, line)
             except AssertionError as e:
                 bad += 1
                 print("FAIL", e)
+    if heads:
+        edit_heads(tree, heads)
     tree.write()
     print("done,", len(tree.dirty), "files,", bad, "rules failed")
