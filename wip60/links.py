@@ -106,9 +106,9 @@ def main(top):
                 d = os.path.dirname(p) if os.path.basename(p) in ("lib.rt", "main.rt", "mod.rt") else p[:-3]
                 if f"{d}/{m}.rt" not in t.texts and f"{d}/{m}/mod.rt" not in t.texts:
                     bad.append(f"{p}: no file of mod {m}")
-            for m in re.findall(r"crate::proofs::([\w:]+)", s):
-                q = f"Rattle.{c}.proofs." + ".".join(m.split("::")[:-1])
-                if q in by_path and m.split("::")[-1] not in names_of(q):
+            for part, m in re.findall(r"crate::(proofs|specs)::([\w:-]+)", s):
+                q = f"Rattle.{c}.{part}." + ".".join(m.split("::")[:-1])
+                if q not in by_path or m.split("::")[-1] not in names_of(q):
                     bad.append(f"{p}: {q} has no {m.split('::')[-1]}")
         m = re.match(r"crates/(\w+)/proofs/(.*)\.antt$", p)
         if m:

@@ -439,6 +439,12 @@ class Renamer:
             assert re.search(rf"(?m)^(?:(?:abbrev|unfoldable|opaque) )?(?:pub )?(?:record |data )?{re.escape(old)} *[:({{]", t.texts[home]), (rule, "not defined there")
             hit = self.antt_rename(path, old, new, rule, home)
             assert hit, rule
+            part = "proofs" if mod.startswith("proofs.") else "specs"
+            place = mod.removeprefix("proofs.").replace(".", "::")
+            for p in list(t.texts):
+                if p.endswith(".rt"):        # in an attribute: unfolding(crate::specs::Module::old)
+                    root = "crate" if crate_of(p) == crate else crate
+                    t.set(p, re.sub(rf"(\b{root}::{part}::{place}::){re.escape(old)}(?![\w-])", lambda m: m[1] + new, t.texts[p]))
             self.lemma_names(old, new, hit)
             p = "dev/definitions.txt"
             if p in t.others:
@@ -569,6 +575,8 @@ class Renamer:
             t.move(f"{top}/{sub}/{old}", f"{top}/{sub}/{new}")
             for p in list(t.texts):
                 s = re.sub(rf"(Rattle\.{crate}\.{sub}\.){old}(?=[.\s])", lambda m: m[1] + new, t.texts[p])
+                if p.endswith(".rt"):
+                    s = re.sub(rf"(\b{'crate' if crate_of(p) == crate else crate}::{sub}::){old}(?=::)", lambda m: m[1] + new, s)
                 if p == f"{top}/{sub}/Lib.antt":
                     s = re.sub(rf"(?m)^((?:pub )?mod ){old}$", lambda m: m[1] + new, s)
                 if crate_of(p) == crate:
