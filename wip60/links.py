@@ -57,6 +57,11 @@ def main(top):
             for k in range(len(parts), 0, -1):
                 f = f"crates/{m[1]}/src/{'/'.join(parts[:k])}.rt"
                 if f in t.texts:
+                    if parts[-1] in ("Goals", "Given"):
+                        for a, b in ns:
+                            for seg in a.split("-"):
+                                if WORD.fullmatch(seg) and seg not in words[f]:
+                                    bad.append(f"{p}: {path} import {a}: no {seg}")
                     for x in parts[k:]:
                         x0 = re.split(r"[+\[<]", x)[0]
                         if x0 not in words[f] and x0 not in ("Goals", "Given", "TheVariants", "TheInside") and not any(y in words[f] for y in re.findall(r"[A-Z][a-z0-9]+(?:[A-Z][a-z0-9]+)*", x0)):
