@@ -5,7 +5,7 @@ Each file of A has its counterpart in B. Both are cut into tokens; blanks, line 
 before a closing bracket don't count, since the formatter moves them. Imports and lists of modules are compared as sets, since it
 sorts them. A string of a program is one token. Two tokens that differ have to be an old and a new name of one rule.
 Prints what else differs (DIFFERS, ends with 1); MIXED where a file has a word both renamed and not; MEETS where a new name was
-there before. --pairs prints how often each name was mapped.
+there before; MERGES where two words became one. --pairs prints how often each name was mapped.
 """
 import collections, os, re, sys
 sys.path.insert(0, os.path.dirname(os.path.abspath(__file__)))
@@ -223,6 +223,13 @@ def main(args):
                 break
             here[one, other] += 1
         old_words = set(x) | {t for one in i for t in TEXT.findall(one)}
+        olds = collections.defaultdict(set)
+        for one, other in here:
+            if one != other:
+                olds[other].add(one)
+        for other, ones in sorted(olds.items()):
+            if len(ones) > 1:
+                print("MERGES", q, *sorted(ones), "became", other)
         for (one, other), n in sorted(here.items()):
             if one != other:
                 used[one, other] += n
