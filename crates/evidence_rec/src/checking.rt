@@ -3,8 +3,9 @@
 //! Each refutation of a record is a derivation from the clauses with their selectors, so one checker of steps serves all of
 //! them: it is made once, and before each refutation it forgets the steps of the one before. Nobody who made a record is
 //! trusted, and the first line at which something is wrong is the answer.
-ghost use Rattle.std.specs.Prelude.{◌≡◌, ◌↔◌, [], IfOk, IsTrue};
+ghost use Rattle.std.specs.Prelude.{◌≡◌, ◌↔◌, [], true, IfOk, IsTrue};
 ghost use Rattle.gm_base.specs.Sets.{IsGroupSet};
+ghost use Rattle.gm_base.specs.Evidence.{refutes};
 ghost use Rattle.evidence_rec.specs.Records.{IsShaped, Accepts, AllAccepted, IsMinimal};
 ghost use Rattle.evidence_rec.specs.Refusals.{at_line, record_refusal};
 ghost use Rattle.evidence_rec.specs.Verdicts.{refusal_by, IsAccepted};
@@ -109,6 +110,21 @@ impl RecordChecker {
                 proofs,
             } => correction_verdict(&mut self.checker, problem, earlier, set, witness, proofs),
         }
+    }
+
+    /// Whether a derivation refutes a set of groups, which need not be minimal.
+    pub fn refutes(
+        &mut self,
+        problem: &Problem,
+        set: &GroupSet,
+        proof: &Derivation,
+    ) -> Result<bool, AllocError>
+        requires same_problem { self.old ≡ basis_of problem.now }
+        ensures refutes { IfOk result (λ shown. IsTrue shown ↔ (refutes problem.now set.now proof.now ≡ true)) }
+        ensures same { self.new ≡ self.old }
+    {
+        let verdict = refutation_verdict(&mut self.checker, problem, set, None, proof, 0)?;
+        Ok(verdict.is_ok())
     }
 }
 

@@ -14,13 +14,22 @@ use gm_io::{Bounds, Enumerated};
 use gm_journal::Journal;
 use gm_ports::{Gate, NoDisk};
 use group_oracle::GroupOracle;
+use helping_oracle::Helping;
 use known_sets::KnownSets;
 use map_core::Goal;
+use open_shrinks::{OpenShrinks, Worth};
 use power_map::PowerMap;
 use std::alloc::{AllocError, Global};
 use std::sync::Wait;
 use std::thread::{self, Threads};
 use worker_pool::{Outcome, enumerate};
+
+/// Which shrinks workers help one another with (measured, see docs/DECISIONS.md).
+const WORTH: Worth = Worth {
+    groups: 16,
+    learnt: 2_000,
+    part: 4,
+};
 
 /// The greatest bounds, where this is wanted of so many workers.
 pub fn greatest_bounds(goal: Goal, jobs: u32) -> Bounds
@@ -95,31 +104,41 @@ pub fn fresh_map(alloc: Global, groups: u32, goal: Goal) -> Result<PowerMap, All
     }
 }
 
-/// An oracle for each worker, which remembers these records and what it is answered. All are made at once, in threads, as
-/// twins of one, so that the clauses stand once.
+/// An oracle for each worker, which remembers these records and what it is answered. Where there are several, they help one
+/// another with hard shrinks. All are made at once, in threads, as twins of one, so that the clauses stand once.
 pub fn fresh_oracles<R: Threads + Sync>(
     rt: &R,
     alloc: Global,
     problem: &Problem,
     first: &[Record],
     count: u32,
-) -> Result<Vec<KnownSets<GroupOracle>>, AllocError>
+) -> Result<Vec<Helping<GroupOracle>>, AllocError>
     requires { AllAccepted problem.now first.now }
     ensures count { IfOk result (λ oracles. length oracles.items ≡ count) }
     ensures fresh { IfOk result (λ oracles. All (λ o. IsFresh problem.now o) oracles.items) }
 {
     let solver = GroupOracle::new(alloc, problem)?;
+    let shrinks = shrinks_for(alloc, count)?;
     let made = thread::map_indices(
         rt,
         alloc,
         count as usize,
-        &|_: usize| -> Result<KnownSets<GroupOracle>, AllocError>
+        &|_: usize| -> Result<Helping<GroupOracle>, AllocError>
             requires accepted { AllAccepted problem.now first.now }
             requires same { solver.problem ≡ problem.now }
             ensures { IfOk result (IsFresh problem.entry.now) }
-        { twin_of(alloc, problem, &solver, first) },
+        { twin_of(alloc, problem, &solver, first, shrinks.as_ref()) },
     )?;
     all_of(alloc, made)
+}
+
+// Where so many workers show one another what they shrink: nowhere, where there is one.
+fn shrinks_for(alloc: Global, count: u32) -> Result<Option<OpenShrinks>, AllocError> {
+    if count < 2 {
+        return Ok(None);
+    }
+    let shrinks = OpenShrinks::new(alloc, WORTH)?;
+    Ok(Some(shrinks))
 }
 
 // What is in all of these, where each has something in it.
@@ -146,19 +165,25 @@ pub fn fresh_oracle(
     remembering(alloc, problem, solver, first)
 }
 
-// The same, which shares the clauses of one that is there.
+// The same, which shares the clauses of one that is there, and helps others where there are any.
 fn twin_of(
     alloc: Global,
     problem: &Problem,
     solver: &GroupOracle,
     first: &[Record],
-) -> Result<KnownSets<GroupOracle>, AllocError>
+    shrinks: Option<&OpenShrinks>,
+) -> Result<Helping<GroupOracle>, AllocError>
     requires accepted { AllAccepted problem.now first.now }
     requires same { solver.now.problem ≡ problem.now }
     ensures { IfOk result (IsFresh problem.now) }
 {
     let twin = solver.twin(alloc)?;
-    remembering(alloc, problem, twin, first)
+    let known = remembering(alloc, problem, twin, first)?;
+    let shrinks = match shrinks {
+        Some(shrinks) => Some(shrinks.copy()?),
+        None => None,
+    };
+    Ok(Helping::new(known, shrinks))
 }
 
 // An oracle that remembers these records, and what it is answered, around one that was asked nothing.

@@ -17,7 +17,7 @@ use gm_journal::laws::{kept_is_salvaged, texts_are_of_their_records};
 use gm_journal::{Journal, JournalClosing, Seat};
 use gm_ports::{Disk, Gate};
 use group_oracle::GroupOracle;
-use known_sets::KnownSets;
+use helping_oracle::Helping;
 use lrat_steps::Logs;
 use map_core::Closing;
 use power_map::PowerMap;
@@ -29,7 +29,7 @@ use worker_pool::{Outcome, enumerate};
 /// All that an enumeration begins with but its records.
 #[derive(Drop)]
 pub struct Crew {
-    pub oracles: Vec<KnownSets<GroupOracle>>,
+    pub oracles: Vec<Helping<GroupOracle>>,
     pub map: PowerMap,
 }
 

@@ -288,6 +288,40 @@ impl Memory {
         self.refuted.hold(alloc, set, proof)
     }
 
+    /// Remembers what an assignment from anywhere shows, if it satisfies the background and a set without one of its groups.
+    pub fn keep_offered(
+        &mut self,
+        alloc: Global,
+        set: &GroupSet,
+        group: u32,
+        assign: &Assign,
+    ) -> Result<(), AllocError>
+        ensures { (p : Problem) → IsRightFor p self.old → IsRightFor p self.new }
+    {
+        let rest = set.without(alloc, group)?;
+        let assign = assign.copy()?;
+        if let Some(shown) = self.models.tested(&rest, assign) {
+            self.keep_shrinking(alloc, &rest, &shown);
+        }
+        Ok(())
+    }
+
+    /// Remembers that a set is refuted, if a derivation from anywhere shows it.
+    pub fn keep_checked(
+        &mut self,
+        alloc: Global,
+        set: &GroupSet,
+        proof: &Derivation,
+    ) -> Result<(), AllocError>
+        ensures { (p : Problem) → IsRightFor p self.old → IsRightFor p self.new }
+    {
+        if self.models.refutes(alloc, set, proof)? {
+            let proof = proof.copy()?;
+            self.refuted.hold(alloc, set, proof);
+        }
+        Ok(())
+    }
+
     /// Remembers that an assignment satisfies the background and a set, as one that was told.
     pub fn keep_told(&mut self, alloc: Global, set: &GroupSet, assign: &Assign)
         ensures { (p : Problem) → IsRightFor p self.old → is_witness p set.now assign.now ≡ true → IsRightFor p self.new }

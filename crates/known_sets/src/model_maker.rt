@@ -13,7 +13,7 @@
 //! How much flips, turns and repairs may look at is bounded by how many questions the oracle within was asked.
 ghost use Rattle.std.specs.Prelude.{◌≡◌, true, All, None, IfOk, IfSome};
 ghost use Rattle.gm_base.specs.Problem.{Problem};
-ghost use Rattle.gm_base.specs.Evidence.{is_witness};
+ghost use Rattle.gm_base.specs.Evidence.{refutes, is_witness};
 ghost use Rattle.model_flips.specs.Rotation.{IsListing, Satisfies};
 ghost use Rattle.known_sets.specs.Entries.{IsSatisfied};
 ghost use Rattle.known_sets.specs.Making.{MakesModelsOf};
@@ -26,7 +26,8 @@ use crate::refuted::RefutedSets;
 use crate::satisfied::SatisfiedSets;
 use crate::showing::show_all;
 use crate::turning::turn_all;
-use gm_base::{Assign, GroupSet, Problem};
+use evidence_rec::RecordChecker;
+use gm_base::{Assign, Derivation, GroupSet, Problem};
 use model_flips::{Flips, Rotation, Turned, tested};
 use std::alloc::{AllocError, Global};
 
@@ -196,6 +197,19 @@ impl ModelMaker {
         ensures { (p : Problem) → MakesModelsOf p self.now → IfSome result (λ shown. is_witness p set.now shown ≡ true) }
     {
         tested(&self.problem, set, assign)
+    }
+
+    /// Whether a derivation refutes a set.
+    pub fn refutes(
+        &self,
+        alloc: Global,
+        set: &GroupSet,
+        proof: &Derivation,
+    ) -> Result<bool, AllocError>
+        ensures { (p : Problem) → MakesModelsOf p self.now → IfOk result (λ shown. shown ≡ true → refutes p set.now proof.now ≡ true) }
+    {
+        let mut checker = RecordChecker::new(alloc, &self.problem)?;
+        checker.refutes(&self.problem, set, proof)
     }
 
     /// Shows more groups critical from those that are known from this number on. It goes on as turns do.

@@ -92,6 +92,22 @@ impl<O: Oracle> KnownSets<O> {
     {
         self.memory.keep_told(alloc, set, assign);
     }
+
+    /// Takes an assignment from anywhere for a set without one of its groups. It is tested, and if it satisfies the background
+    /// and the rest of the set it is remembered as if it had answered that question.
+    pub fn offered(&mut self, alloc: Global, set: &GroupSet, group: u32, assign: &Assign)
+        ensures { self.new ≡ self.old }
+    {
+        self.memory.keep_offered(alloc, set, group, assign).ok();
+    }
+
+    /// Takes a set with a derivation from anywhere. It is checked, and if it refutes the set this is remembered as the one that
+    /// was refuted last.
+    pub fn told(&mut self, alloc: Global, set: &GroupSet, proof: &Derivation)
+        ensures { self.new ≡ self.old }
+    {
+        self.memory.keep_checked(alloc, set, proof).ok();
+    }
 }
 
 impl<O: Oracle> KnownSets<O> {

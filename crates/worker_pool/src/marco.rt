@@ -52,13 +52,18 @@ pub fn explore<O: Oracle>(
     met: &Met,
     turn: u64,
     purse: &mut Purse,
+    signs: &Signs,
 ) -> Result<Explored, AllocError>
     requires problem { (O.state oracle.old).problem ≡ problem.now }
     requires within { IsSubset seed.now (all_groups problem.now.groups) }
     ensures explored { IfOk result (TellsExplored (O.state oracle.new) seed.now purse.new.left) }
     ensures spent { IsSpent (O.state oracle.old) (O.state oracle.new) purse.old.left purse.new.left }
 {
-    match oracle.ask(alloc, seed, turn, purse)? {
+    let asked = oracle.ask(alloc, seed, turn, purse)?;
+    if !matches!(asked, Asked::Dry) {
+        signs.answer_first();
+    }
+    match asked {
         Asked::Sat(assign) => grow_seed(alloc, oracle, problem, seed, &assign, turn, purse),
         Asked::Unsat(core) => shrink_core(alloc, oracle, problem, seed, &core, met, turn, purse),
         Asked::Dry => Ok(Explored::Dry(seed.copy(alloc)?)),
@@ -151,6 +156,7 @@ fn work_on<O: Oracle, M: MapEngine, D: Disk, R: Wait>(
             met,
             turn,
             &mut purse,
+            signs,
         );
         let used = granted - purse.left;
         match explored {
@@ -237,9 +243,14 @@ pub fn work_beside<O: Oracle, M: MapEngine, G: Gate, D: Disk, R: Wait>(
     let mut met = Met::new(alloc, goal, problem.groups());
     pace.begin(rt, signs);
     signs.come();
+    let mut is_first = true;
     while let Taken::Job { turn, seed, grant } = board.take(rt, &mut worker.seat, 0) {
         signs.go();
         gate.pass(worker.seat.number(), turn);
+        if is_first {
+            is_first = false;
+            pace.ask_first(signs);
+        }
         if !work_on(
             rt, alloc, board, problem, worker, turn, &seed, grant, &mut met, journal, signs,
         ) {

@@ -7,6 +7,9 @@
 //! much longer than its own; of several, a quarter for each, and three quarters at most. A worker that had to wait long for
 //! its turns in several more of its jobs than it had not parts and watches again.
 //!
+//! While the leader is at its first question, all others would be at the same one: they watch on, until it is answered and the
+//! shrink of its core can be helped with (`helping_oracle`), some times as long as the problem has clauses.
+//!
 //! Who watches does so for some times as long as it takes to make a solver of the problem, and twice as long where that was in
 //! vain. Nobody sleeps past the end of the enumeration (`signs.rt`).
 use crate::signs::Signs;
@@ -45,6 +48,9 @@ const TRIES: u64 = 8;
 // By such a part the time between two glances gets shorter behind a job, where long waits are seldom.
 const SHORTER: u64 = 16;
 
+// So often it is watched for the answer to the first question at most, where a problem has as many clauses.
+const FIRST_WATCHES: u64 = 256;
+
 /// When a worker rests.
 #[derive(Drop)]
 pub struct Pace {
@@ -52,6 +58,8 @@ pub struct Pace {
     // The shortest time between two glances for this problem, and that for the next ones, in microseconds.
     least: u64,
     interval: u64,
+    // How often it watches on for the answer to the first question.
+    first: u64,
     // The looks of its seat before its last job.
     looks: u64,
     // By how many the jobs with a long wait exceed those without, since it joined.
@@ -66,8 +74,16 @@ impl Pace {
             leads,
             least,
             interval: least,
+            first: (clauses as u64).min(FIRST_WATCHES),
             looks: 0,
             long: 0,
+        }
+    }
+
+    /// Says that the leader asks its first question.
+    pub fn ask_first(&self, signs: &Signs) {
+        if self.leads {
+            signs.ask_first();
         }
     }
 
@@ -116,11 +132,23 @@ impl Pace {
                     busy = busy.saturating_add(1);
                 }
             }
+            if self.waits_for_first(signs) {
+                continue; // As often as before: the answer may come soon.
+            }
             if busy <= room_beside(signs.at_work()) {
                 return;
             }
             self.slow();
         }
+    }
+
+    // Whether the first question has no answer yet, and it was not watched for long enough.
+    fn waits_for_first(&mut self, signs: &Signs) -> bool {
+        if self.first == 0 || !signs.is_first() {
+            return false;
+        }
+        self.first = self.first.saturating_sub(1);
+        true
     }
 
     // The next glances come half as often.

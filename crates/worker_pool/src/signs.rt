@@ -1,6 +1,7 @@
 //! The signs: what the workers see of each other beside the board.
 //!
-//! They are three words that all workers share: whether one has ended, how many are at the board, and how many are at work.
+//! They are four words that all workers share: whether one has ended, how many are at the board, how many are at work, and
+//! whether the leader is at its first question.
 //! By them a worker settles whether it rests (`pace.rt`). When the first one ends, the others soon do, and none shall be waited
 //! for that only sleeps: so whoever ends wakes all, and nobody sleeps from then on. Nothing is found by the signs, and no
 //! clause speaks of them.
@@ -12,6 +13,10 @@ const GOES_ON: u64 = 0;
 
 const ENDS: u64 = 1;
 
+const LATER: u64 = 0;
+
+const FIRST: u64 = 1;
+
 /// What the workers see of each other.
 #[derive(Drop)]
 pub struct Signs {
@@ -21,6 +26,8 @@ pub struct Signs {
     at_board: AtomicU64,
     // How many don't rest.
     at_work: AtomicU64,
+    // `FIRST` while the leader has no answer to its first question.
+    question: AtomicU64,
 }
 
 impl Signs {
@@ -30,6 +37,7 @@ impl Signs {
             end: AtomicU64::new(GOES_ON),
             at_board: AtomicU64::new(0),
             at_work: AtomicU64::new(1),
+            question: AtomicU64::new(LATER),
         }
     }
 
@@ -72,6 +80,21 @@ impl Signs {
     /// One fewer is at work.
     pub fn part(&self) {
         self.at_work.fetch_sub(1, Ordering::SeqCst);
+    }
+
+    /// The leader asks its first question.
+    pub fn ask_first(&self) {
+        self.question.store(FIRST, Ordering::SeqCst);
+    }
+
+    /// It has an answer.
+    pub fn answer_first(&self) {
+        self.question.store(LATER, Ordering::SeqCst);
+    }
+
+    /// Whether the leader has no answer to its first question yet.
+    pub fn is_first(&self) -> bool {
+        self.question.load(Ordering::SeqCst) == FIRST
     }
 
     /// How many are at work.

@@ -1,0 +1,1 @@
+-- No definition: no clause speaks of what the cells hold.
