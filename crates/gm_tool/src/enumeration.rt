@@ -26,8 +26,8 @@ use worker_pool::{Outcome, enumerate};
 
 /// Which shrinks workers help one another with (measured, see docs/DECISIONS.md).
 const WORTH: Worth = Worth {
-    groups: 16,
-    learnt: 2_000,
+    groups: 4,
+    learnt: 1_000,
     part: 4,
 };
 

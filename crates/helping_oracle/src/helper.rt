@@ -132,15 +132,32 @@ pub fn help<O: Oracle>(
     ensures { HasHelped known.old known.new purse.old.left purse.new.left }
 {
     be_told(alloc, known, helper, shrink);
-    for _ in 0..shrink.groups().len() {
+    ask_from_far_end(alloc, known, helper, shrink, seed, turn, purse);
+    be_told(alloc, known, helper, shrink);
+}
+
+// Asks about one drawn group after the other.
+fn ask_from_far_end<O: Oracle>(
+    alloc: Global,
+    known: &mut KnownSets<O>,
+    helper: &mut Helper,
+    shrink: &OpenShrink,
+    seed: &GroupSet,
+    turn: u64,
+    purse: &mut Purse,
+)
+    requires { IsSubset seed.now (all_groups known.old.problem.groups) }
+    ensures { HasHelped known.old known.new purse.old.left purse.new.left }
+{
+    // Each group is drawn once, and one may stand open from the last time.
+    for _ in 0..=shrink.groups().len() {
         let Some(group) = helper.next(shrink) else {
-            break;
+            return;
         };
         if !help_with(alloc, known, helper, shrink, seed, group, turn, purse) {
-            break;
+            return;
         }
     }
-    be_told(alloc, known, helper, shrink);
 }
 
 // Is told the latest core, where that is smaller than what was told before. It is checked there.
