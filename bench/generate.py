@@ -17,6 +17,7 @@ feature         a feature model, whose tree is the background; cross-tree constr
 adder           a ripple-carry adder; each gate is a group; inputs and the outputs of a faulty adder are the background
 multiplier      an array multiplier, with its groups and its background as in adder
 tripled         three ripple-carry adders and a voter, which is background; the groups and the rest of it are as in adder
+factor          a multiplier whose product is a prime and whose factors are above one; each gate is a group
 miter           two multipliers that add in different orders; each gate is a group; that outputs differ is background
 colour          a graph and three colours; each edge is a group
 colour-vertex   a graph and three colours; that a vertex has a colour is a group
@@ -414,6 +415,32 @@ def multiplier(size, choices):
     return problem
 
 
+def is_prime(number):
+    return number > 1 and all(number % part for part in range(2, int(number ** 0.5) + 1))
+
+
+def factor(size, choices):
+    """A multiplier by rows whose product is a prime, and neither of its factors is one: no factors make that true.
+
+    With n bits a number there are 6 n ** 2 - 8 n groups. There is one conflict, and a correction for each of its groups.
+    """
+    problem = Problem()
+    circuit = Circuit(problem)
+    bits = max(2, round((4 + (16 + 6 * size) ** 0.5) / 6))
+    left = [problem.variable() for _ in range(bits)]
+    right = [problem.variable() for _ in range(bits)]
+    outputs = add_rows(circuit, left, right)
+    circuit.put_gates()
+    top = 1 << 2 * bits - 1
+    product = next(number for number in range(top + 2 * int(choices.numbers.random() * top / 4) + 1, 2 * top, 2)
+                   if is_prime(number))
+    for at, output in enumerate(outputs):
+        problem.always([output if product >> at & 1 else -output])
+    for number in (left, right):
+        problem.always(number[1:])
+    return problem
+
+
 def miter(size, choices):
     """Multipliers by rows and by columns, of which some output is to differ.
 
@@ -792,7 +819,7 @@ def parity(size, choices):
 
 
 FAMILIES = {"chain": chain, "links": links, "random": random_cnf, "threshold": threshold, "clumps": clumps, "dense": dense,
-            "feature": feature, "adder": adder, "multiplier": multiplier, "tripled": tripled, "miter": miter,
+            "feature": feature, "adder": adder, "multiplier": multiplier, "tripled": tripled, "factor": factor, "miter": miter,
             "colour": colour, "colour-vertex": colour_vertex, "types": types, "net": net, "index": index, "config": config,
             "unrolled": unrolled, "plan": plan,
             "pigeon": pigeon, "pigeon-holes": pigeon_holes, "parity": parity}

@@ -1,7 +1,7 @@
 #!/usr/bin/env python3
 """Runs gmus with several numbers of workers on generated problems, and prints a table in Markdown.
 
-    bench/compare/jobs.py PROGRAM [--jobs 1,2,4,64] [--rounds N] [--only WORD] [--folder FOLDER]
+    bench/compare/jobs.py PROGRAM [--jobs 1,2,4,64] [--rounds N] [--only WORD] [--folder FOLDER] [--shares]
 
 Each round runs each number of workers once, so that an hour in which the machine is slower meets them all. The seconds are
 those of the clock; the quickest of all rounds counts. Behind them stand the quickest of the third number by that of the
@@ -10,20 +10,26 @@ first, the same of the medians, and the quickest of the last number by that of t
 Of a problem without a limit all reports have to be equal; where they aren't, or where a run fails, the last line says so,
 and the run ends with 1. With a limit the sets that are found first depend on how the workers meet.
 
-The problems are in three lists: `map`, in which turns at the map take a tenth of one worker's time to most of it; `oracle`,
-in which they take less, or questions are hard; and `small`, the short ones of run.py, for comparing reports. WORD names a list or a family; without it
+The problems are in four lists: `map`, in which turns at the map take a tenth of one worker's time to most of it; `oracle`,
+in which they take less, or questions are hard; `hard`, with one hard conflict each; and `small`, the short ones of run.py, for comparing reports. WORD names a list or a family; without it
 `map` and `oracle` run.
+
+With --shares a second table says what several workers take of one, by the medians of all rounds: the most clauses that one
+of their oracles learnt, processor seconds, the clock, and the peak of memory. The first of these needs a PROGRAM that says on
+standard error what each log has learnt: see bench/measure/found.sh. The last row has the geometric means and the worst.
 """
 import argparse
 import datetime
 import hashlib
 import os
 import platform
+import re
 import statistics
 import subprocess
 import sys
 import tempfile
 import time
+from collections import namedtuple
 
 from places import BENCH
 from bench.compare import run
@@ -38,6 +44,14 @@ oracle random         60    1  1000
 oracle colour         300   1  1000
 oracle random         34    1  4000
 oracle pigeon         16    1  -
+hard   factor         100   1  -
+hard   factor         160   1  -
+hard   miter          150   1  -
+hard   pigeon         18    1  -
+hard   pigeon-holes   22    1  -
+hard   parity         60    1  -
+hard   threshold      20    1  -
+hard   random         40    1  -
 map    multiplier     64    3  -
 map    multiplier     64    1  -
 map    types          60    5  -
@@ -61,15 +75,32 @@ def make(problem, folder):
     return file
 
 
+# What one run took: seconds of the clock and of processors, MB at the peak, and the most clauses in one oracle's log, or None.
+Taken = namedtuple("Taken", "clock processor peak learnt")
+
+
+def most_learnt(said):
+    """The most clauses in one oracle's log, of a line `learnt A B ..; map M`, or None."""
+    found = re.search(rb"^learnt ([0-9 ]+);", said, re.MULTILINE)
+    return max(map(int, found[1].split())) if found else None
+
+
 def time_one(program, problem, file, workers):
-    """Seconds of the clock, a digest of the report, and what was wrong, or None."""
+    """What it took, a digest of the report, and what was wrong, or None."""
     limit = [] if problem.limit == "-" else ["--limit", problem.limit]
-    begin = time.perf_counter()
-    ran = subprocess.run([program, "list", "--jobs", str(workers), *limit, file], capture_output=True)
-    seconds = time.perf_counter() - begin
+    with tempfile.TemporaryFile() as out, tempfile.TemporaryFile() as err:
+        begin = time.perf_counter()
+        ran = subprocess.Popen([program, "list", "--jobs", str(workers), *limit, file], stdout=out, stderr=err)
+        _, status, used = os.wait4(ran.pid, 0)
+        seconds = time.perf_counter() - begin
+        ran.returncode = os.waitstatus_to_exitcode(status)
+        out.seek(0)
+        err.seek(0)
+        report, said = hashlib.sha256(out.read()).hexdigest(), err.read()
     wanted = [0] if problem.limit == "-" else [0, 4]
-    fault = None if ran.returncode in wanted else f"status {ran.returncode}: {ran.stderr[:200]!r}"
-    return seconds, hashlib.sha256(ran.stdout).hexdigest(), fault
+    fault = None if ran.returncode in wanted else f"status {ran.returncode}: {said[:200]!r}"
+    taken = Taken(seconds, used.ru_utime + used.ru_stime, used.ru_maxrss / 1024, most_learnt(said))
+    return taken, report, fault
 
 
 class Row:
@@ -80,11 +111,13 @@ class Row:
         self.name += "" if problem.limit == "-" else f", {int(problem.limit):,} sets"
         self.is_whole = problem.limit == "-"
         self.seconds = {workers: [] for workers in jobs}
+        self.taken = {workers: [] for workers in jobs}
         self.reports = set()
         self.faults = []
 
-    def add(self, workers, seconds, report, fault):
-        self.seconds[workers].append(seconds)
+    def add(self, workers, taken, report, fault):
+        self.seconds[workers].append(taken.clock)
+        self.taken[workers].append(taken)
         if fault:
             self.faults.append(f"{self.name} with {workers} workers: {fault}")
         elif self.is_whole:
@@ -97,6 +130,16 @@ class Row:
     def ratio(self, of, by, which=min):
         return f"{which(self.seconds[of]) / which(self.seconds[by]):.2f}"
 
+    def shares(self, of, by):
+        """Of each thing that is taken, what so many workers take of so many; None where it isn't known."""
+        return [self.share(which, of, by) for which in Taken._fields]
+
+    def share(self, which, of, by):
+        some, few = ([getattr(taken, which) for taken in self.taken[workers]] for workers in (of, by))
+        if None in some + few or not statistics.median(few):
+            return None
+        return statistics.median(some) / statistics.median(few)
+
     def cells(self, jobs):
         few, some, many = jobs[0], jobs[min(2, len(jobs) - 1)], jobs[-1]
         return [self.name, *(f"{min(self.seconds[workers]):.3g}" for workers in jobs),
@@ -107,14 +150,26 @@ def put_row(cells):
     print("| " + " | ".join(cells) + " |", flush=True)
 
 
+def put_shares(rows, of, by):
+    """Prints what so many workers take of so many."""
+    print()
+    put_row([f"{of} / {by}", "clock", "processor", "peak", "most learnt"])
+    put_row(["---"] * (1 + len(Taken._fields)))
+    for row in rows:
+        put_row([row.name, *("-" if share is None else f"{share:.2f}" for share in row.shares(of, by))])
+    known = [[share for share in shares if share] for shares in zip(*(row.shares(of, by) for row in rows))]
+    put_row(["mean", *(f"{statistics.geometric_mean(shares):.2f}" if shares else "-" for shares in known)])
+    put_row(["worst", *(f"{max(shares):.2f}" if shares else "-" for shares in known)])
+
+
 def measure(given, jobs, problems, folder):
-    """Prints the table, and gives what was wrong."""
+    """Prints the tables, and gives what was wrong."""
     some, many = jobs[min(2, len(jobs) - 1)], jobs[-1]
     heads = ["", *(f"{workers} worker{'s' * (workers > 1)}" for workers in jobs),
              f"{some} / {jobs[0]}", "medians", f"{many} / {some}"]
     put_row(heads)
     put_row(["---"] * len(heads))
-    faults = []
+    faults, rows = [], []
     for problem in problems:
         file = make(problem, folder)
         row = Row(problem, jobs)
@@ -122,7 +177,10 @@ def measure(given, jobs, problems, folder):
             for workers in jobs:
                 row.add(workers, *time_one(given.program, problem, file, workers))
         put_row(row.cells(jobs))
+        rows.append(row)
         faults += row.all_faults()
+    if given.shares:
+        put_shares(rows, some, jobs[0])
     return faults
 
 
@@ -131,12 +189,13 @@ def main():
     words.add_argument("program", metavar="PROGRAM", help="gmus")
     words.add_argument("--jobs", default="1,2,4,64", metavar="J,K,..", help="numbers of workers (1,2,4,64)")
     words.add_argument("--rounds", type=int, default=3, metavar="N", help="runs of each (3)")
-    words.add_argument("--only", metavar="WORD", help="problems of this list (map, oracle, small) or family")
+    words.add_argument("--only", metavar="WORD", help="problems of this list (map, oracle, hard, small) or family")
+    words.add_argument("--shares", action="store_true", help="print what several workers take of one, too")
     words.add_argument("--folder", metavar="FOLDER", help="where problems are kept, and looked for")
     given = words.parse_args()
     jobs = [int(workers) for workers in given.jobs.split(",")]
     problems = [problem for problem in PROBLEMS if given.only == problem.kind
-                or problem.kind != "small" and given.only in (None, problem.family)]
+                or problem.kind not in ("small", "hard") and given.only in (None, problem.family)]
     if not problems or given.rounds < 1 or not os.access(given.program, os.X_OK):
         words.error("nothing to run")
     given.program = os.path.abspath(given.program)

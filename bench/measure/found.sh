@@ -5,7 +5,7 @@
 #     FOLDER/crates/gmus/out/gmus roles FILE
 #     FOLDER/crates/gmus/out/gmus list FILE --focus @1000000
 #
-# It says on standard error how many sets it found and what `run` took. That function alone is proved anew, and else what is
+# It says on standard error how many sets it found, what `run` took, and what each log has learnt (`learnt A B ..; map M`). That function alone is proved anew, and else what is
 # kept of earlier checks.
 set -eu
 here=$(CDPATH= cd -- "$(dirname -- "$0")" && pwd)

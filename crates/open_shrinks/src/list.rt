@@ -17,16 +17,6 @@ const MOST_SHRINKS: usize = 4_096;
 // How many cells there are for their groups at most: 8 bytes each.
 const MOST_CELLS: u64 = 1 << 18;
 
-#[derive(Drop)]
-struct List {
-    worth: Worth,
-    shrinks: Vec<OnceBox<OpenShrink>>,
-    // How many numbers were drawn.
-    opened: AtomicU64,
-    // How many cells there are for their groups.
-    cells: AtomicU64,
-}
-
 /// The shrinks that were opened so far, which all holders share.
 #[derive(Drop)]
 pub struct OpenShrinks {
@@ -36,12 +26,7 @@ pub struct OpenShrinks {
 impl OpenShrinks {
     /// None so far. By these counts they are opened and helped.
     pub fn new(alloc: Global, worth: Worth) -> Result<OpenShrinks, AllocError> {
-        let list = List {
-            worth,
-            shrinks: empty_cells(alloc, MOST_SHRINKS)?,
-            opened: AtomicU64::new(0),
-            cells: AtomicU64::new(0),
-        };
+        let list = List::new(alloc, worth)?;
         let list = Arc::new(alloc, list)?;
         Ok(OpenShrinks { list })
     }
@@ -54,38 +39,77 @@ impl OpenShrinks {
 
     /// By which counts shrinks are opened and helped.
     pub fn worth(&self) -> Worth {
-        self.list.worth
+        self.list.worth()
     }
 
     /// Opens a shrink, and gives its number, if there is room and memory for it.
     pub fn open(&self, alloc: Global, core: Core, cost: u64) -> Option<usize> {
+        self.list.open(alloc, core, cost)
+    }
+
+    /// The shrink of a number, where there is one.
+    pub fn get(&self, number: usize) -> Option<&OpenShrink> {
+        self.list.get(number)
+    }
+
+    /// Below which number all shrinks are that were opened so far.
+    pub fn len(&self) -> usize {
+        self.list.len()
+    }
+}
+
+// What the holders share.
+#[derive(Drop)]
+struct List {
+    worth: Worth,
+    shrinks: Vec<OnceBox<OpenShrink>>,
+    // How many numbers were drawn.
+    opened: AtomicU64,
+    // How many cells there are for groups.
+    cells: AtomicU64,
+}
+
+impl List {
+    fn new(alloc: Global, worth: Worth) -> Result<List, AllocError> {
+        Ok(List {
+            worth,
+            shrinks: empty_cells(alloc, MOST_SHRINKS)?,
+            opened: AtomicU64::new(0),
+            cells: AtomicU64::new(0),
+        })
+    }
+
+    fn worth(&self) -> Worth {
+        self.worth
+    }
+
+    // A number is drawn when the shrink is made, so a number whose cell stays empty is one that found no room.
+    fn open(&self, alloc: Global, core: Core, cost: u64) -> Option<usize> {
         let wanted = core.set.len() as u64;
         if !self.has_room(wanted) {
             return None;
         }
         let shrink = OpenShrink::new(alloc, core, cost).ok()?;
-        self.list.cells.fetch_add(wanted, Ordering::SeqCst);
-        let number = self.list.opened.fetch_add(1, Ordering::SeqCst) as usize;
+        self.cells.fetch_add(wanted, Ordering::SeqCst);
+        let number = self.opened.fetch_add(1, Ordering::SeqCst) as usize;
         if number >= MOST_SHRINKS {
             return None;
         }
-        fill(alloc, self.list.shrinks.as_slice(), number, shrink).ok()?;
+        fill(alloc, self.shrinks.as_slice(), number, shrink).ok()?;
         Some(number)
     }
 
     // Whether so many cells more are within the bound. Several that open at once may go past it by what they open.
     fn has_room(&self, wanted: u64) -> bool {
-        let taken = self.list.cells.load(Ordering::SeqCst);
+        let taken = self.cells.load(Ordering::SeqCst);
         taken.saturating_add(wanted) <= MOST_CELLS
     }
 
-    /// The shrink of a number, where there is one.
-    pub fn get(&self, number: usize) -> Option<&OpenShrink> {
-        at(self.list.shrinks.as_slice(), number)
+    fn get(&self, number: usize) -> Option<&OpenShrink> {
+        at(self.shrinks.as_slice(), number)
     }
 
-    /// Below which number all shrinks are that were opened so far.
-    pub fn len(&self) -> usize {
-        (self.list.opened.load(Ordering::SeqCst) as usize).min(MOST_SHRINKS)
+    fn len(&self) -> usize {
+        (self.opened.load(Ordering::SeqCst) as usize).min(MOST_SHRINKS)
     }
 }
