@@ -150,7 +150,7 @@ fn ask_from_far_end<O: Oracle>(
     ensures { HasHelped known.old known.new purse.old.left purse.new.left }
 {
     // Each group is drawn once, and one may stand open from the last time.
-    for _ in 0..=shrink.groups().len() {
+    for _ in 0..shrink.groups().len().saturating_add(1) {
         let Some(group) = helper.next(shrink) else {
             return;
         };

@@ -150,7 +150,10 @@ impl<O: Oracle> Helping<O> {
         requires { self.old.refuted ≡ refuted_by answer.now }
         ensures { self.new ≡ self.old }
     {
-        let (Some(shrinks), Asked::Unsat(core)) = (&self.shrinks, answer) else {
+        let Some(shrinks) = &self.shrinks else {
+            return;
+        };
+        let Asked::Unsat(core) = answer else {
             return;
         };
         if !self.job.may_show(shrinks, core.len()) {
@@ -163,10 +166,16 @@ impl<O: Oracle> Helping<O> {
 
     // Shows the assignment of an answer about a set without this group.
     fn show_assign(&self, alloc: Global, group: u32, answer: &Asked) {
-        let (Some(shrinks), Asked::Sat(assign)) = (&self.shrinks, answer) else {
+        let Some(shrinks) = &self.shrinks else {
             return;
         };
-        let (Some(shrink), Ok(assign)) = (self.job.shrink(shrinks), assign.copy()) else {
+        let Asked::Sat(assign) = answer else {
+            return;
+        };
+        let Some(shrink) = self.job.shrink(shrinks) else {
+            return;
+        };
+        let Ok(assign) = assign.copy() else {
             return;
         };
         shrink.show(alloc, group, assign).ok();
