@@ -6,13 +6,14 @@
 #
 # The program prints its counts on standard error when it ends. The counters change bodies and no contract, so all is
 # proved as before, but for the calls of C that count: the changed functions anew, and else what is kept of earlier checks.
-# counters/ has the patches: for propagation, for the searches, for the oracle that remembers, and for several workers.
+# counters/ has the patches: for propagation, for the searches, for the oracle that remembers, for several workers, and
+# for those that help.
 set -eu
 here=$(CDPATH= cd -- "$(dirname -- "$0")" && pwd)
 folder=${1:-$(mktemp -d "${TMPDIR:-/tmp}/gmus-counters-XXXXXX")}
 git clone -q "$here/../.." "$folder"
 cd "$folder"
-git apply "$here/counters/propagation.patch" "$here/counters/search.patch" "$here/counters/known.patch" "$here/counters/workers.patch"
+git apply "$here/counters/propagation.patch" "$here/counters/search.patch" "$here/counters/known.patch" "$here/counters/workers.patch" "$here/counters/helping.patch"
 mkdir -p crates/bench_count/src crates/bench_count/c
 cp "$here/counters/count.rt.txt" crates/bench_count/src/lib.rt
 cp "$here/counters/count.c" crates/bench_count/c/

@@ -3,9 +3,12 @@
 #include <stdio.h>
 #include <stdlib.h>
 
-static const char *names[] = {"visits", "looks", "propagations", "conflicts", "restarts", "questions", "seeds", "known questions", "known looks", "left", "held already", "waits", "equal seeds"};
+static const char *names[] = {"visits", "looks", "propagations", "conflicts", "restarts", "questions", "seeds", "known questions", "known looks", "left", "held already", "waits", "equal seeds",
+    "learnt for seeds", "learnt in shrinks", "learnt helping", "shrinks opened", "learnt at openings", "cells offered", "helped by assignments", "helped by refutations", "helped dry", "cores told"};
 enum { EQUAL = 12 };
 static uint64_t counts[sizeof names / sizeof *names];
+
+void add_much(uint32_t which, uint64_t much) { __atomic_fetch_add(&counts[which], much, __ATOMIC_RELAXED); }
 
 void add_to_count(uint32_t which) { __atomic_fetch_add(&counts[which], 1, __ATOMIC_RELAXED); }
 
