@@ -23,7 +23,7 @@ pub enum Beside {
 #[derive(Drop)]
 pub struct Job {
     pub beside: Beside,
-    // The core of the last answer that was one, if a shrink of it may be opened.
+    // The core of the last answer that was one, if no shrink is open.
     core: Option<Core>,
     was_dry: bool,
     // How many clauses were learnt in this job for its own questions, and how many in all jobs for all questions.
@@ -77,12 +77,12 @@ impl Job {
         self.was_dry = matches!(answer, Asked::Dry);
     }
 
-    /// Whether a core of so many groups may be shown.
+    /// Whether a core of so many groups may be shown, now or when the job gets hard.
     pub fn may_show(&self, shrinks: &OpenShrinks, groups: usize) -> bool {
         match self.beside {
             Beside::Own(_) => true,
             Beside::Other(_) => false,
-            Beside::Nothing => shrinks.worth().opens(groups, self.learnt),
+            Beside::Nothing => groups >= shrinks.worth().groups,
         }
     }
 
@@ -99,19 +99,27 @@ impl Job {
         }
     }
 
-    /// Opens a shrink of this set, if its refutation is at hand and none is open.
+    /// Opens a shrink of this set, if that is worth it, its refutation is at hand, and none is open.
     pub fn open(&mut self, alloc: Global, shrinks: &OpenShrinks, set: &GroupSet) {
         let Beside::Nothing = self.beside else {
             return;
         };
+        if !shrinks.worth().opens(set.len(), self.learnt) || !self.has_core(set) {
+            return;
+        }
         let Some(core) = self.core.take() else {
             return;
         };
-        if core.set.as_slice() != set.as_slice() {
-            return;
-        }
         if let Some(number) = shrinks.open(alloc, core, self.learnt) {
             self.beside = Beside::Own(number);
+        }
+    }
+
+    // Whether this is the set of the last core, which no shrink shows.
+    fn has_core(&self, set: &GroupSet) -> bool {
+        match &self.core {
+            Some(core) => core.set.as_slice() == set.as_slice(),
+            None => false,
         }
     }
 

@@ -21,6 +21,7 @@ ghost use Rattle.evidence_rec.specs.Asking.{OracleState, refuted_by};
 use evidence_rec::{Asked, Oracle, Record};
 use gm_base::{Assign, Derivation, GroupSet, Kind, Problem, Purse};
 use group_oracle::GroupOracle;
+use helping_oracle::Helping;
 use known_sets::KnownSets;
 use lawful_fakes::{Lacking, TableOracle};
 use lrat_steps::Log;
@@ -57,14 +58,45 @@ impl<O: Counted> Counted for KnownSets<O> {
     }
 }
 
+impl<O: Counted> Counted for Helping<O> {
+    fn asked(&self) -> u64 {
+        self.within().asked()
+    }
+}
+
 /// Asks an oracle of this problem.
-struct Asker<'a, O: Counted> {
+pub struct Asker<'a, O: Counted> {
     oracle: O,
     problem: &'a Problem,
     purse: Purse,
     // Of the last core.
     proof: Option<Derivation>,
     ghost of: { (O.state oracle).problem ≡ problem.now },
+}
+
+impl<'a, O: Counted> Asker<'a, O> {
+    /// With 100 units in the purse.
+    pub fn new(oracle: O, problem: &'a Problem) -> Asker<'a, O>
+        requires { (O.state oracle).problem ≡ problem.now }
+    {
+        Asker {
+            oracle,
+            problem,
+            purse: Purse { left: 100 },
+            proof: None,
+        }
+    }
+
+    /// What it asked, when all was.
+    pub fn into_oracle(self) -> O {
+        let Asker {
+            oracle,
+            problem: _,
+            purse: _,
+            proof: _,
+        } = self;
+        oracle
+    }
 }
 
 /// Makes the moves of a call with an oracle, and tells of its log in the end. It is given up before anything else ends the

@@ -24,6 +24,7 @@ mod asking;
 mod flips;
 mod maps;
 mod oracles;
+mod pairs;
 mod player;
 
 use player::Trials;

@@ -4,11 +4,13 @@
 //! |---|---|
 //! | `four-clauses`, `problem` | the problem of the case: see `trial_sets` |
 //! | `table`, `whole`, `solver`, `known` | makes an oracle and asks it: see `oracles.rt` |
+//! | `pair` | makes two oracles that help one another: see `pairs.rt` |
 //! | `map` | makes a map and searches it for seeds: see `maps.rt` |
 //! | `flips` | changes assignments: see `flips.rt` |
 use crate::flips::play_flips;
 use crate::maps::play_map;
 use crate::oracles::{play_known, play_solver, play_table};
+use crate::pairs::play_pair;
 use gm_base::Problem;
 use lawful_fakes::Lacking;
 use std::alloc::{AllocError, Global};
@@ -56,6 +58,7 @@ fn play_over(alloc: Global, problem: &Problem, step: &Step<'_>, out: &mut String
         "table" | "whole" => play_table(alloc, problem, step, out),
         "solver" => play_solver(alloc, problem, step, out),
         "known" => play_known(alloc, problem, step, out),
+        "pair" => play_pair(alloc, problem, step, out),
         "flips" => play_flips(alloc, problem, step, out),
         _ => Err(Lacking::Evidence),
     }
