@@ -21,6 +21,7 @@
 //! Not said here: that anybody helps, or that it saves a question.
 #![tactic(auto)]
 
+mod crossing;
 mod helper;
 mod oracle;
 mod owner;

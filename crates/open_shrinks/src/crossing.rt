@@ -1,9 +1,10 @@
-//! That threads may share what is here, which is proved where this is compiled.
+//! That threads may share the list, and that it may go to other threads.
+//!
+//! A lack would show only where a crate far above starts a thread. The check of this call is the proof, here.
 use crate::list::OpenShrinks;
 
 fn crosses<T: Send + Sync>(_value: &T) {}
 
-// The list goes from one thread to another, and several read it at once.
-fn list_crosses(list: &OpenShrinks) {
-    crosses(list)
+pub(crate) fn lists_cross(list: &OpenShrinks) {
+    crosses(list);
 }
