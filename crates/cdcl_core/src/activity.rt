@@ -1,8 +1,9 @@
 //! Activity.
 //!
-//! The variables of a conflict are bumped, once each: those of the learnt clause, and those that were resolved away to
-//! come to it (VSIDS: Moskewicz and others 2001; this set: Eén and Sörensson 2003). The hints name the clauses that were
-//! resolved. Each of them but the last forced a literal, which is the one that is true.
+//! The variables of a conflict are bumped, once each: those of the learnt clause, and those of the top level that were
+//! resolved away to come to it (VSIDS: Moskewicz and others 2001; this set: Eén and Sörensson 2003). The hints name the clauses
+//! that were resolved. Each of them but the last forced a literal, which is the one that is true. What was resolved away
+//! because it was redundant, or of level 0, had no part in the conflict.
 ghost use Rattle.std.specs.Prelude.{◌≡◌, ℕ};
 ghost use Rattle.sat_base.specs.Members.{In};
 ghost use Rattle.sat_base.specs.Literals.{AreLiterals};
@@ -37,14 +38,16 @@ fn bump_all(trail: &mut Trail, lits: &[Lit])
     }
 }
 
-// Bumps the variable of the literal that is true.
+// Bumps the variable of the literal that is true, if it is of the top level.
 fn bump_forced(trail: &mut Trail, lits: &[Lit])
     requires { AreLiterals trail.old.vars lits.now }
     ensures { IsReordered trail.old trail.new }
 {
     for lit in lits {
         if trail.value(*lit) == Some(true) {
-            trail.bump(lit.var());
+            if trail.level(lit.var()) == trail.top() {
+                trail.bump(lit.var());
+            }
             return;
         }
     }

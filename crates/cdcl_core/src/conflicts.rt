@@ -3,6 +3,7 @@
 //! A falsified clause ends the search where no choice stands, with a core, and where no unit is left. Otherwise a
 //! clause is learnt from it, its unit is paid, and the trail goes back to the level where the learnt clause is unit, so
 //! that its first literal follows there. The step is logged before the unit is paid, and nothing after that can fail.
+//! Where choices are positive only, redundant literals are not looked for: there few would go.
 ghost use Rattle.std.specs.Prelude.{◌≡◌, ◌⊎◌, ℕ, ◌+◌, ◌<◌, ◌≤◌, ℤ, neg_ℤ, IfOk, OnOk};
 ghost use Rattle.sat_base.specs.Members.{In};
 ghost use Rattle.sat_base.specs.Units.{IsFalsified};
@@ -86,7 +87,7 @@ impl Search {
         ensures touched { self.new.trail.touched ≡ self.old.trail.touched }
         ensures true_first { self.new.true_first ≡ self.old.true_first }
     {
-        let learnt = learn(alloc, &self.store, &self.trail, id)?;
+        let learnt = learn(alloc, &self.store, &self.trail, id, !self.true_first)?;
         let lits: &[Lit] = &learnt.lits;
         let hints: &[u64] = &learnt.hints;
         bump_conflict(&self.store, &mut self.trail, lits, hints);

@@ -1,5 +1,5 @@
 -- Steps to the first unique implication point, and what is kept after it.
-use Rattle.std.proofs.Common.{◌≡◌, ◌⊎◌, ℕ, ◌+◌, ◌-◌, ◌<◌, ◌≤◌, Bool, true, false, List, [], ◌∷◌, ◌++◌, length, Option, Some, None, refl, sym, ◌∙◌, ap, subst, inl, inr, arith, append_assoc, append-nil}
+use Rattle.std.proofs.Common.{◌≡◌, ◌⊎◌, ℕ, ◌+◌, ◌-◌, ◌<◌, ◌≤◌, Bool, true, false, List, [], ◌∷◌, ◌++◌, length, max, Option, Some, None, refl, sym, ◌∙◌, ap, subst, inl, inr, arith, append_assoc, append-nil}
 use Rattle.std.specs.Prelude.{ℤ, neg_ℤ, reverse}
 use Rattle.std.proofs.Math.IntN.{neg_ℤ-neg_ℤ}
 use Rattle.std.proofs.lemmas.Bool.{cases_lt, true≢false, false≢true}
@@ -14,9 +14,9 @@ use Rattle.trail_book.proofs.TrailLemmas.{lit-keep_in, lit-keep_more, trail_cons
 use Rattle.learn_step.specs.Reasons.{AreReasoned, before_last, IsConflict}
 use Rattle.learn_step.specs.Learnt.{HasSecond, IsLearnt}
 use Rattle.learn_step.specs.Places.{literal_at, false_at, level_of, hint_of, HasPlaces, IsHighest}
-use Rattle.learn_step.specs.Analysis.{IsBroughtIn, IsStep, IsAnalysis, IsAboveUip, IsAtUip, AreKept}
+use Rattle.learn_step.specs.Analysis.{IsBroughtIn, IsStep, IsAnalysis, IsAboveUip, AreLower, IsAtUip, IsFalseWithin, AreKept}
 use Rattle.learn_step.proofs.PlaceLemmas.{oldest_all, top_oldest, top_oldest_all, literal_of, literal_true, literal_open, false_kept, false_open, hand_lit}
-use Rattle.learn_step.proofs.AnalysisLemmas.{same_some, taken_below, taken_cases, brought_false, analysis_false, analysis_kept, analysis_resolved, analysis_follows, hint_none}
+use Rattle.learn_step.proofs.AnalysisLemmas.{same_some, taken_below, brought_false, analysis_false, analysis_kept, analysis_resolved, analysis_follows, hint_none}
 
 level_le_top : (es : List Entry) (p : ℕ) → level_of es p ≤ top es
 level_le_top es p = top_oldest_all (p + 1) es
@@ -97,7 +97,7 @@ above_step vars db es p false old mid new lits after hints more level trail reas
 -- one literal of the top level is left
 pub at_uip : (vars : ℕ) (db : List StoredClause) (es : List Entry) (p : ℕ) (e : Entry) (old new : List ℕ) (lits : List ℤ) (hints : List ℕ) (level : ℕ) → IsTrail vars es
     → oldest (p + 1) es ≡ e ∷ oldest p es → TakesGreatest old new (Some p) → IsHighest es new level → level < top es → IsAboveUip db es old lits hints
-    → IsAtUip db es new (lits ++ neg_ℤ e.lit ∷ []) hints level
+    → IsAtUip db es new (lits ++ neg_ℤ e.lit ∷ []) hints
 at_uip vars db es p e old new lits hints level trail at t h less a = record {
   analysis = analysis_kept db es (length es) p e old new lits hints at t a.analysis;
   first = neg_ℤ e.lit;
@@ -107,9 +107,7 @@ at_uip vars db es p e old new lits hints level trail at t h less a = record {
     not_true = λ i. trail_consistent vars es trail e.lit on (lit-keep_in (top es - 1) es (neg_ℤ e.lit) i);
     not_false = λ i. still_open (subst (λ (k : ℤ). In k (trues (before_last es))) (neg_ℤ-neg_ℤ e.lit) i);
   };
-  below = less;
-  above = h.above;
-  reached = h.reached;
+  lower = λ q i. let up = h.above q i in omega (arith, up, less);
 }
   where
     lt : p < length es
@@ -134,89 +132,97 @@ at_uip vars db es p e old new lits hints level trail at t h less a = record {
 -- one step, where no other literal is of the top level
 pub uip_step : (vars : ℕ) (db : List StoredClause) (es : List Entry) (p : ℕ) (stays : Bool) (old mid new : List ℕ) (lits after : List ℤ) (hints more : List ℕ) (level : ℕ) → IsTrail vars es
     → TakesGreatest old mid (Some p) → IsHighest es mid level → stays ≡ true → level < top es → IsStep db es p stays mid new lits after hints more → IsAboveUip db es old lits hints
-    → IsAtUip db es new after more level
+    → IsAtUip db es new after more
 uip_step vars db es p false old mid new lits after hints more level trail t h stay less s a = absurd (false≢true stay)
 uip_step vars db es p true old mid new lits after hints more level trail t h stay less s a =
     let (places, kept, same) = s.becomes in
-    subst (λ (ps : List ℕ). IsAtUip db es ps after more level) (sym places)
-    (subst (λ (ls : List ℤ). IsAtUip db es mid ls more level) (sym kept)
-    (subst (λ (hs : List ℕ). IsAtUip db es mid (lits ++ neg_ℤ s.entry.lit ∷ []) hs level) (sym same) (at_uip vars db es p s.entry old mid lits hints level trail s.at t h less a)))
+    subst (λ (ps : List ℕ). IsAtUip db es ps after more) (sym places)
+    (subst (λ (ls : List ℤ). IsAtUip db es mid ls more) (sym kept)
+    (subst (IsAtUip db es mid (lits ++ neg_ℤ s.entry.lit ∷ [])) (sym same) (at_uip vars db es p s.entry old mid lits hints level trail s.at t h less a)))
 
 -- After it.
-pub kept_begun : (es : List Entry) (places : List ℕ) (lits : List ℤ) → AreKept es places lits places lits
-kept_begun es places lits = record {
+pub kept_begun : (es : List Entry) (places : List ℕ) (lits : List ℤ) → 0 < top es → AreLower es places → AreKept es lits places lits 0
+kept_begun es places lits positive lower = record {
   added = [];
   is = sym (append-nil lits);
-  places_from = λ p i. inl i;
-  added_from = λ l i. absurd i;
-  all = λ p i up. inl i;
+  lower = lower;
+  below = positive;
+  each = λ l i. absurd i;
+  reached = λ up. absurd (omega (arith, up));
 }
 
-pub kept_kept : (es : List Entry) (p : ℕ) (e : Entry) (first old new : List ℕ) (before lits : List ℤ) → oldest (p + 1) es ≡ e ∷ oldest p es → 0 < level_of es p → TakesGreatest old new (Some p)
-    → AreKept es first before old lits → AreKept es first before new (lits ++ neg_ℤ e.lit ∷ [])
-kept_kept es p e first old new before lits at up t k = record {
+-- a literal that is within a level is within a higher one
+within_more : (es : List Entry) (level more : ℕ) (l : ℤ) → level ≤ more → IsFalseWithin es level l → IsFalseWithin es more l
+within_more es level more l le f = record {
+  place = f.place;
+  within = f.within;
+  is = f.is;
+  above = f.above;
+  up_to = (let up = f.up_to in omega (arith, up, le));
+}
+
+pub kept_kept : (es : List Entry) (p : ℕ) (e : Entry) (old new : List ℕ) (before lits : List ℤ) (level : ℕ) → oldest (p + 1) es ≡ e ∷ oldest p es → p < length es → 0 < level_of es p
+    → TakesGreatest old new (Some p) → AreKept es before old lits level → AreKept es before new (lits ++ neg_ℤ e.lit ∷ []) (max level (level_of es p))
+kept_kept es p e old new before lits level at lt up t k = record {
   added = k.added ++ neg_ℤ e.lit ∷ [];
   is = ap (λ (ls : List ℤ). ls ++ neg_ℤ e.lit ∷ []) k.is ∙ append_assoc before k.added (neg_ℤ e.lit ∷ []);
-  places_from = λ q i. k.places_from q ((t.1 q).0 i).0;
-  added_from = λ l i. elim (In-append_cases l k.added (neg_ℤ e.lit ∷ []) i) [
-    | inl old1 ↦ k.added_from l old1
-    | inr (inl s) ↦ elim (k.places_from p t.0.has) [
-      | inl there ↦ (p, there, up, s ∙ sym is)
-      | inr root ↦ absurd (omega (arith, root, up))
-    ]
+  lower = λ q i. k.lower q ((t.1 q).0 i).0;
+  below = (let here = k.lower p t.0.has in let low = k.below in omega (arith, here, low));
+  each = λ l i. elim (In-append_cases l k.added (neg_ℤ e.lit ∷ []) i) [
+    | inl old1 ↦ within_more es level (max level (level_of es p)) l (omega arith) (k.each l old1)
+    | inr (inl s) ↦ record { place = p; within = lt; is = s ∙ sym is; above = up; up_to = omega arith }
     | inr (inr never) ↦ absurd never
   ];
-  all = λ q i high. elim (k.all q i high) [
-    | inl there ↦ elim (taken_cases old new p q t there) [
-      | inl here ↦ inr (In-append_right (false_at es q) k.added (neg_ℤ e.lit ∷ []) (inl (ap (false_at es) here ∙ is)))
-      | inr left ↦ inl left
-    ]
-    | inr done ↦ inr (In-append_left (false_at es q) k.added (neg_ℤ e.lit ∷ []) done)
+  reached = λ high. elim (cases_lt level (level_of es p)) [
+    | inl less ↦ record { place = p; within = lt; has = In-append_right (false_at es p) k.added (neg_ℤ e.lit ∷ []) (inl is); is = omega (arith, less) }
+    | inr more ↦ (let r = k.reached (omega (arith, more, up)) in record {
+      place = r.place;
+      within = r.within;
+      has = In-append_left (false_at es r.place) k.added (neg_ℤ e.lit ∷ []) r.has;
+      is = (let same = r.is in omega (arith, same, more));
+    })
   ];
 }
   where
     is : false_at es p ≡ neg_ℤ e.lit
     is = ap neg_ℤ (literal_of es p e at)
 
-pub kept_resolved : (es : List Entry) (p : ℕ) (clause : List ℤ) (first old mid new : List ℕ) (before lits : List ℤ) → level_of es p ≡ 0 → TakesGreatest old mid (Some p)
-    → HasPlaces es clause p mid new → AreKept es first before old lits → AreKept es first before new lits
-kept_resolved es p clause first old mid new before lits root t h k = record {
+pub kept_resolved : (es : List Entry) (p : ℕ) (clause : List ℤ) (old mid new : List ℕ) (before lits : List ℤ) (level : ℕ) → TakesGreatest old mid (Some p) → HasPlaces es clause p mid new
+    → AreKept es before old lits level → AreKept es before new lits level
+kept_resolved es p clause old mid new before lits level t h k = record {
   added = k.added;
   is = k.is;
-  places_from = λ q i. elim (h.only q i) [
-    | inl there ↦ k.places_from q ((t.1 q).0 there).0
-    | inr f ↦ inr (let lower = f.lower in let rises = level_rises es q p (omega (arith, lower)) in omega (arith, root, rises))
+  lower = λ q i. elim (h.only q i) [
+    | inl there ↦ k.lower q ((t.1 q).0 there).0
+    | inr f ↦ (let low = f.lower in let rises = level_rises es q p (omega (arith, low)) in let here = k.lower p t.0.has in omega (arith, rises, here))
   ];
-  added_from = k.added_from;
-  all = λ q i high. elim (k.all q i high) [
-    | inl there ↦ elim (taken_cases old mid p q t there) [
-      | inl here ↦ absurd (let same : level_of es q ≡ level_of es p = ap (level_of es) here in omega (arith, root, high, same))
-      | inr left ↦ inl (h.kept q left)
-    ]
-    | inr done ↦ inr done
-  ];
+  below = k.below;
+  each = k.each;
+  reached = k.reached;
 }
 
--- one step, by which what is above level 0 stays
-pub kept_step : (db : List StoredClause) (es : List Entry) (p : ℕ) (stays : Bool) (first old mid new : List ℕ) (before lits after : List ℤ) (hints more : List ℕ) → TakesGreatest old mid (Some p)
-    → (stays ≡ true → 0 < level_of es p) → (stays ≡ false → level_of es p ≡ 0) → IsStep db es p stays mid new lits after hints more → AreKept es first before old lits
-    → AreKept es first before new after
-kept_step db es p true first old mid new before lits after hints more t up root s k =
+-- one step, by which only what is above level 0 may stay
+pub kept_step : (db : List StoredClause) (es : List Entry) (p : ℕ) (stays : Bool) (old mid new : List ℕ) (before lits after : List ℤ) (hints more : List ℕ) (level next : ℕ) → p < length es
+    → TakesGreatest old mid (Some p) → (stays ≡ true → 0 < level_of es p) → (stays ≡ true → next ≡ max level (level_of es p)) → (stays ≡ false → next ≡ level)
+    → IsStep db es p stays mid new lits after hints more → AreKept es before old lits level → AreKept es before new after next
+kept_step db es p true old mid new before lits after hints more level next lt t up higher same_level s k =
     let (places, kept, same) = s.becomes in
-    subst (λ (ps : List ℕ). AreKept es first before ps after) (sym places)
-    (subst (AreKept es first before mid) (sym kept) (kept_kept es p s.entry first old mid before lits s.at (up refl) t k))
-kept_step db es p false first old mid new before lits after hints more t up root s k =
+    subst (AreKept es before new after) (sym (higher refl))
+    (subst (λ (ps : List ℕ). AreKept es before ps after (max level (level_of es p))) (sym places)
+    (subst (λ (ls : List ℤ). AreKept es before mid ls (max level (level_of es p))) (sym kept) (kept_kept es p s.entry old mid before lits level s.at lt (up refl) t k)))
+kept_step db es p false old mid new before lits after hints more level next lt t up higher same_level s k =
     let (same, replaced) = s.becomes in
     let (id, forced, b) = replaced in
-    subst (AreKept es first before new) (sym same) (kept_resolved es p b.clause first old mid new before lits (root refl) t b.places k)
+    subst (AreKept es before new after) (sym (same_level refl))
+    (subst (λ (ls : List ℤ). AreKept es before new ls level) (sym same) (kept_resolved es p b.clause old mid new before lits level t b.places k))
 
 -- at level 0 nothing was decided
 pub root_forced : (es : List Entry) (p : ℕ) (e : Entry) → oldest (p + 1) es ≡ e ∷ oldest p es → level_of es p ≡ 0 → ¬ (hint_of e ≡ None)
 root_forced es p e at root none = let own = decision_level es p e at (hint_none e none) in absurd (omega (arith, own, root))
 
 -- The end.
-pub learnt_of : (vars : ℕ) (db : List StoredClause) (es : List Entry) (places : List ℕ) (before lits : List ℤ) (hints more : List ℕ) (back : ℕ) → IsTrail vars es → IsAtUip db es places before hints back
-    → IsAnalysis db es (length es) [] lits more → AreKept es places before [] lits → IsLearnt db es lits (reverse more) back
+pub learnt_of : (vars : ℕ) (db : List StoredClause) (es : List Entry) (places : List ℕ) (before lits : List ℤ) (hints more : List ℕ) (back : ℕ) → IsTrail vars es → IsAtUip db es places before hints
+    → IsAnalysis db es (length es) [] lits more → AreKept es before [] lits back → IsLearnt db es lits (reverse more) back
 learnt_of vars db es places before lits hints more back trail u a k = record {
   first = u.first;
   rest = k.added;
@@ -228,10 +234,10 @@ learnt_of vars db es places before lits hints more back trail u a k = record {
   unset = u.unset;
   others = λ l i. elim (cases l i) [
     | inl s ↦ inl s
-    | inr d ↦ inr (let less = u.below in lit-keep_more back (top es - 1) es (neg_ℤ l) (omega (arith, less)) (up_to_back l d))
+    | inr d ↦ inr (let less = k.below in lit-keep_more back (top es - 1) es (neg_ℤ l) (omega (arith, less)) (up_to_back l d))
   ];
   back = record {
-    below = u.below;
+    below = k.below;
     others = λ l i. elim (cases l i) [ inl s ↦ inl s | inr d ↦ inr (up_to_back l d) ];
     second = second;
   };
@@ -243,11 +249,8 @@ learnt_of vars db es places before lits hints more back trail u a k = record {
     cases : (l : ℤ) → In l lits → (l ≡ u.first) ⊎ In l k.added
     cases l i = subst (In l) whole i
 
-    at_place : (l : ℤ) → In l k.added → (p : ℕ) × (p < length es) × (level_of es p ≤ back) × (l ≡ false_at es p)
-    at_place l i = let (p, there, up, is) = k.added_from l i in (p, u.analysis.below p there, u.above p there, is)
-
     up_to_back : (l : ℤ) → In l k.added → In (neg_ℤ l) (trues (keep back es))
-    up_to_back l i = let (p, lt, le, is) = at_place l i in subst (λ (m : ℤ). In (neg_ℤ m) (trues (keep back es))) (sym is) (false_kept es p back lt le)
+    up_to_back l i = let f = k.each l i in subst (λ (m : ℤ). In (neg_ℤ m) (trues (keep back es))) (sym f.is) (false_kept es f.place back f.within f.up_to)
 
     all_false : AllFalse (trues es) lits
     all_false l i = elim (cases l i) [
@@ -261,9 +264,9 @@ learnt_of vars db es places before lits hints more back trail u a k = record {
           u.unset.not_false
           (subst (λ (m : ℤ). In (neg_ℤ m) (trues (before_last es))) s (lit-keep_more 0 (top es - 1) es (neg_ℤ l) (omega arith) root))
       | inr d ↦
-          (let (p, there, up, is) = k.added_from l d in
-          false_open vars es p 0 trail (u.analysis.below p there) up
-          (subst (λ (m : ℤ). In (neg_ℤ m) (trues (keep 0 es))) is root))
+          (let f = k.each l d in
+          false_open vars es f.place 0 trail f.within f.above
+          (subst (λ (m : ℤ). In (neg_ℤ m) (trues (keep 0 es))) f.is root))
     ]
 
     none_true : (m : ℤ) → In m lits → ¬ In m (trues (oldest (length es) es))
@@ -271,15 +274,14 @@ learnt_of vars db es places before lits hints more back trail u a k = record {
 
     second : 0 < back → HasSecond es lits u.first back
     second up =
-        let (p, there, is) = u.reached up in
-        let lt = u.analysis.below p there in
-        let kept : In (false_at es p) k.added = elim (k.all p there (omega (arith, is, up))) [ inl never ↦ absurd never | inr done ↦ done ] in
-        let less = u.below in
+        let r = k.reached up in
+        let is = r.is in
+        let less = k.below in
         record {
-          one = false_at es p;
-          has = subst (In (false_at es p)) (sym whole) (inr kept);
+          one = false_at es r.place;
+          has = subst (In (false_at es r.place)) (sym whole) (inr r.has);
           other = λ s.
               u.unset.not_false
-              (subst (λ (m : ℤ). In (neg_ℤ m) (trues (before_last es))) s (lit-keep_more back (top es - 1) es (neg_ℤ (false_at es p)) (omega (arith, less)) (up_to_back (false_at es p) kept)));
-          still_open = false_open vars es p (back - 1) trail lt (omega (arith, is, up));
+              (subst (λ (m : ℤ). In (neg_ℤ m) (trues (before_last es))) s (lit-keep_more back (top es - 1) es (neg_ℤ (false_at es r.place)) (omega (arith, less)) (up_to_back (false_at es r.place) r.has)));
+          still_open = false_open vars es r.place (back - 1) trail r.within (omega (arith, is, up));
         }

@@ -4,3 +4,4 @@ pub mod AnalysisLemmas
 pub mod CoreLemmas
 pub mod LearntLemmas
 pub mod PendingLemmas
+pub mod RedundancyLemmas

@@ -1,5 +1,5 @@
 -- What holds of a clause on its way down the trail, by resolution with reasons (GRASP: Marques-Silva and Sakallah 1999).
-use Rattle.std.specs.Prelude.{◌≡◌, ◌⊎◌, ℕ, ◌+◌, ◌<◌, ◌≤◌, List, [], ◌∷◌, ◌++◌, reverse, length, ℤ, neg_ℤ, Bool, true, false, Some, None}
+use Rattle.std.specs.Prelude.{◌≡◌, ℕ, ◌+◌, ◌<◌, ◌≤◌, List, [], ◌∷◌, ◌++◌, reverse, length, ℤ, neg_ℤ, Bool, true, false, Some, None}
 use Rattle.sat_base.specs.Members.{In}
 use Rattle.sat_base.specs.Derivation.{clause_of}
 use Rattle.sat_base.specs.Database.{StoredClause, known_of}
@@ -51,36 +51,47 @@ pub record IsAboveUip (db : List StoredClause) (es : List Entry) (places : List 
   pub none_kept : lits ≡ []
   pub some_top : HasTop es places
 
--- at the first unique implication point: its literal alone was kept, and this is the highest level of the others
-pub record IsAtUip (db : List StoredClause) (es : List Entry) (places : List ℕ) (lits : List ℤ) (hints : List ℕ) (back : ℕ) : Type 0 where
+-- each of these places is below the top level
+abbrev pub AreLower : List Entry → List ℕ → Type 0
+AreLower es places = (p : ℕ) → In p places → level_of es p < top es
+
+-- at the first unique implication point: its literal alone was kept, and the others are below the top level
+pub record IsAtUip (db : List StoredClause) (es : List Entry) (places : List ℕ) (lits : List ℤ) (hints : List ℕ) : Type 0 where
   pub analysis : IsAnalysis db es (length es) places lits hints
   pub first : ℤ
   pub is : lits ≡ first ∷ []
   pub is_false : In (neg_ℤ first) (trues es)
   pub unset : IsUnset (trues (before_last es)) first
-  pub below : back < top es
-  pub above : (p : ℕ) → In p places → level_of es p ≤ back
-  pub reached : 0 < back → (p : ℕ) × In p places × (level_of es p ≡ back)
-
--- the place is one of these, or of level 0
-abbrev pub IsFrom : List Entry → List ℕ → ℕ → Type 0
-IsFrom es places p = In p places ⊎ (level_of es p ≡ 0)
+  pub lower : AreLower es places
 
 -- the literal is false by the value at one of these places
 abbrev pub IsFalseAt : List Entry → List ℕ → ℤ → Type 0
 IsFalseAt es places lit = (p : ℕ) × In p places × (lit ≡ false_at es p)
 
--- the literal is false by the value at one of these places, above level 0
-abbrev pub IsFalseAbove : List Entry → List ℕ → ℤ → Type 0
-IsFalseAbove es places lit = (p : ℕ) × In p places × (0 < level_of es p) × (lit ≡ false_at es p)
+-- the literal is false by the value at a place above level 0, and up to this level
+pub record IsFalseWithin (es : List Entry) (level : ℕ) (lit : ℤ) : Type 0 where
+  pub place : ℕ
+  pub within : place < length es
+  pub is : lit ≡ false_at es place
+  pub above : 0 < level_of es place
+  pub up_to : level_of es place ≤ level
 
--- what was looked at after the first unique implication point: the literals above level 0 are kept, the others resolved
-pub record AreKept (es : List Entry) (first : List ℕ) (before : List ℤ) (places : List ℕ) (lits : List ℤ) : Type 0 where
+-- the literal at a place of this level is among these
+pub record HasOfLevel (es : List Entry) (level : ℕ) (lits : List ℤ) : Type 0 where
+  pub place : ℕ
+  pub within : place < length es
+  pub has : In (false_at es place) lits
+  pub is : level_of es place ≡ level
+
+-- what was looked at after the first unique implication point: what is kept beside the literals before it is above level 0,
+-- this is the highest level there, and what is still to be looked at is below the top level
+pub record AreKept (es : List Entry) (before : List ℤ) (places : List ℕ) (lits : List ℤ) (level : ℕ) : Type 0 where
   pub added : List ℤ
   pub is : lits ≡ before ++ added
-  pub places_from : (p : ℕ) → In p places → IsFrom es first p
-  pub added_from : (l : ℤ) → In l added → IsFalseAbove es first l
-  pub all : (p : ℕ) → In p first → 0 < level_of es p → In p places ⊎ In (false_at es p) added
+  pub lower : AreLower es places
+  pub below : level < top es
+  pub each : (l : ℤ) → In l added → IsFalseWithin es level l
+  pub reached : 0 < level → HasOfLevel es level added
 
 -- on the way down to the decisions: beside what a core begins with, which became true after all that the analysis uses,
 -- negated decisions are kept

@@ -4,3 +4,4 @@ pub mod Places
 pub mod Leading
 pub mod Analysis
 pub mod Pending
+pub mod Redundancy

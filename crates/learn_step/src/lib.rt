@@ -5,13 +5,13 @@
 //! comes from:
 //!
 //! ```text
-//! let learnt = learn(alloc, &store, &trail, id)?;
+//! let learnt = learn(alloc, &store, &trail, id, true)?;
 //! trail.back_to(learnt.back_level);
 //! ```
 //!
 //! Start reading at `specs/Reasons.antt`, which says what a trail has to be, and at `specs/Learnt.antt`, which says what
-//! comes out; then at `analysis`, whose head has the idea. No clause says that the learnt clause is the shortest, nor
-//! how many steps it takes, and literals that others imply are not looked for.
+//! comes out; then at `analysis`, whose head has the idea, and at `redundancy`, which tells how a learnt clause gets shorter.
+//! No clause says that it is the shortest, nor how many steps it takes.
 #![tactic(auto)]
 
 mod analysis;
@@ -20,6 +20,7 @@ mod first_uip;
 mod learnt;
 mod origin;
 mod pending;
+mod redundancy;
 
 pub use cores::core_of;
 pub use first_uip::learn;

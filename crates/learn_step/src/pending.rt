@@ -6,6 +6,7 @@
 //! behind the last one that has a bit, so that all places of an analysis cost one walk down the words.
 ghost use Rattle.std.specs.Prelude.{◌≡◌, ℕ, ◌+◌, ◌-◌, ◌<◌, ◌≤◌, ◌^◌, [], true, false, length, max, slice_index_or, OnOk, OnErr};
 ghost use Rattle.std.specs.Int.{bit_at};
+ghost use Rattle.sat_base.specs.Members.{In};
 ghost use Rattle.sat_base.specs.Work.{HasMore, TellsGreatest, TakesGreatest};
 ghost use Rattle.learn_step.specs.Pending.{EndsInBit, AreSame};
 
@@ -48,6 +49,15 @@ impl Pending {
         reach(&mut self.words, at)?;
         self.words[at] |= 1 << (63 - place % 64);
         Ok(())
+    }
+
+    /// Whether a place is in.
+    pub fn has(&self, place: u64) -> bool
+        ensures yes { result ≡ true → In place self.now }
+        ensures no { result ≡ false → ¬ In place self.now }
+    {
+        let at = (place / 64) as usize;
+        at < self.words.len() && (self.words[at] >> (63 - place % 64)) & 1 == 1
     }
 
     /// The greatest place.

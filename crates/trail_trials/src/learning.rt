@@ -5,6 +5,7 @@
 //! add -3 4, add_idle 2       a clause comes, live or not, as in the trials of stores
 //! decide 3, assign 4 4, ..   values come, as in the trials of trails; clauses and values are as they are written
 //! learn 8                    what is learnt from clause 8: its literals, its hints, the level to go back to
+//! minimise 8                 the same without redundant literals
 //! core 8                     the negated decisions that make clause 8 false, and the hints
 //! core_of -8                 those that make the assumption -8 false
 //! ```
@@ -86,7 +87,7 @@ fn on_scene(
     match step.word(0) {
         "add" => add_clause(alloc, store, step, out, true),
         "add_idle" => add_clause(alloc, store, step, out, false),
-        "learn" => tell_learnt(alloc, store, trail, step, out),
+        "learn" | "minimise" => tell_learnt(alloc, store, trail, step, out),
         "core" | "core_of" => tell_core(alloc, store, trail, step, out),
         _ => Ok(change(trail, step)),
     }
@@ -105,7 +106,8 @@ fn tell_learnt(
     if trail.top() == 0 || !fit(store, trail) || !is_conflict(store, trail, id) {
         return Ok(false);
     }
-    tell_clause(learn(alloc, store, trail, id), out)
+    let minimise = step.word(0) == "minimise";
+    tell_clause(learn(alloc, store, trail, id, minimise), out)
 }
 
 fn tell_core(

@@ -6,7 +6,7 @@ use Rattle.learn_step.proofs.first_uip.keep_others.Given as goal
 abbrev pub invariant-loop-place : goal.invariant-loop-place
 invariant-loop-place l = record {
   analysis : IsAnalysis l.store.clauses l.trail.entries (length l.trail.entries) l.analysis.places l.analysis.lits.items l.analysis.hints.items;
-  kept : AreKept l.trail.entries l.fn.analysis.places l.fn.analysis.lits.items l.analysis.places l.analysis.lits.items;
+  kept : AreKept l.trail.entries l.fn.analysis.lits.items l.analysis.places l.analysis.lits.items l.level;
 }
 
 -- what is brought in is lower than what was taken

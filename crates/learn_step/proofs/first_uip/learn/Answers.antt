@@ -34,8 +34,8 @@ returns c =
     let end = c.keep_others.new.analysis in
     let lits : c.finish.result.lits.items ≡ end.lits.items = ap (λ v. v.items) c.finish.ensures.lits in
     let learnt =
-    learnt_of c.args.trail.now.vars db es uip.places uip.lits.items end.lits.items uip.hints.items end.hints.items c.in_ok-back_level.back_level c.vars-vars.ensures.trail c.in_ok-back_level.ensures
-    c.in_ok-keep_others.ensures.analysis c.in_ok-keep_others.ensures.kept in
+    learnt_of c.args.trail.now.vars db es uip.places uip.lits.items end.lits.items uip.hints.items end.hints.items c.in_ok-back_level.back_level c.vars-vars.ensures.trail c.in_ok-to_first_uip.ensures
+    c.in_ok-back_level.ensures.analysis c.in_ok-back_level.ensures.kept in
     subst (λ (ls : List ℤ). IsLearnt db es ls c.finish.result.hints.items c.finish.result.back_level) (sym lits)
     (subst (λ (hs : List ℕ). IsLearnt db es end.lits.items hs c.finish.result.back_level) (sym c.finish.ensures.hints)
     (subst (IsLearnt db es end.lits.items (reverse end.hints.items)) (sym c.finish.ensures.back_level) learnt))
