@@ -7,6 +7,10 @@
 //! The first choices stay, up to one that would come behind a variable without value: those before it the search would make
 //! again, in one order or another (van der Tak, Ramos and Heule 2011). So what follows from them is not propagated anew.
 //! Nothing rests on which ones stay.
+//!
+//! Positive choices satisfy the map's clauses for long, so its solver parks watches at all times. The oracle's begins to after
+//! a few conflicts of one search: from then on the same clauses are visited again and again. A search without
+//! conflicts visits most but once, and parking would cost more than it spares.
 ghost use Rattle.std.specs.Prelude.{◌≡◌, ◌<◌, ◌≤◌, List, ℤ, length};
 ghost use Rattle.propagate.specs.Watches.{AreHung};
 ghost use Rattle.cdcl_core.specs.Search.{IsSearch};
@@ -18,6 +22,9 @@ use trail_book::Trail;
 
 // How many conflicts stand between two restarts.
 const CONFLICTS: u32 = 100;
+
+// From which conflict of a search on watches are parked.
+const PARKING: u32 = 3;
 
 impl Search {
     /// Counts a conflict, behind which no plan is followed, and restarts where there were enough. The assumed levels stay.
@@ -33,6 +40,7 @@ impl Search {
         self.plan.stop();
         if self.conflicts < CONFLICTS - 1 {
             self.conflicts += 1;
+            self.parks = self.parks || self.conflicts >= PARKING;
             return;
         }
         self.conflicts = 0;

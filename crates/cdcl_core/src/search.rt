@@ -61,6 +61,8 @@ pub struct Search {
     pub assumed_true: usize,
     /// How many conflicts stood since the search began, or since the last restart.
     pub conflicts: u32,
+    /// Whether watches are parked.
+    pub parks: bool,
     /// How many clauses had been learnt when they were last walked over for forgetting.
     pub walked: u64,
     /// Whether choices are positive literals only.
@@ -95,6 +97,7 @@ impl Search {
         self.trail.start_at(turn);
         self.resume(assumed);
         self.conflicts = 0;
+        self.parks = self.true_first;
         self.plan.begin(self.true_first);
         let answer = self.search(alloc, assumed, purse)?;
         Ok(answer)
@@ -158,7 +161,7 @@ impl Search {
         ensures touched { self.new.trail.touched ≡ self.old.trail.touched }
         ensures true_first { self.new.true_first ≡ self.old.true_first }
     {
-        let told = propagate_by(&mut self.store, &mut self.trail, self.true_first);
+        let told = propagate_by(&mut self.store, &mut self.trail, self.parks);
         if self.trail.top() == 0 {
             self.log_units(alloc)?;
         }
@@ -166,8 +169,8 @@ impl Search {
     }
 }
 
-// Propagates. Choices that are positive only satisfy the map's clauses for long, so watches are parked then.
-fn propagate_by(store: &mut Store, trail: &mut Trail, true_first: bool) -> Propagated
+// Propagates, and parks watches where that is asked for.
+fn propagate_by(store: &mut Store, trail: &mut Trail, parks: bool) -> Propagated
     requires { IsKept store.old trail.old }
     ensures kept { IsKept store.new trail.new }
     ensures grows { Grows store.old.clauses trail.old.entries trail.new.entries }
@@ -178,7 +181,7 @@ fn propagate_by(store: &mut Store, trail: &mut Trail, true_first: bool) -> Propa
     ensures touched { trail.new.touched ≡ trail.old.touched }
     ensures trail { IsTrail trail.new.vars trail.new.entries }
 {
-    if true_first {
+    if parks {
         propagate_parking(store, trail)
     } else {
         propagate(store, trail)

@@ -91,6 +91,7 @@ impl Solver {
             assumed_levels: 0,
             assumed_true: 0,
             conflicts: 0,
+            parks: true_first,
             walked: 0,
             true_first,
             plan,

@@ -22,7 +22,7 @@ invariant_of-result c =
       touched = touched_is c.args.true_first c.args.true_first trail.touched trail.touched [] (inputs_of c.args.log) refl refl (ap inputs_of c.requires.empty) (λ c i. absurd i);
       ready = λ b. record {
         assumed = [];
-        search = search_root_free (record { log = c.args.log; store = store; trail = trail; rooted = 0; assumed_levels = 0; assumed_true = 0; conflicts = 0; walked = 0; true_first = c.args.true_first; plan = c.in_ok-plan.plan; usage = c.new-3.result })
+        search = search_root_free (record { log = c.args.log; store = store; trail = trail; rooted = 0; assumed_levels = 0; assumed_true = 0; conflicts = 0; parks = c.args.true_first; walked = 0; true_first = c.args.true_first; plan = c.in_ok-plan.plan; usage = c.new-3.result })
             (record {
               vars = s.vars ∙ sym vars;
               kept = kept_first store trail (s.vars ∙ sym vars) s.clauses s.watched s.heads s.tails s.parks s.false_id entries done;
