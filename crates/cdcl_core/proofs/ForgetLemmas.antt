@@ -9,7 +9,8 @@ use Rattle.sat_base.specs.Forgotten.{not_live, named, forgotten}
 use Rattle.std.proofs.lemmas.List.{take_all}
 use Rattle.sat_base.proofs.DatabaseLemmas.{In-take_more}
 use Rattle.sat_base.proofs.ForgottenLemmas.{known-forgotten, live-before, clause-before}
-use Rattle.clause_store.specs.Clauses.{IsId, clause_at}
+use Rattle.sat_base.specs.Units.{AllTrue}
+use Rattle.clause_store.specs.Clauses.{Clauses, IsId, clause_at}
 use Rattle.trail_book.specs.declared.entry.Entry.{Entry}
 use Rattle.trail_book.specs.Trail.{trues}
 use Rattle.learn_step.specs.Reasons.{HasUnit}
@@ -18,8 +19,13 @@ use Rattle.lrat_steps.specs.Log.{LogStep, Forgot, kind_of, steps_of, step_at, le
 use Rattle.lrat_steps.specs.Forgetting.{IsForgettable, MayForget, live_count}
 use Rattle.lrat_steps.specs.Honest.{IsHonest}
 use Rattle.lrat_steps.proofs.LogLemmas.{db_len, db_of-push, inputs-push_forgot, learned-push, honest-forgot}
+use Rattle.propagate.specs.Watches.{IsKept, KeepsClauses}
+use Rattle.cdcl_core.specs.declared.search.Search.{Search}
 use Rattle.cdcl_core.specs.Answers.{IsHonestlyPaid}
 use Rattle.cdcl_core.specs.State.{IsSoundEntry, IsSound, IsRecorded, IsRoot}
+use Rattle.cdcl_core.specs.Search.{IsSearch}
+use Rattle.cdcl_core.specs.Forgetting.{IsStaleAtRoot}
+use Rattle.cdcl_core.proofs.ReadyLemmas.{search_root}
 
 -- the id of a clause is that of a step
 pub step_within : (vars : ℕ) (db : List StoredClause) (log : List LogStep) (id : ℕ) → IsRecorded vars db log → IsId db id → id ≤ length (steps_of log)
@@ -106,3 +112,16 @@ untrue_more t c i x h is out all l j = elim (In-take_more c i x l h j) [ inl old
 
 pub untrue_all : (t c : List ℤ) (i : ℕ) → length c ≤ i → ((l : ℤ) → In l (take i c) → ¬ In l t) → (l : ℤ) → In l c → ¬ In l t
 untrue_all t c i past all = subst (λ (ls : List ℤ). (l : ℤ) → In l ls → ¬ In l t) (take_all i c past) all
+
+-- with the lists built anew at level 0, a search for anything can begin
+pub search_rebuilt : (s : Search) (store : Clauses) (walked : ℕ) (assumed : List ℤ) → IsStaleAtRoot s → IsKept store s.trail → KeepsClauses s.store store → s.assumed_levels ≡ 0 → s.assumed_true ≡ 0
+    → IsSearch (record s { store = store; walked = walked }) assumed
+search_rebuilt s store walked assumed stale kept same levels reached =
+    search_root (record s { store = store; walked = walked }) assumed
+    (record {
+      vars = same.vars ∙ stale.vars;
+      kept = kept;
+      root = subst (λ (db : List StoredClause). IsRoot s.trail.vars db s.log s.trail.entries) (sym same.clauses) stale.root;
+    })
+    levels
+    (subst (λ (n : ℕ). AllTrue (trues s.trail.entries) (take n assumed)) (sym reached) (λ l i. absurd i))

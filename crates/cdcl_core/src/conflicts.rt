@@ -65,6 +65,7 @@ impl Search {
         }
         self.learn_from(alloc, assumed, purse, id)?;
         self.count_conflict();
+        self.forget_at_restart(alloc)?;
         Ok(None)
     }
 

@@ -6,15 +6,18 @@
 //! ones are in the mean, the oldest first, until no more may go. The walk over all clauses is worth it only where some
 //! hundreds can go at once, and is not made again before some hundreds more are learnt: many may have to stay.
 //!
+//! One search of the oracle may learn thousands. So at a restart it forgets likewise: it goes back to level 0, and then decides
+//! the assumed literals again.
+//!
 //! A clause of which no literal is true forces none, so no value of level 0 rests on it: it is neither a reason nor the
 //! clause of a unit step. Clauses that are satisfied at level 0 are passed over; they are never visited in any case.
-ghost use Rattle.std.specs.Prelude.{◌≡◌, ℕ, ℤ, true, false, length, OnOk};
+ghost use Rattle.std.specs.Prelude.{◌≡◌, ℕ, ℤ, List, true, false, length, OnOk};
 ghost use Rattle.sat_base.specs.Literals.{AreLiterals, IsLiteral};
 ghost use Rattle.sat_base.specs.Members.{In};
 ghost use Rattle.clause_store.specs.Clauses.{IsId};
 ghost use Rattle.trail_book.specs.Trail.{trues};
 ghost use Rattle.cdcl_core.specs.Answers.{IsHonestlyPaid};
-ghost use Rattle.cdcl_core.specs.Search.{IsReady};
+ghost use Rattle.cdcl_core.specs.Search.{IsReady, IsSearch};
 ghost use Rattle.cdcl_core.specs.Forgetting.{IsStaleAtRoot, IsIdle};
 
 use crate::search::Search;
@@ -31,6 +34,7 @@ const EXCESS: u64 = 500;
 pub fn forget(alloc: Global, search: &mut Search) -> Result<(), AllocError>
     requires ready { IsReady search.old }
     ensures ready { OnOk result (IsReady search.new) }
+    ensures search { OnOk result ((assumed : List ℤ) → IsSearch search.old assumed → IsSearch search.new assumed) }
     ensures paid { (left : ℕ) → IsHonestlyPaid search.old.log search.new.log left left }
     ensures vars { search.new.trail.vars ≡ search.old.trail.vars }
     ensures touched { search.new.trail.touched ≡ search.old.trail.touched }
@@ -50,6 +54,23 @@ pub fn forget(alloc: Global, search: &mut Search) -> Result<(), AllocError>
     rebuild(&mut search.store, &search.trail);
     search.walked = learned;
     Ok(())
+}
+
+impl Search {
+    /// Forgets learnt clauses within a search, right after a restart, but not where choices are positive only.
+    pub fn forget_at_restart(&mut self, alloc: Global) -> Result<(), AllocError>
+        requires ready { IsReady self.old }
+        ensures search { OnOk result ((assumed : List ℤ) → IsSearch self.old assumed → IsSearch self.new assumed) }
+        ensures paid { (left : ℕ) → IsHonestlyPaid self.old.log self.new.log left left }
+        ensures vars { self.new.trail.vars ≡ self.old.trail.vars }
+        ensures touched { self.new.trail.touched ≡ self.old.trail.touched }
+        ensures true_first { self.new.true_first ≡ self.old.true_first }
+    {
+        if self.true_first || self.conflicts > 0 {
+            return Ok(());
+        }
+        forget(alloc, self)
+    }
 }
 
 // The number by which it is known which clauses go.
@@ -135,6 +156,7 @@ fn forget_poor(search: &mut Search, limit: u64) -> Result<(), AllocError>
     ensures vars { search.new.trail.vars ≡ search.old.trail.vars }
     ensures touched { search.new.trail.touched ≡ search.old.trail.touched }
     ensures levels { search.new.assumed_levels ≡ search.old.assumed_levels }
+    ensures reached { search.new.assumed_true ≡ search.old.assumed_true }
     ensures true_first { search.new.true_first ≡ search.old.true_first }
 {
     let mut id = 0;
@@ -156,6 +178,7 @@ fn forget_one(search: &mut Search, id: u64) -> Result<(), AllocError>
     ensures vars { search.new.trail.vars ≡ search.old.trail.vars }
     ensures touched { search.new.trail.touched ≡ search.old.trail.touched }
     ensures levels { search.new.assumed_levels ≡ search.old.assumed_levels }
+    ensures reached { search.new.assumed_true ≡ search.old.assumed_true }
     ensures true_first { search.new.true_first ≡ search.old.true_first }
     ensures len { length search.new.store.clauses ≡ length search.old.store.clauses }
 {

@@ -48,6 +48,7 @@ impl Search {
         ensures touched { self.new.trail.touched ≡ self.old.trail.touched }
         ensures true_first { self.new.true_first ≡ self.old.true_first }
         ensures levels { self.new.assumed_levels ≡ 0 }
+        ensures reached { self.new.assumed_true ≡ 0 }
     {
         self.assumed_levels = 0;
         self.assumed_true = 0;

@@ -1,10 +1,8 @@
-use Rattle.std.proofs.Common.{◌∙◌, List, [], sym, subst}
-use Rattle.sat_base.specs.Database.{StoredClause}
+use Rattle.std.proofs.Common.{◌∙◌, List, [], subst}
 use Rattle.propagate.proofs.RebuildLemmas.{stale_kept}
 use Rattle.lrat_steps.specs.Log.{LogStep}
 use Rattle.cdcl_core.specs.Answers.{IsHonestlyPaid}
-use Rattle.cdcl_core.specs.State.{IsRoot}
-use Rattle.cdcl_core.proofs.ReadyLemmas.{search_root_free}
+use Rattle.cdcl_core.proofs.ForgetLemmas.{search_rebuilt}
 use Rattle.cdcl_core.proofs.forgetting.forget.Goals as goal
 
 pub limit_of-requires : goal.limit_of-requires
@@ -23,17 +21,17 @@ forget_poor-requires c =
 pub returns-clause-ready : goal.returns-clause-ready
 returns-clause-ready c =
     let s = c.forget_poor.new.search in
-    let stale = c.in_ok-forget_poor.ensures.stale in
     record {
       assumed = [];
-      search = search_root_free (record s { store = c.rebuild.new.store; walked = c.learned-learned.result })
-          (record {
-            vars = c.rebuild.ensures.clauses.vars ∙ stale.vars;
-            kept = c.rebuild.ensures.kept;
-            root = subst (λ (db : List StoredClause). IsRoot s.trail.vars db s.log s.trail.entries) (sym c.rebuild.ensures.clauses.clauses) stale.root;
-          })
-          (c.forget_poor.ensures.levels ∙ c.to_root.ensures.levels);
+      search = search_rebuilt s c.rebuild.new.store c.learned-learned.result [] c.in_ok-forget_poor.ensures.stale c.rebuild.ensures.kept c.rebuild.ensures.clauses
+          (c.forget_poor.ensures.levels ∙ c.to_root.ensures.levels) (c.forget_poor.ensures.reached ∙ c.to_root.ensures.reached);
     }
+
+-- this one, too
+pub returns-clause-search : goal.returns-clause-search
+returns-clause-search c = λ assumed search.
+    search_rebuilt c.forget_poor.new.search c.rebuild.new.store c.learned-learned.result assumed c.in_ok-forget_poor.ensures.stale c.rebuild.ensures.kept c.rebuild.ensures.clauses
+    (c.forget_poor.ensures.levels ∙ c.to_root.ensures.levels) (c.forget_poor.ensures.reached ∙ c.to_root.ensures.reached)
 
 -- to go back costs nothing
 pub returns-in_err-forget_poor-clause-paid : goal.returns-in_err-forget_poor-clause-paid

@@ -15,4 +15,5 @@ loop-id-preserved-then-may_go c = record {
   touched = c.forget_one.ensures.touched ∙ c.loop-id.invariant.touched;
   true_first = c.forget_one.ensures.true_first ∙ c.loop-id.invariant.true_first;
   levels = c.forget_one.ensures.levels ∙ c.loop-id.invariant.levels;
+  reached = c.forget_one.ensures.reached ∙ c.loop-id.invariant.reached;
 }

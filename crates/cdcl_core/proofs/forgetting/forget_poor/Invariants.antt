@@ -13,6 +13,7 @@ invariant-loop-id l =
       touched : l.search.trail.touched ≡ l.fn.search.trail.touched;
       true_first : l.search.true_first ≡ l.fn.search.true_first;
       levels : l.search.assumed_levels ≡ l.fn.search.assumed_levels;
+      reached : l.search.assumed_true ≡ l.fn.search.assumed_true;
     }
 
 abbrev pub decreases-loop-id : goal.decreases-loop-id
