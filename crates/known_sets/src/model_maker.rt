@@ -100,7 +100,8 @@ impl ModelMaker {
     }
 
     /// Flips variables of the assignment of this number, so that it satisfies the set. It isn't tried on small
-    /// problems, nor where repairs have cost more so far than the questions have, and seldom where many in a row failed.
+    /// problems, nor where repairs have cost more so far than the questions have, and seldom where many more failed than
+    /// succeeded.
     pub fn repaired(
         &mut self,
         alloc: Global,
