@@ -5,7 +5,7 @@ use Rattle.gm_journal.specs.Entries.{OpeningView, EntryView}
 use Rattle.gm_journal.specs.Histories.{has_ended}
 
 -- the one seat of the journal, which has not ended where it may append
-pub record IsSeated (j : LockView OpeningView) (may : Bool) (s : SeatView EntryView OpeningView) : Type 0 where
+pub record HasJournalSeat (j : LockView OpeningView) (may : Bool) (s : SeatView EntryView OpeningView) : Type 0 where
   pub of : IsSeatOf j s
   pub first : s.number ≡ 0
   pub made : s.made ≡ made_at 0 1

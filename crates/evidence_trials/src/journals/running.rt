@@ -3,7 +3,7 @@ ghost use Rattle.std.specs.Prelude.{◌≡◌, ◌+◌, ◌^◌, ◌<◌, IfOk, 
 ghost use Rattle.gm_ports.specs.MemDisk.{disk_state};
 ghost use Rattle.gm_journal.specs.Salvage.{HoldsRecords};
 ghost use Rattle.gm_journal.specs.Histories.{IsOfRecord};
-ghost use Rattle.evidence_trials.specs.Seats.{IsSeated};
+ghost use Rattle.evidence_trials.specs.Seats.{HasJournalSeat};
 
 use crate::journals::push_sets;
 use evidence_text::{RecordAnswer, RecordText, record_of};
@@ -25,7 +25,7 @@ pub(crate) struct Running {
     seat: Seat<MemDisk>,
     may_append: bool,
     ghost of: { journal.opening.problem ≡ problem },
-    ghost seated: { IsSeated journal may_append seat },
+    ghost seated: { HasJournalSeat journal may_append seat },
 }
 
 /// Goes on behind what a salvage gives of the disk, and shows the sets of its records, or why there is no journal.
