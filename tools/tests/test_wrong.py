@@ -13,9 +13,8 @@ from dev.crates import TOP, below_in, lowest_first, text_of
 
 BELOW = below_in(text_of("crates.txt"))
 GATE = os.path.join(TOP, "crates")
-# The most that the gate tries of a crate of which others stand in wrong/, and of all crates; both only fall. Every promise ends in
-# gm_tool, of which one for each status stays.
-MOST_OF_A_CRATE, MOST_OF, MOST = 10, {"gm_tool": 24}, 171
+# The most that the gate tries of a crate of which others stand in wrong/, and of all crates; both only fall.
+MOST_OF_A_CRATE, MOST = 10, 159
 
 
 def in_gate(crate):
@@ -26,7 +25,7 @@ def in_gate(crate):
 class Places(unittest.TestCase):
     def test_the_gate_tries_so_many_and_some_of_each_crate(self):
         counts = {crate: len(in_gate(crate)) for crate in BELOW}
-        over = {crate: counts[crate] for crate in wrong.crates_with() if counts[crate] > MOST_OF.get(crate, MOST_OF_A_CRATE)}
+        over = {crate: counts[crate] for crate in wrong.crates_with() if counts[crate] > MOST_OF_A_CRATE}
         self.assertEqual(over, {})
         self.assertLessEqual(sum(counts.values()), MOST)
         self.assertEqual([crate for crate in lowest_first(BELOW, "gmus") if not counts[crate]], [])
