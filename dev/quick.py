@@ -134,7 +134,7 @@ def main(words):
         log.write("".join(said for _, said in ended))
         log.flush()
         bad += [f"{crate} is not proved" for crate in failed] + [it for it, _ in ended if it]
-        tools = subprocess.run([sys.executable, "-m", "unittest", "discover", "-s", "tools/tests"], cwd=TOP, stdout=subprocess.PIPE,
+        tools = subprocess.run([sys.executable, os.path.join("dev", "run_tests.py")], cwd=TOP, stdout=subprocess.PIPE,
                                stderr=subprocess.STDOUT, universal_newlines=True, check=False)
         log.write(tools.stdout)
         failing = failing_in(tools.stdout)
