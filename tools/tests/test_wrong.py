@@ -13,8 +13,10 @@ from dev.crates import TOP, below_in, lowest_first, text_of
 
 BELOW = below_in(text_of("crates.txt"))
 GATE = os.path.join(TOP, "crates")
-# The most that the gate tries of a crate of which others stand in wrong/, and of all crates; both only fall.
-MOST_OF_A_CRATE, MOST = 10, 159
+# The most that the gate tries of a crate of which others stand in wrong/, and of all crates; both only fall. Of one it tries none: to
+# prove that a third time costs more than two bodies would tell.
+MOST_OF_A_CRATE, MOST = 10, 157
+NONE_OF = {"known_sets"}
 
 
 def in_gate(crate):
@@ -28,7 +30,7 @@ class Places(unittest.TestCase):
         over = {crate: counts[crate] for crate in wrong.crates_with() if counts[crate] > MOST_OF_A_CRATE}
         self.assertEqual(over, {})
         self.assertLessEqual(sum(counts.values()), MOST)
-        self.assertEqual([crate for crate in lowest_first(BELOW, "gmus") if not counts[crate]], [])
+        self.assertEqual({crate for crate in lowest_first(BELOW, "gmus") if not counts[crate]}, NONE_OF)
 
     def test_the_birds_eye_view_counts_them(self):
         gate = sum(len(in_gate(crate)) for crate in BELOW)
