@@ -6,6 +6,7 @@
 //! | `ask 1 2 : 1 : 2` | the same, but of the core only whether it holds one of the sets behind the first `:`: `unsat, one held` |
 //! | `ask-without 9 : 1 2` | asks about a set without a group, as shrinking does |
 //! | `shrink 1 2 3`, `grow 1` | asks about a set, and shrinks the core of the answer to a conflict, or grows the set from its assignment to a correction: what is found |
+//! | `grow-down 1` | asks about a set, and grows it from above: what is found |
 //! | `asked` | how many questions there were so far |
 //! | `proof` | the clause that was derived for the last core |
 //! | `purse 3`, `left` | puts so many units into the purse, 100 at first; prints how many are left |
@@ -15,6 +16,7 @@
 //! clause that is new.
 ghost use Rattle.std.specs.Prelude.{◌≡◌, true, IfOk, Some};
 ghost use Rattle.gm_base.specs.Sets.{IsSubset, all_groups};
+ghost use Rattle.gm_base.specs.Problem.{Sat};
 ghost use Rattle.gm_base.specs.Evidence.{is_witness};
 ghost use Rattle.evidence_rec.specs.Asking.{OracleState, refuted_by};
 
@@ -24,7 +26,7 @@ use group_oracle::GroupOracle;
 use known_sets::KnownSets;
 use lawful_fakes::{Lacking, TableOracle};
 use lrat_steps::Log;
-use mss_grow::{Grown, grow};
+use mss_grow::{Grown, grow, grow_down};
 use mus_shrink::{Shrunk, shrink_keeping};
 use std::alloc::{AllocError, Global};
 use trial_script::Step;
@@ -107,6 +109,7 @@ impl<O: Counted> Mover for Asker<'_, O> {
             "ask" => self.ask(alloc, step, out),
             "ask-without" => self.ask_without(alloc, step, out),
             "shrink" | "grow" => self.explore(alloc, step, out),
+            "grow-down" => self.explore_from_above(alloc, step, out),
             "proof" => self.tell_proof(alloc, out),
             "purse" => self.fill(alloc, step),
             "asked" => played(say_count(out, "asked", self.oracle.asked())),
@@ -231,6 +234,17 @@ impl<O: Counted> Asker<'_, O> {
         self.tell_asked(out)
     }
 
+    /// Asks about a set, and grows it from above.
+    fn explore_from_above(&mut self, alloc: Global, step: &Step<'_>, out: &mut String) -> Played {
+        let set = set_in(alloc, step, 0, self.problem.groups())?;
+        match self.oracle.ask(alloc, &set, 0, &mut self.purse)? {
+            Asked::Sat(_assign) => self.grow_down(alloc, &set, out)?,
+            Asked::Unsat(_) => out.push_str("unsat")?,
+            Asked::Dry => out.push_str("dry")?,
+        }
+        self.tell_asked(out)
+    }
+
     /// Tells what a set is shrunk or grown to, or why it isn't.
     fn find(
         &mut self,
@@ -280,11 +294,35 @@ impl<O: Counted> Asker<'_, O> {
         requires satisfied { is_witness self.old.problem.now set.now assign.now ≡ true }
     {
         let oracle = &mut self.oracle;
-        match grow(alloc, oracle, self.problem, set, assign, 0, &mut self.purse) {
-            Ok(Grown::Done(record)) => tell_record(&record, out),
-            Ok(Grown::Dry(_)) => out.push_str("dry"),
-            Err(AllocError) => out.push_str("no memory"),
+        let grown = grow(alloc, oracle, self.problem, set, assign, 0, &mut self.purse);
+        tell_grown(&grown, out)
+    }
+
+    /// Tells the correction of what the satisfiable set is grown to from above.
+    fn grow_down(
+        &mut self,
+        alloc: Global,
+        set: &GroupSet,
+        out: &mut String,
+    ) -> Result<(), AllocError>
+        requires within { IsSubset set.now (all_groups self.old.problem.now.groups) }
+        requires satisfiable { Sat self.old.problem.now set.now }
+    {
+        let oracle = &mut self.oracle;
+        let grown = grow_down(alloc, oracle, self.problem, set, 0, &mut self.purse);
+        tell_grown(&grown, out)
+    }
+}
+
+/// Adds what a set is grown to, or why it isn't.
+fn tell_grown(grown: &Result<Grown, AllocError>, out: &mut String) -> Result<(), AllocError> {
+    match grown {
+        Ok(Grown::Done(record)) => tell_record(record, out),
+        Ok(Grown::Dry(asked)) => {
+            out.push_str("dry")?;
+            add_numbers(out, asked.as_slice())
         }
+        Err(AllocError) => out.push_str("no memory"),
     }
 }
 

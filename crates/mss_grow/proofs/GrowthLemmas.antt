@@ -41,7 +41,7 @@ has-take (suc i) (x ∷ xs) g inside =
       | inr later ↦ or_right (eqb x g) (has xs g) (has-take i xs g later)
     ]
 
-has-at : (xs : List ℕ) (i : ℕ) → i < length xs → has xs (get_or xs i 0) ≡ true
+pub has-at : (xs : List ℕ) (i : ℕ) → i < length xs → has xs (get_or xs i 0) ≡ true
 has-at [] i lt = absurd (omega arith)
 has-at (x ∷ xs) zero lt = or_left (eqb x x) (has xs x) (eq-eqb x x refl)
 has-at (x ∷ xs) (suc i) lt = or_right (eqb x (get_or xs i 0)) (has xs (get_or xs i 0)) (has-at xs i (omega arith))
@@ -148,7 +148,7 @@ left_out-more set passed g out =
     filter-append (λ h. not (has set h)) passed (g ∷ []) ∙ ap (λ gs. left_out set passed ++ gs) (cond-true (not (has set g)) (g ∷ []) [] (ap not out))
 
 -- those left out of a larger set are left out of a smaller one
-left_out-twice : (small large : List ℕ) → IsSubset small large → (gs : List ℕ) → left_out large (left_out small gs) ≡ left_out large gs
+pub left_out-twice : (small large : List ℕ) → IsSubset small large → (gs : List ℕ) → left_out large (left_out small gs) ≡ left_out large gs
 left_out-twice small large sub [] = refl
 left_out-twice small large sub (g ∷ gs) =
     elim (cases_Bool (has small g)) [

@@ -1,1 +1,2 @@
+pub mod DescentLemmas
 pub mod GrowthLemmas

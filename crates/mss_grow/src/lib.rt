@@ -11,12 +11,16 @@
 //! }
 //! ```
 //!
+//! `grow_down` does the same from a satisfiable set of few groups, and asks about all groups first.
+//!
 //! Start reading at `specs/Grown.antt`. Which of several maximal sets is found is not told, nor that it is a largest one.
 #![tactic(auto)]
 
 mod addition;
+mod descent;
 mod grown;
 mod growth;
 
 pub use addition::grow;
+pub use descent::grow_down;
 pub use grown::Grown;
