@@ -1,9 +1,8 @@
 //! What stands in a line behind its first word.
 ghost use Rattle.std.specs.Prelude.{◌≡◌, ◌<◌, ◌≤◌, ◌^◌, All, IfOk, OnOk, length};
-ghost use Rattle.size_counter.specs.Levels.{level_by};
 ghost use Rattle.sat_base.specs.Derivation.{max_id};
-ghost use Rattle.evidence_text.specs.Namings.{naming_for, AreWithin};
-ghost use Rattle.evidence_text.specs.Reading.{number_in, literal_in, items_at, ascending_at, counts_at, set_at, step_at, witness_at, goal_at, last_word_at, has_literals, level_words_at, complete_words_at, last_words_at};
+ghost use Rattle.evidence_text.specs.Namings.{AreWithin};
+ghost use Rattle.evidence_text.specs.Reading.{number_in, literal_in, items_at, ascending_at, counts_at, set_at, step_at, witness_at, goal_at, last_word_at, level_words_at, complete_words_at, last_words_at};
 ghost use Rattle.evidence_text.specs.Cursors.{words_left, ReadsLine, ReadsLineUnlessMemory, ReadsUnlessMemory, ReadsList, ReadsTrues, with_read};
 
 use crate::ending::Ending;

@@ -6,6 +6,7 @@ ghost use Rattle.evidence_text.specs.Reading.{below};
 ghost use Rattle.evidence_text.specs.Reader.{reader_of, head_of, head_answer, behind_head, head_again, piece_of, piece_answer, behind_piece, StandsAt};
 
 use crate::answer::Answer;
+use crate::fitting::problem_fits;
 use crate::head::read_head;
 use crate::lines::Lines;
 use crate::namings::Namings;
@@ -97,6 +98,8 @@ impl<'a> EvidenceReader<'a> {
         if let Some(offence) = self.offence {
             return Ok(Answer::Offence(offence));
         }
+        // This also tells that the problem's numbers are small, so that what is read as a set is one of its groups.
+        problem_fits(self.problem);
         let mut lines = self.lines;
         let first = lines.at;
         match read_piece(alloc, &mut lines, self.problem, self.version, &self.namings) {

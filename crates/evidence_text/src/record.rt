@@ -236,16 +236,18 @@ fn closing_vars(version: Version, groups: u32) -> u32
 
 /// What a last line says, with the derivation that stands before it.
 fn with_proof(says: Ending<()>, proof: Derivation) -> Ending<Derivation>
-    requires { says ≢ Ending.Partial }
     ensures { result ≡ ending_map (λ x. proof) says }
 {
     match says {
-        Ending::Partial => Ending::Partial,
-        Ending::Complete(()) => Ending::Complete(proof),
+        Ending::Partial => {
+            drop(proof);
+            Ending::Partial
+        }
+        Ending::Complete(_) => Ending::Complete(proof),
         Ending::Level {
             kind,
             most,
-            proof: (),
+            proof: _,
         } => Ending::Level { kind, most, proof },
     }
 }
