@@ -19,10 +19,12 @@ impl Version {
     pub(crate) fn of_number(number: u64) -> Version
         ensures { result ≡ version_of number }
     {
-        match number {
-            1 => Version::One,
-            2 => Version::Two,
-            _ => Version::Three,
+        if number == 1 {
+            Version::One
+        } else if number == 2 {
+            Version::Two
+        } else {
+            Version::Three
         }
     }
 
