@@ -253,7 +253,7 @@ pub records-readable : (version : Version) (p : Problem) (rs : List Record) → 
 records-readable version p rs may few all ids = records-behind version p [] rs may (omega (arith, few)) all ids
 
 -- what is over some variables is over more
-proof-wider : (vars more : ℕ) (d : Derivation) → vars ≤ more → IsReadableProof vars d → IsReadableProof more d
+pub proof-wider : (vars more : ℕ) (d : Derivation) → vars ≤ more → IsReadableProof vars d → IsReadableProof more d
 proof-wider vars more d le ok = record {
   steps = all-then (IsReadableStep vars) (IsReadableStep more) d.steps (λ s is. record { id = is.id; lits = all-then (IsLiteral vars) (IsLiteral more) s.lits wider is.lits; hints = is.hints }) ok.steps;
   goal = ok.goal;

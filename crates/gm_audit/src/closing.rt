@@ -176,9 +176,7 @@ fn level_checker(
     ensures known { IfOk result (λ checker. (named : List ℕ) × AreNamed (length records.now) (length (level_clauses level.now (founds records.now))) proof.now named
         × (checker.known ≡ kept_of (length records.now) named (level_clauses level.now (founds records.now)))) }
 {
-    let Some(vars) = level.vars() else {
-        return Err(AllocError);
-    };
+    let vars = level.vars().unwrap();
     let mut checker = block_checker(alloc, problem, vars, records)?;
     let first = records.len() as u64;
     let named = named_ids(alloc, proof, first, first + level.len())?;

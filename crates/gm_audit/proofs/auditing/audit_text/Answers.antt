@@ -59,12 +59,12 @@ returns-in-End-clause-refusal c =
     let old = c.pieces.reader in
     let h = c.pieces.invariant.reading in
     let is = sym c.in-End.is ∙ c.in_ok-found.ensures.answer h.clean in
-    let stands = end-stands p c.args.bytes.now old c.pieces.auditor.records c.in-End.closing (piece_of old) c.groups-groups.ensures.small h refl is in
-    let line = c.line-in-End.ensures ∙ end-line old c.next.new.self c.in-End.closing (piece_of old) is (c.in_ok-found.ensures.behind h.clean) in
+    let stands = end-stands p c.args.bytes.now old c.pieces.auditor.records c.in-End.ending (piece_of old) c.groups-groups.ensures.small h refl is in
+    let line = c.line-in-End.ensures ∙ end-line old c.next.new.self c.in-End.ending (piece_of old) is (c.in_ok-found.ensures.behind h.clean) in
     refusal-of c.close.result (whole_refusal p c.args.bytes.now)
-    (ending_refusal p c.pieces.auditor.records (Ok (c.line-in-End.result, c.in-End.closing)))
-    (ended p c.args.bytes.now old c.pieces.auditor.records c.in-End.closing (piece_of old) h refl is stands.1
-    ∙ sym (ap (λ (n : ℕ). ending_refusal p c.pieces.auditor.records (Ok (n, c.in-End.closing))) line))
+    (ending_refusal p c.pieces.auditor.records (Ok (c.line-in-End.result, c.in-End.ending)))
+    (ended p c.args.bytes.now old c.pieces.auditor.records c.in-End.ending (piece_of old) h refl is stands.1
+    ∙ sym (ap (λ (n : ℕ). ending_refusal p c.pieces.auditor.records (Ok (n, c.in-End.ending))) line))
     c.close.ensures.refusal
 
 pub returns-in-End-clause-yes : goal.returns-in-End-clause-yes
@@ -73,8 +73,8 @@ returns-in-End-clause-yes c =
     let old = c.pieces.reader in
     let h = c.pieces.invariant.reading in
     let is = sym c.in-End.is ∙ c.in_ok-found.ensures.answer h.clean in
-    let stands = end-stands p c.args.bytes.now old c.pieces.auditor.records c.in-End.closing (piece_of old) c.groups-groups.ensures.small h refl is in
-    yes-of p c.args.bytes.now old c.pieces.auditor c.in-End.closing c.line-in-End.result c.close.result
+    let stands = end-stands p c.args.bytes.now old c.pieces.auditor.records c.in-End.ending (piece_of old) c.groups-groups.ensures.small h refl is in
+    yes-of p c.args.bytes.now old c.pieces.auditor c.in-End.ending c.line-in-End.result c.close.result
     h c.pieces.invariant.auditing stands.0 stands.1 stands.2 c.close.ensures.refusal c.close.ensures.records
 
 -- what is read has one item of evidence for each group
