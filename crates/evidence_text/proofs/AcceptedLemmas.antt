@@ -24,7 +24,7 @@ use Rattle.evidence_rec.specs.Shorten.{least_serving, naming, shortened_refutati
 use Rattle.evidence_rec.proofs.ShortenLemmas.{founds-shorten, length-shorten, accepted-shorten}
 use Rattle.evidence_text.specs.declared.version.Version.{Version}
 use Rattle.size_counter.specs.Levels.{Level, level_vars}
-use Rattle.evidence_text.specs.declared.ending.Ending.{Ending}
+use Rattle.evidence_text.specs.declared.end.End.{End}
 use Rattle.evidence_text.specs.declared.version.Version.TheVariants.{Two, Three}
 use Rattle.evidence_text.specs.Text.{closed_by, evidence_text}
 use Rattle.sat_base.specs.Literals.{IsLiteral}
@@ -267,7 +267,7 @@ pub level-readable : (groups most : ℕ) (l : Level) (inputs : List (List ℤ)) 
 level-readable groups most l inputs d allowed le few derives ids =
     (le, few, proof-wider (level_vars l) max_var d (omega arith) (derivation-readable (level_vars l) inputs d allowed derives ids))
 
-pub accepted-held : (version : Version) (p : Problem) (rs : List Record) (ending : Ending Derivation) → MayRefer version → IsSmall p → length rs ≤ max_id
+pub accepted-held : (version : Version) (p : Problem) (rs : List Record) (ending : End Derivation) → MayRefer version → IsSmall p → length rs ≤ max_id
     → AllAccepted p rs → AllByRecursion HasRecordIds rs → IsReadableEnd version p (founds rs) ending → CanHold version p rs ending
 accepted-held version p rs ending may small few all ids ok =
     record { small = small; records = records-readable version p rs may few all ids; ending = ok }

@@ -10,11 +10,11 @@ use Rattle.gm_base.specs.declared.kind.Kind.TheVariants.{Conflict, Correction}
 use Rattle.lrat_check.specs.declared.why.Why.{Why}
 use Rattle.lrat_check.specs.declared.why.Why.TheVariants.{BadNumber}
 use Rattle.size_counter.specs.Levels.{Level, level_by, level_vars}
-use Rattle.evidence_text.specs.declared.ending.Ending.{Ending}
-use Rattle.evidence_text.specs.declared.ending.Ending.TheVariants as ends
+use Rattle.evidence_text.specs.declared.end.End.{End}
+use Rattle.evidence_text.specs.declared.end.End.TheVariants as ends
 use Rattle.evidence_text.specs.declared.version.Version.{Version}
 use Rattle.evidence_text.specs.declared.version.Version.TheVariants.{One, Two, Three}
-use Rattle.evidence_text.specs.Text.{Word, Line, step_line, exhaustion_line, end_line, kind_word, level_line, ending_map, closing_lines, end_lines}
+use Rattle.evidence_text.specs.Text.{Word, Line, step_line, exhaustion_line, end_line, kind_word, level_line, end_map, closing_lines, end_lines}
 use Rattle.evidence_text.specs.Namings.{Namings, naming_for}
 use Rattle.evidence_text.specs.Reading.{◌>>=◌, behind, word_at, number_at, word_or, has_literals, last_word_at, level_words_at, complete_words_at, last_words_at}
 use Rattle.evidence_text.specs.Readable.{closing_vars, IsReadableProof, IsReadableLevel, IsReadableEndBy}
@@ -22,7 +22,7 @@ use Rattle.evidence_text.proofs.WordsLemmas.{bind-ok, cond-cases, ok-is, number-
 use Rattle.evidence_text.proofs.WordsBackLemmas.{bind-back, number-back, word-back, last_word-back}
 
 -- the line that says it
-abbrev pub said_line : Ending (Unit {0}) → Line
+abbrev pub said_line : End (Unit {0}) → Line
 said_line ends.Partial = end_line (codes "partial")
 said_line (ends.Complete x) = end_line (codes "complete")
 said_line (ends.Level kind most x) = level_line kind most
@@ -33,7 +33,7 @@ IsSaidLevel Two groups most l = ⊥
 IsSaidLevel Three groups most l = (most ≤ groups) × (level_vars l < 2 ^ 31)
 
 -- it can be said behind a closing part of this version
-abbrev pub IsSaid : Version → ℕ → Namings → Ending (Unit {0}) → Type 0
+abbrev pub IsSaid : Version → ℕ → Namings → End (Unit {0}) → Type 0
 IsSaid version groups n ends.Partial = ⊥
 IsSaid version groups n (ends.Complete x) = Unit {0}
 IsSaid version groups n (ends.Level kind most x) = IsSaidLevel version groups most (level_by groups most (naming_for kind n))
@@ -47,26 +47,26 @@ literals-ok l u h =
       | inr many ↦ cc (many.1)
     ]
 
-level-ok : (kind : Kind) (groups : ℕ) (n : Namings) (ws : List Word) (says : Ending (Unit {0})) → groups < 2 ^ 64 → level_words_at kind groups n ws ≡ Ok says
+level-ok : (kind : Kind) (groups : ℕ) (n : Namings) (ws : List Word) (says : End (Unit {0})) → groups < 2 ^ 64 → level_words_at kind groups n ws ≡ Ok says
     → (codes "e" ∷ kind_word kind ∷ ws ≡ said_line says) × IsSaid Three groups n says
 unfolding level_words_at
 level-ok kind groups n ws says small h =
     let (most, a, h1) = bind-ok (number_at 0 groups ws) _ says h in
     let l : Level = level_by groups most.0 (naming_for kind n) in
     let (u, b, h2) = bind-ok (has_literals l) _ says h1 in
-    let made : Ending (Unit {0}) = ends.Level kind most.0 tt in
+    let made : End (Unit {0}) = ends.Level kind most.0 tt in
     let (over, same) = line_end-ok made says most.1 h2 in
     let (first, lo, hi) = number-ok 0 groups ws most.0 most.1 small a in (
       ap (λ (q : List Word). codes "e" ∷ kind_word kind ∷ q) (first ∙ ap (λ (q : List Word). decimal most.0 ∷ q) over) ∙ ap said_line same,
       subst (IsSaid Three groups n) same (hi, literals-ok l u b),
     )
 
-complete_words-ok : (ws : List Word) (says : Ending (Unit {0})) → complete_words_at ws ≡ Ok says
+complete_words-ok : (ws : List Word) (says : End (Unit {0})) → complete_words_at ws ≡ Ok says
     → (codes "e" ∷ ws ≡ said_line says) × ((version : Version) (groups : ℕ) (n : Namings) → IsSaid version groups n says)
 unfolding complete_words_at
 complete_words-ok ws says h =
     let (u, a, h1) = bind-ok (last_word_at (codes "complete") ws) _ says h in
-    let made : Ending (Unit {0}) = ends.Complete tt in
+    let made : End (Unit {0}) = ends.Complete tt in
     let same : made ≡ says = ok-is made says (Ok made) refl h1 in (
       ap (λ (q : List Word). codes "e" ∷ q) (last_word-ok (codes "complete") ws u a) ∙ ap said_line same,
       λ version groups n. subst (IsSaid version groups n) same tt,
@@ -78,7 +78,7 @@ word_or-ok : {X : Type 0} (r : Result (List Word) Why) (f : List Word → Result
 word_or-ok (Ok rest) f other x h = inl (rest, refl, h)
 word_or-ok (Err why) f other x h = inr h
 
-pub last_words-ok : (version : Version) (groups : ℕ) (n : Namings) (ws : List Word) (says : Ending (Unit {0})) → groups < 2 ^ 64
+pub last_words-ok : (version : Version) (groups : ℕ) (n : Namings) (ws : List Word) (says : End (Unit {0})) → groups < 2 ^ 64
     → last_words_at version groups n ws ≡ Ok says → (codes "e" ∷ ws ≡ said_line says) × IsSaid version groups n says
 unfolding last_words_at
 last_words-ok One groups n ws says small h = let (line, said) = complete_words-ok ws says h in (line, said One groups n)
@@ -100,8 +100,8 @@ last_words-ok Three groups n ws says small h =
     ]
 
 -- a closing part, and the line that says what it shows
-pub closing-lines : (version : Version) (groups : ℕ) (n : Namings) (d : Derivation) (says : Ending (Unit {0})) (ls : List Line) → IsSaid version groups n says
-    → map step_line d.steps ++ exhaustion_line d.goal ∷ said_line says ∷ ls ≡ end_lines (ending_map (λ x. d) says) ++ ls
+pub closing-lines : (version : Version) (groups : ℕ) (n : Namings) (d : Derivation) (says : End (Unit {0})) (ls : List Line) → IsSaid version groups n says
+    → map step_line d.steps ++ exhaustion_line d.goal ∷ said_line says ∷ ls ≡ end_lines (end_map (λ x. d) says) ++ ls
 closing-lines version groups n d ends.Partial ls said = absurd said
 closing-lines version groups n d (ends.Complete x) ls said =
     sym (append_assoc (map step_line d.steps) (exhaustion_line d.goal ∷ end_line (codes "complete") ∷ []) ls)
@@ -114,8 +114,8 @@ level-readable One groups most l d good said = absurd said
 level-readable Two groups most l d good said = absurd said
 level-readable Three groups most l d good said = (said.0, said.1, good)
 
-pub said-readable : (version : Version) (p : Problem) (n : Namings) (d : Derivation) (says : Ending (Unit {0})) → IsReadableProof (closing_vars version p.groups) d
-    → IsSaid version p.groups n says → IsReadableEndBy version p n (ending_map (λ x. d) says)
+pub said-readable : (version : Version) (p : Problem) (n : Namings) (d : Derivation) (says : End (Unit {0})) → IsReadableProof (closing_vars version p.groups) d
+    → IsSaid version p.groups n says → IsReadableEndBy version p n (end_map (λ x. d) says)
 said-readable version p n d ends.Partial good said = absurd said
 said-readable version p n d (ends.Complete x) good said = good
 said-readable version p n d (ends.Level kind most x) good said = level-readable version p.groups most (level_by p.groups most (naming_for kind n)) d good said
@@ -136,7 +136,7 @@ complete-back : complete_words_at (codes "complete" ∷ []) ≡ Ok (ends.Complet
 unfolding complete_words_at
 complete-back = bind-back _ _ tt _ (last_word-back (codes "complete")) refl
 
-pub last_words-back : (version : Version) (groups : ℕ) (n : Namings) (says : Ending (Unit {0})) → groups < 2 ^ 64 → IsSaid version groups n says
+pub last_words-back : (version : Version) (groups : ℕ) (n : Namings) (says : End (Unit {0})) → groups < 2 ^ 64 → IsSaid version groups n says
     → last_words_at version groups n (behind (said_line says)) ≡ Ok says
 unfolding last_words_at
 last_words-back version groups n ends.Partial small said = absurd said

@@ -18,10 +18,10 @@ use Rattle.evidence_text.specs.declared.goal.Goal.TheVariants.{Refutes, Exhausts
 use Rattle.evidence_text.specs.declared.answer.Answer.TheVariants as answer
 use Rattle.evidence_text.specs.declared.version.Version.{Version}
 use Rattle.evidence_text.specs.declared.version.Version.TheVariants.{One, Two, Three}
-use Rattle.evidence_text.specs.declared.ending.Ending.{Ending}
-use Rattle.evidence_text.specs.declared.ending.Ending.TheVariants as ends
+use Rattle.evidence_text.specs.declared.end.End.{End}
+use Rattle.evidence_text.specs.declared.end.End.TheVariants as ends
 use Rattle.evidence_text.specs.Namings.{Namings, naming_for}
-use Rattle.evidence_text.specs.Text.{Word, Line, version_number, head_line, step_line, witness_line, exhaustion_line, end_line, derivation_lines, refutation_lines, refutations_lines, witnesses_lines, record_lines, level_line, ending_map, closing_lines, end_lines}
+use Rattle.evidence_text.specs.Text.{Word, Line, version_number, head_line, step_line, witness_line, exhaustion_line, end_line, derivation_lines, refutation_lines, refutations_lines, witnesses_lines, record_lines, level_line, end_map, closing_lines, end_lines}
 use Rattle.evidence_text.specs.Reading.{◌>>=◌, below, at_line, behind, version_of, with_step, line_end, counts_at, counts_of, same_counts, head_words_at, head_at, proof_at, number_at, witness_line_at, witnesses_at, steps_at, reference_or_steps_at, refutation_at, refutations_at, conflict_at, correction_at, last_line_at, closing_at, nothing_behind, piece_at}
 use Rattle.size_counter.specs.Levels.{level_by}
 use Rattle.evidence_text.specs.Readable.{IsId, IsReadableStep, IsReadableProof, IsReadableRefutation, IsReadable, closing_vars, IsReadableEndBy, IsSmall}
@@ -173,7 +173,7 @@ record-back version p n (record_of.Correction set w rs) rest at ls small ok =
 
 -- ---- the end
 
-last_line-back : (version : Version) (groups : ℕ) (n : Namings) (says : Ending (Unit {0})) (at : ℕ) (ls : List Line) → groups < 2 ^ 64
+last_line-back : (version : Version) (groups : ℕ) (n : Namings) (says : End (Unit {0})) (at : ℕ) (ls : List Line) → groups < 2 ^ 64
     → IsSaid version groups n says → last_line_at version groups n at (said_line says ∷ ls) ≡ Ok (says, below (at + 1) ls)
 unfolding last_line_at
 last_line-back version groups n ends.Partial at ls small said = absurd said
@@ -182,9 +182,9 @@ last_line-back version groups n (ends.Complete x) at ls small said =
 last_line-back version groups n (ends.Level kind most x) at ls small said =
     bind-back _ _ (ends.Level kind most x) _ (ap (λ r. at_line at r) (last_words-back version groups n (ends.Level kind most x) small said)) refl
 
-closing-back : (version : Version) (p : Problem) (n : Namings) (d : Derivation) (says : Ending (Unit {0})) (at : ℕ) → p.vars + p.groups < 2 ^ 64
+closing-back : (version : Version) (p : Problem) (n : Namings) (d : Derivation) (says : End (Unit {0})) (at : ℕ) → p.vars + p.groups < 2 ^ 64
     → IsReadableProof (closing_vars version p.groups) d → IsSaid version p.groups n says
-    → closing_at version p n at (closing_lines d (said_line says)) ≡ Ok (ending_map (λ x. d) says, below (at + length (closing_lines d (said_line says))) [])
+    → closing_at version p n at (closing_lines d (said_line says)) ≡ Ok (end_map (λ x. d) says, below (at + length (closing_lines d (said_line says))) [])
 unfolding closing_at
 closing-back version p n d says at small ok said =
     let first : List Line = proof_lines Exhausts d.steps d.goal in
@@ -195,7 +195,7 @@ closing-back version p n d says at small ok said =
     ∙ bind-back _ _ (d, below (at + length first) last) _
     (proof-back (closing_vars version p.groups) Exhausts at d.steps d.goal last (vars-small version p.groups (omega arith)) tt ok.steps ok.goal)
     (bind-back _ _ (says, below (at + length first + 1) []) _ (last_line-back version p.groups n says (at + length first) [] (omega arith) said)
-    (ap (λ (k : ℕ). Ok (ending_map (λ x. d) says, below k [])) next))
+    (ap (λ (k : ℕ). Ok (end_map (λ x. d) says, below k [])) next))
 
 -- no record begins like a closing part
 closing-first : (version : Version) (p : Problem) (n : Namings) (steps : List Step) (id at : ℕ) (ls : List Line)
@@ -205,7 +205,7 @@ unfolding piece_at
 closing-first version p n [] id at ls = refl
 closing-first version p n (s ∷ ss) id at ls = refl
 
-pub end-back : (version : Version) (p : Problem) (n : Namings) (ending : Ending Derivation) (at : ℕ) → p.vars + p.groups < 2 ^ 64
+pub end-back : (version : Version) (p : Problem) (n : Namings) (ending : End Derivation) (at : ℕ) → p.vars + p.groups < 2 ^ 64
     → IsReadableEndBy version p n ending → piece_at version p n [] at (end_lines ending) ≡ Ok (answer.End ending, below (at + length (end_lines ending)) [])
 unfolding piece_at
 end-back version p n ends.Partial at small ok =

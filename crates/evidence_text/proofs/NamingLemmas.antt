@@ -14,8 +14,8 @@ use Rattle.evidence_rec.specs.Records.{kind_of, set_of, found_of, founds}
 use Rattle.size_counter.specs.Names.{Naming, against, also, names_of}
 use Rattle.size_counter.specs.Levels.{level_by}
 use Rattle.size_counter.proofs.NameLemmas.{has-first_named, distinct-first_named, names_of-grows, also-same}
-use Rattle.evidence_text.specs.declared.ending.Ending.{Ending}
-use Rattle.evidence_text.specs.declared.ending.Ending.TheVariants as ends
+use Rattle.evidence_text.specs.declared.end.End.{End}
+use Rattle.evidence_text.specs.declared.end.End.TheVariants as ends
 use Rattle.evidence_text.specs.declared.version.Version.{Version}
 use Rattle.evidence_text.specs.declared.version.Version.TheVariants.{One, Two, Three}
 use Rattle.evidence_text.specs.Namings.{Namings, no_namings, naming_for, also_set, also_record, also_records, namings_of, AreWithin}
@@ -70,13 +70,13 @@ level-of Three p rs kind most d ok =
     subst (λ (n : Namings). IsReadableLevel Three p.groups most (level_by p.groups most (naming_for kind n)) d) (namings-behind rs) ok
 
 -- an end that can be read behind records can be where so much was named, and the other way round
-pub end-behind : (version : Version) (p : Problem) (rs : List Record) (ending : Ending Derivation) → IsReadableEnd version p (founds rs) ending
+pub end-behind : (version : Version) (p : Problem) (rs : List Record) (ending : End Derivation) → IsReadableEnd version p (founds rs) ending
     → IsReadableEndBy version p (also_records version rs no_namings) ending
 end-behind version p rs ends.Partial ok = tt
 end-behind version p rs (ends.Complete d) ok = ok
 end-behind version p rs (ends.Level kind most d) ok = level-behind version p rs kind most d ok
 
-pub end-of : (version : Version) (p : Problem) (rs : List Record) (ending : Ending Derivation)
+pub end-of : (version : Version) (p : Problem) (rs : List Record) (ending : End Derivation)
     → IsReadableEndBy version p (also_records version rs no_namings) ending → IsReadableEnd version p (founds rs) ending
 end-of version p rs ends.Partial ok = tt
 end-of version p rs (ends.Complete d) ok = ok

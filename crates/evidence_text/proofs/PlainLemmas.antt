@@ -20,8 +20,8 @@ use Rattle.evidence_rec.specs.declared.record.Refutation.{Refutation}
 use Rattle.evidence_rec.specs.declared.record.Refutation.TheVariants.{Steps, Earlier}
 use Rattle.evidence_text.specs.declared.version.Version.{Version}
 use Rattle.evidence_text.specs.declared.version.Version.TheVariants.{One, Two, Three}
-use Rattle.evidence_text.specs.declared.ending.Ending.{Ending}
-use Rattle.evidence_text.specs.declared.ending.Ending.TheVariants as ends
+use Rattle.evidence_text.specs.declared.end.End.{End}
+use Rattle.evidence_text.specs.declared.end.End.TheVariants as ends
 use Rattle.evidence_text.specs.Namings.{Namings, namings_of}
 use Rattle.evidence_text.specs.Text.{Word, Line, spaced, line_text, text_of, version_number, head_line, set_line, step_line, goal_line, reference_line, witness_line, trues_from, exhaustion_line, end_line, kind_word, level_line, closing_lines, derivation_lines, refutation_lines, refutations_lines, witnesses_lines, record_lines, record_text, end_lines, head_text, end_text, evidence_text}
 use Rattle.evidence_text.specs.Lines.{is_newline, is_blank, before_lines, ended_lines, unended, unended_from, words_of, lines_of}
@@ -261,7 +261,7 @@ closing-plain vars d last small ok plain =
 level-plain : (kind : Kind) (most : ℕ) → most < 2 ^ 64 → IsPlainLine (level_line kind most)
 level-plain kind most small = (plain-from (codes "e") refl, (kind-plain kind, (decimal-plain most small, tt)))
 
-end-plain : (version : Version) (p : Problem) (n : Namings) (ending : Ending Derivation) → p.vars + p.groups < 2 ^ 64 → IsReadableEndBy version p n ending
+end-plain : (version : Version) (p : Problem) (n : Namings) (ending : End Derivation) → p.vars + p.groups < 2 ^ 64 → IsReadableEndBy version p n ending
     → AllByRecursion IsPlainLine (end_lines ending)
 end-plain version p n ends.Partial small ok = ((plain-from (codes "e") refl, (plain-from (codes "partial") refl, tt)), tt)
 end-plain version p n (ends.Complete d) small ok =
@@ -287,7 +287,7 @@ head-plain version p ok =
 -- ---- a whole text
 
 -- the head, the records and the end
-abbrev pub whole_lines : Version → Problem → List Record → Ending Derivation → List Line
+abbrev pub whole_lines : Version → Problem → List Record → End Derivation → List Line
 whole_lines version p rs ending = head_line version p ∷ (flat_map record_lines rs ++ end_lines ending)
 
 -- the lines of records write their texts
@@ -296,26 +296,26 @@ records-text [] = refl
 records-text (r ∷ rs) = text_of-append (record_lines r) (flat_map record_lines rs) ∙ ap (λ (bs : List ℕ). record_text r ++ bs) (records-text rs)
 
 -- its lines write it
-pub whole-text : (version : Version) (p : Problem) (rs : List Record) (ending : Ending Derivation)
+pub whole-text : (version : Version) (p : Problem) (rs : List Record) (ending : End Derivation)
     → text_of (whole_lines version p rs ending) ≡ evidence_text version p rs ending
 whole-text version p rs ending =
     ap (λ (bs : List ℕ). head_text version p ++ bs)
     (text_of-append (flat_map record_lines rs) (end_lines ending) ∙ ap (λ (bs : List ℕ). bs ++ end_text ending) (records-text rs))
     ∙ sym (append_assoc (head_text version p) (flat_map record_text rs) (end_text ending))
 
-whole-plain : (version : Version) (p : Problem) (rs : List Record) (ending : Ending Derivation) → IsSmall p → AllByRecursion (IsReadable version p) rs
+whole-plain : (version : Version) (p : Problem) (rs : List Record) (ending : End Derivation) → IsSmall p → AllByRecursion (IsReadable version p) rs
     → IsReadableEnd version p (founds rs) ending → AllByRecursion IsPlainLine (whole_lines version p rs ending)
 whole-plain version p rs ending small all ok = (
   head-plain version p small,
   all-append IsPlainLine (flat_map record_lines rs) (end_lines ending) (records-plain version p rs small.numbers all) (end-plain version p (namings_of (founds rs)) ending small.numbers ok),
 )
 
-pub lines_of-whole : (version : Version) (p : Problem) (rs : List Record) (ending : Ending Derivation) → IsSmall p → AllByRecursion (IsReadable version p) rs
+pub lines_of-whole : (version : Version) (p : Problem) (rs : List Record) (ending : End Derivation) → IsSmall p → AllByRecursion (IsReadable version p) rs
     → IsReadableEnd version p (founds rs) ending → lines_of (evidence_text version p rs ending) ≡ whole_lines version p rs ending
 lines_of-whole version p rs ending small all ok =
     ap lines_of (sym (whole-text version p rs ending)) ∙ lines-back (whole_lines version p rs ending) (whole-plain version p rs ending small all ok)
 
-pub unended-whole : (version : Version) (p : Problem) (rs : List Record) (ending : Ending Derivation) → IsSmall p → AllByRecursion (IsReadable version p) rs
+pub unended-whole : (version : Version) (p : Problem) (rs : List Record) (ending : End Derivation) → IsSmall p → AllByRecursion (IsReadable version p) rs
     → IsReadableEnd version p (founds rs) ending → unended (evidence_text version p rs ending) ≡ []
 unended-whole version p rs ending small all ok =
     ap unended (sym (whole-text version p rs ending)) ∙ lines-unended (whole_lines version p rs ending) (whole-plain version p rs ending small all ok)

@@ -19,9 +19,9 @@ use Rattle.evidence_text.specs.declared.answer.Answer.{Answer}
 use Rattle.evidence_text.specs.declared.answer.Answer.TheVariants as answer
 use Rattle.evidence_text.specs.declared.version.Version.{Version}
 use Rattle.evidence_text.specs.declared.version.Version.TheVariants.{One, Two, Three}
-use Rattle.evidence_text.specs.declared.ending.Ending.{Ending}
-use Rattle.evidence_text.specs.declared.ending.Ending.TheVariants as ends
-use Rattle.evidence_text.specs.Text.{Word, Line, version_number, head_line, set_line, step_line, goal_line, witness_line, exhaustion_line, end_line, refutation_lines, refutations_lines, witnesses_lines, record_lines, ending_map, end_lines}
+use Rattle.evidence_text.specs.declared.end.End.{End}
+use Rattle.evidence_text.specs.declared.end.End.TheVariants as ends
+use Rattle.evidence_text.specs.Text.{Word, Line, version_number, head_line, set_line, step_line, goal_line, witness_line, exhaustion_line, end_line, refutation_lines, refutations_lines, witnesses_lines, record_lines, end_map, end_lines}
 use Rattle.evidence_text.specs.Namings.{Namings}
 use Rattle.evidence_text.specs.Reading.{Below, below, at_line, behind, is_letter, goal_letter, version_of, with_step, word_at, number_at, counts_at, set_at, step_at, witness_at, goal_at, last_word_at, proof_at, witness_line_at, witnesses_at, steps_at, reference_or_steps_at, refutation_at, refutations_at, conflict_at, correction_at, last_words_at, last_line_at, closing_at, is_nothing, nothing_behind, piece_at, counts_of, same_counts, head_words_at, head_at}
 use Rattle.evidence_text.specs.Readable.{IsId, MayRefer, IsReference, IsReadableProof, IsReadableRefutation, IsSetUpTo, IsReadable, closing_vars, IsReadableEndBy}
@@ -225,7 +225,7 @@ correction-ok version p set at ls r b small ok h =
 
 -- ---- the end
 
-last_line-ok : (version : Version) (groups : ℕ) (n : Namings) (at : ℕ) (ls : List Line) (says : Ending (Unit {0})) (b : Below) → groups < 2 ^ 64
+last_line-ok : (version : Version) (groups : ℕ) (n : Namings) (at : ℕ) (ls : List Line) (says : End (Unit {0})) (b : Below) → groups < 2 ^ 64
     → last_line_at version groups n at ls ≡ Ok (says, b) → (ls ≡ said_line says ∷ b.lines) × IsSaid version groups n says
 unfolding last_line_at
 last_line-ok version groups n at [] says b small h = cc
@@ -236,26 +236,26 @@ last_line-ok version groups n at (l ∷ ls) says b small h =
           let (e, f) = pair-is x says (below (at + 1) ls) b (Ok (x, below (at + 1) ls)) refl same in
           let (line, said) = last_words-ok version groups n (behind l) x small (at_line-ok at (last_words_at version groups n (behind l)) x a) in (
             ap (λ (k : Line). k ∷ ls) (letter-ok 101 l (omega arith) is.0 ∙ line)
-                ∙ ap₂ (λ (x : Ending (Unit {0})) (c : Below). said_line x ∷ c.lines) e f,
+                ∙ ap₂ (λ (x : End (Unit {0})) (c : Below). said_line x ∷ c.lines) e f,
             subst (IsSaid version groups n) e said,
           )
       | inr none ↦ cc (none.1)
     ]
 
-closing-ok : (version : Version) (p : Problem) (n : Namings) (at : ℕ) (ls : List Line) (ending : Ending Derivation) (b : Below) → p.vars + p.groups < 2 ^ 64
+closing-ok : (version : Version) (p : Problem) (n : Namings) (at : ℕ) (ls : List Line) (ending : End Derivation) (b : Below) → p.vars + p.groups < 2 ^ 64
     → closing_at version p n at ls ≡ Ok (ending, b) → (ls ≡ end_lines ending ++ b.lines) × IsReadableEndBy version p n ending
 unfolding closing_at
 closing-ok version p n at ls ending b small h =
     let vars = closing_vars version p.groups in
     let (r, a, h1) = bind-ok (proof_at vars Exhausts at ls) _ (ending, b) h in
     let (last, z, same) = bind-ok (last_line_at version p.groups n r.1.at r.1.lines) _ (ending, b) h1 in
-    let made : Ending Derivation = ending_map (λ x. r.0) last.0 in
+    let made : End Derivation = end_map (λ x. r.0) last.0 in
     let (e, f) = pair-is made ending last.1 b (Ok (made, last.1)) refl same in
     let (lines, good) = proof-ok vars Exhausts at ls r.0 r.1 (vars-small version p.groups (omega arith)) tt a in
     let (line, said) = last_line-ok version p.groups n r.1.at r.1.lines last.0 last.1 (omega arith) z in (
       lines ∙ ap (λ (ks : List Line). map step_line r.0.steps ++ exhaustion_line r.0.goal ∷ ks) line
           ∙ closing-lines version p.groups n r.0 last.0 last.1.lines said
-          ∙ ap₂ (λ (x : Ending Derivation) (k : Below). end_lines x ++ k.lines) e f,
+          ∙ ap₂ (λ (x : End Derivation) (k : Below). end_lines x ++ k.lines) e f,
       subst (IsReadableEndBy version p n) e (said-readable version p n r.0 last.0 good said),
     )
 
@@ -263,7 +263,7 @@ no-items : {X : Type 0} (xs : List X) → eqb (length xs) 0 ≡ true → xs ≡ 
 no-items [] h = refl
 no-items (x ∷ xs) h = absurd (let e = eqb-true (length (x ∷ xs)) 0 h in omega arith)
 
-nothing-ok : (rest : List ℕ) (ending : Ending Derivation) (c : Below) (a : Answer) (b : Below) → nothing_behind rest ending c ≡ Ok (a, b)
+nothing-ok : (rest : List ℕ) (ending : End Derivation) (c : Below) (a : Answer) (b : Below) → nothing_behind rest ending c ≡ Ok (a, b)
     → (c.lines ≡ []) × (rest ≡ []) × (answer.End ending ≡ a)
 nothing-ok rest ending c a b h =
     elim (cond-cases (is_nothing c.lines rest) _ _ (Ok (a, b)) h) [
@@ -326,7 +326,7 @@ piece-stands version p n rest at (l ∷ ls) a b small h =
         subst (λ (x : Answer). PieceStands version p n rest (l ∷ ls) x b) e
         (subst (λ (k : Below). PieceStands version p n rest (l ∷ ls) (answer.Record r) k) f (good, lines))
 
-    as_end : (ending : Ending Derivation) → answer.End ending ≡ a → IsReadableEndBy version p n ending → l ∷ ls ≡ end_lines ending → rest ≡ []
+    as_end : (ending : End Derivation) → answer.End ending ≡ a → IsReadableEndBy version p n ending → l ∷ ls ≡ end_lines ending → rest ≡ []
         → PieceStands version p n rest (l ∷ ls) a b
     as_end ending same good lines nothing = subst (λ (x : Answer). PieceStands version p n rest (l ∷ ls) x b) same (good, lines, nothing)
 

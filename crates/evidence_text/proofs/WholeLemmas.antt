@@ -5,7 +5,7 @@ use Rattle.sat_base.specs.Derivation.{Derivation}
 use Rattle.gm_base.specs.Problem.{Problem}
 use Rattle.evidence_rec.specs.declared.record.Record.{Record}
 use Rattle.evidence_text.specs.declared.answer.Answer.TheVariants as answer
-use Rattle.evidence_text.specs.declared.ending.Ending.{Ending}
+use Rattle.evidence_text.specs.declared.end.End.{End}
 use Rattle.evidence_text.specs.declared.version.Version.{Version}
 use Rattle.evidence_text.specs.Text.{Line, record_lines, end_lines, evidence_text}
 use Rattle.evidence_text.specs.Lines.{lines_of, unended}
@@ -19,7 +19,7 @@ use Rattle.evidence_text.proofs.LinesBackLemmas.{record-back, end-back, head-bac
 use Rattle.evidence_text.proofs.PlainLemmas.{lines_of-whole, unended-whole}
 
 -- records and an end, from a line on
-reads-all : (version : Version) (p : Problem) (n : Namings) (rs : List Record) (ending : Ending Derivation) (at : ℕ) → IsSmall p
+reads-all : (version : Version) (p : Problem) (n : Namings) (rs : List Record) (ending : End Derivation) (at : ℕ) → IsSmall p
     → AllByRecursion (IsReadable version p) rs → IsReadableEndBy version p (also_records version rs n) ending
     → ReadsAll version p n [] (below at (flat_map record_lines rs ++ end_lines ending)) rs ending
 reads-all version p n [] ending at small all ok = (below (at + length (end_lines ending)) [], end-back version p n ending at small.numbers ok)
@@ -31,7 +31,7 @@ reads-all version p n (r ∷ rs) ending at small all ok =
       reads-all version p (also_record version r n) rs ending (at + length (record_lines r)) small all.1 ok,
     )
 
-pub text-is_read : (version : Version) (p : Problem) (rs : List Record) (ending : Ending Derivation) → CanHold version p rs ending
+pub text-is_read : (version : Version) (p : Problem) (rs : List Record) (ending : End Derivation) → CanHold version p rs ending
     → IsRead version p (evidence_text version p rs ending) rs ending
 text-is_read version p rs ending h =
     let behind : List Line = flat_map record_lines rs ++ end_lines ending in (
@@ -44,17 +44,17 @@ text-is_read version p rs ending h =
 
 -- ---- no two have one text
 
-End-is : (x y : Ending Derivation) → answer.End x ≡ answer.End y → x ≡ y
+End-is : (x y : End Derivation) → answer.End x ≡ answer.End y → x ≡ y
 End-is x y e = cc
 
 Record-is : (q r : Record) → answer.Record q ≡ answer.Record r → q ≡ r
 Record-is q r e = cc
 
-End-no_record : (x : Ending Derivation) (r : Record) → answer.End x ≡ answer.Record r → ⊥
+End-no_record : (x : End Derivation) (r : Record) → answer.End x ≡ answer.Record r → ⊥
 End-no_record x r e = cc
 
 -- what is read is one
-reads-one : (version : Version) (p : Problem) (n : Namings) (rest : List ℕ) (b : Below) (rs qs : List Record) (x y : Ending Derivation)
+reads-one : (version : Version) (p : Problem) (n : Namings) (rest : List ℕ) (b : Below) (rs qs : List Record) (x y : End Derivation)
     → ReadsAll version p n rest b rs x → ReadsAll version p n rest b qs y → (rs ≡ qs) × (x ≡ y)
 reads-one version p n rest b [] [] x y h k =
     let (e, f) = pair-is (answer.End x) (answer.End y) h.0 k.0 (piece_at version p n rest b.at b.lines) h.1 k.1 in (refl, End-is x y e)
@@ -72,7 +72,7 @@ reads-one version p n rest b (r ∷ rs) (q ∷ qs) x y h k =
     k.2 in
     (ap₂ (λ (s : Record) (ss : List Record). s ∷ ss) first same, ends)
 
-pub read-one : (version another : Version) (p : Problem) (text : List ℕ) (rs qs : List Record) (x y : Ending Derivation) → IsRead version p text rs x
+pub read-one : (version another : Version) (p : Problem) (text : List ℕ) (rs qs : List Record) (x y : End Derivation) → IsRead version p text rs x
     → IsRead another p text qs y → (version ≡ another) × (rs ≡ qs) × (x ≡ y)
 read-one version another p text rs qs x y h k =
     let (versions, same) = pair-is version another h.0 k.0 (head_at p 1 (lines_of text)) h.1 k.1 in
@@ -83,7 +83,7 @@ read-one version another p text rs qs x y h k =
     k.2 in
     (versions, records, ends)
 
-pub texts-differ : (version another : Version) (p : Problem) (rs qs : List Record) (x y : Ending Derivation) → CanHold version p rs x → CanHold another p qs y
+pub texts-differ : (version another : Version) (p : Problem) (rs qs : List Record) (x y : End Derivation) → CanHold version p rs x → CanHold another p qs y
     → evidence_text version p rs x ≡ evidence_text another p qs y → (version ≡ another) × (rs ≡ qs) × (x ≡ y)
 texts-differ version another p rs qs x y h k same =
     read-one version another p (evidence_text another p qs y) rs qs x y

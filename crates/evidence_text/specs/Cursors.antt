@@ -7,7 +7,7 @@ use Rattle.evidence_text.specs.Text.{Word}
 use Rattle.evidence_text.specs.Lines.{lines_of, unended, words_of}
 use Rattle.gm_base.specs.Problem.{Problem}
 use Rattle.evidence_text.specs.Namings.{Namings}
-use Rattle.evidence_text.specs.declared.ending.Ending.TheVariants as ends
+use Rattle.evidence_text.specs.declared.end.End.TheVariants as ends
 use Rattle.evidence_text.specs.Reading.{Below, below, ◌>>=◌, ascending_at, items_at, is_over, with_trues, set_at, last_word_at, proof_at, conflict_at, correction_at, closing_at, nothing_behind, at_line, offence}
 use Rattle.evidence_text.specs.declared.answer.Answer.{Answer}
 use Rattle.evidence_text.specs.declared.answer.Answer.TheVariants as answer

@@ -11,7 +11,7 @@ use Rattle.evidence_rec.specs.Shorten.{shorten}
 use Rattle.evidence_text.specs.declared.answer.Answer.{Answer}
 use Rattle.evidence_text.specs.declared.answer.Answer.TheVariants as answer
 use Rattle.size_counter.specs.Levels.{Level, level_vars}
-use Rattle.evidence_text.specs.declared.ending.Ending.{Ending}
+use Rattle.evidence_text.specs.declared.end.End.{End}
 use Rattle.evidence_text.specs.declared.version.Version.{Version}
 use Rattle.evidence_text.specs.declared.version.Version.TheVariants.{Two, Three}
 use Rattle.evidence_text.specs.Text.{Line, head_line, record_lines, closed_by, end_lines, evidence_text}
@@ -61,13 +61,13 @@ RecordsAreRead =
 -- the end, with nothing behind it
 abbrev pub EndsAreRead : Type 0
 EndsAreRead =
-    (version : Version) (p : Problem) (n : Namings) (ending : Ending Derivation) (at : ℕ)
+    (version : Version) (p : Problem) (n : Namings) (ending : End Derivation) (at : ℕ)
     → IsSmall p
     → IsReadableEndBy version p n ending
     → piece_at version p n [] at (end_lines ending) ≡ Ok (answer.End ending, below (at + length (end_lines ending)) [])
 
 -- these records are read here, one after another, and then this end, where this was named before
-abbrev pub ReadsAll : Version → Problem → Namings → List ℕ → Below → List Record → Ending Derivation → Type 0
+abbrev pub ReadsAll : Version → Problem → Namings → List ℕ → Below → List Record → End Derivation → Type 0
 ReadsAll version p n rest b [] ending = (last : Below) × (piece_at version p n rest b.at b.lines ≡ Ok (answer.End ending, last))
 ReadsAll version p n rest b (r ∷ rs) ending =
     (next : Below)
@@ -75,12 +75,12 @@ ReadsAll version p n rest b (r ∷ rs) ending =
     × ReadsAll version p (also_record version r n) rest next rs ending
 
 -- a text passes as one of this version about the problem, with just these records and this end
-abbrev pub IsRead : Version → Problem → List ℕ → List Record → Ending Derivation → Type 0
+abbrev pub IsRead : Version → Problem → List ℕ → List Record → End Derivation → Type 0
 IsRead version p text records ending =
     (b : Below) × (head_at p 1 (lines_of text) ≡ Ok (version, b)) × ReadsAll version p no_namings (unended text) b records ending
 
 -- a text of this version can hold them
-pub record CanHold (version : Version) (p : Problem) (rs : List Record) (end : Ending Derivation) : Type 0 where
+pub record CanHold (version : Version) (p : Problem) (rs : List Record) (end : End Derivation) : Type 0 where
   pub small : IsSmall p
   pub records : AllByRecursion (IsReadable version p) rs
   pub ending : IsReadableEnd version p (founds rs) end
@@ -88,7 +88,7 @@ pub record CanHold (version : Version) (p : Problem) (rs : List Record) (end : E
 -- the lines of a text are those that write it, and no bytes stand behind them
 abbrev pub TextsAreTheirLines : Type 0
 TextsAreTheirLines =
-    (version : Version) (p : Problem) (records : List Record) (ending : Ending Derivation)
+    (version : Version) (p : Problem) (records : List Record) (ending : End Derivation)
     → CanHold version p records ending
     → (lines_of (evidence_text version p records ending) ≡ head_line version p ∷ (flat_map record_lines records ++ end_lines ending))
     × (unended (evidence_text version p records ending) ≡ [])
@@ -96,14 +96,14 @@ TextsAreTheirLines =
 -- a whole text, however long it is
 abbrev pub TextsAreRead : Type 0
 TextsAreRead =
-    (version : Version) (p : Problem) (records : List Record) (ending : Ending Derivation)
+    (version : Version) (p : Problem) (records : List Record) (ending : End Derivation)
     → CanHold version p records ending
     → IsRead version p (evidence_text version p records ending) records ending
 
 -- no two versions, no two lists of records, and no two ends have one text
 abbrev pub TextsDiffer : Type 0
 TextsDiffer =
-    (version another : Version) (p : Problem) (records others : List Record) (ending other : Ending Derivation)
+    (version another : Version) (p : Problem) (records others : List Record) (ending other : End Derivation)
     → CanHold version p records ending
     → CanHold another p others other
     → evidence_text version p records ending ≡ evidence_text another p others other
@@ -138,7 +138,7 @@ LevelsAreReadable =
 -- so a text can hold records, each accepted with those before it, and any end that can be read behind them
 abbrev pub AcceptedAreHeld : Type 0
 AcceptedAreHeld =
-    (version : Version) (p : Problem) (records : List Record) (ending : Ending Derivation)
+    (version : Version) (p : Problem) (records : List Record) (ending : End Derivation)
     → MayRefer version
     → IsSmall p
     → length records ≤ max_id

@@ -11,8 +11,8 @@ use Rattle.evidence_rec.specs.declared.record.Refutation.{Refutation}
 use Rattle.evidence_rec.specs.declared.record.Refutation.TheVariants.{Steps, Earlier}
 use Rattle.gm_base.specs.Explored.{Found}
 use Rattle.size_counter.specs.Levels.{Level, level_by, level_vars}
-use Rattle.evidence_text.specs.declared.ending.Ending.{Ending}
-use Rattle.evidence_text.specs.declared.ending.Ending.TheVariants as ends
+use Rattle.evidence_text.specs.declared.end.End.{End}
+use Rattle.evidence_text.specs.declared.end.End.TheVariants as ends
 use Rattle.evidence_text.specs.declared.version.Version.{Version}
 use Rattle.evidence_text.specs.declared.version.Version.TheVariants.{One, Two, Three}
 use Rattle.evidence_text.specs.Namings.{Namings, naming_for, namings_of}
@@ -84,13 +84,13 @@ IsReadableLevel Two groups most l d = ⊥
 IsReadableLevel Three groups most l d = (most ≤ groups) × (level_vars l < 2 ^ 31) × IsReadableProof max_var d
 
 -- the end, where this was named
-abbrev pub IsReadableEndBy : Version → Problem → Namings → Ending Derivation → Type 0
+abbrev pub IsReadableEndBy : Version → Problem → Namings → End Derivation → Type 0
 IsReadableEndBy version p n ends.Partial = Unit {0}
 IsReadableEndBy version p n (ends.Complete d) = IsReadableProof (closing_vars version p.groups) d
 IsReadableEndBy version p n (ends.Level kind most d) = IsReadableLevel version p.groups most (level_by p.groups most (naming_for kind n)) d
 
 -- the end behind records with these sets
-abbrev pub IsReadableEnd : Version → Problem → List Found → Ending Derivation → Type 0
+abbrev pub IsReadableEnd : Version → Problem → List Found → End Derivation → Type 0
 IsReadableEnd version p found ending = IsReadableEndBy version p (namings_of found) ending
 
 -- what the types of a refutation and of a record keep: no id of a clause is above the greatest

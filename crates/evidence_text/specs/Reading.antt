@@ -17,11 +17,11 @@ use Rattle.evidence_rec.specs.declared.record.Record.TheVariants as record_of
 use Rattle.evidence_rec.specs.declared.record.Refutation.{Refutation}
 use Rattle.evidence_rec.specs.declared.record.Refutation.TheVariants.{Steps, Earlier}
 use Rattle.size_counter.specs.Levels.{Level, level_by, level_vars}
-use Rattle.evidence_text.specs.Text.{Word, Line, ending_map}
+use Rattle.evidence_text.specs.Text.{Word, Line, end_map}
 use Rattle.evidence_text.specs.Namings.{Namings, naming_for}
 use Rattle.evidence_text.specs.Readable.{closing_vars}
-use Rattle.evidence_text.specs.declared.ending.Ending.{Ending}
-use Rattle.evidence_text.specs.declared.ending.Ending.TheVariants as ends
+use Rattle.evidence_text.specs.declared.end.End.{End}
+use Rattle.evidence_text.specs.declared.end.End.TheVariants as ends
 use Rattle.evidence_text.specs.declared.offence.Offence.{Offence}
 use Rattle.evidence_text.specs.declared.goal.Goal.{Goal}
 use Rattle.evidence_text.specs.declared.goal.Goal.TheVariants.{Refutes, Exhausts}
@@ -162,20 +162,20 @@ abbrev pub has_literals : Level → Result (Unit {0}) Why
 has_literals l = if nat_lt (level_vars l) (2 ^ 31) then Ok tt else Err BadNumber
 
 -- a level of this kind, by how many groups its sets have at most
-unfoldable pub level_words_at : Kind → ℕ → Namings → List Word → Result (Ending (Unit {0})) Why
+unfoldable pub level_words_at : Kind → ℕ → Namings → List Word → Result (End (Unit {0})) Why
 level_words_at kind groups n ws = do
   most ← number_at 0 groups ws
   _small ← has_literals (level_by groups most.0 (naming_for kind n))
   line_end (ends.Level kind most.0 tt) most.1
 
 -- that all is there
-unfoldable pub complete_words_at : List Word → Result (Ending (Unit {0})) Why
+unfoldable pub complete_words_at : List Word → Result (End (Unit {0})) Why
 complete_words_at ws = do
   _end ← last_word_at (codes "complete") ws
   Ok (ends.Complete tt)
 
 -- what the last line says behind a closing part, behind `e`: that all is there, or in version 3 a level
-unfoldable pub last_words_at : Version → ℕ → Namings → List Word → Result (Ending (Unit {0})) Why
+unfoldable pub last_words_at : Version → ℕ → Namings → List Word → Result (End (Unit {0})) Why
 last_words_at One groups n ws = complete_words_at ws
 last_words_at Two groups n ws = complete_words_at ws
 last_words_at Three groups n ws =
@@ -299,7 +299,7 @@ correction_at version p set at ls = do
   Ok (record_of.Correction set w.0 proofs.0, proofs.1)
 
 -- the last line (`e`), behind a closing part
-unfoldable pub last_line_at : Version → ℕ → Namings → ℕ → List Line → Result (Ending (Unit {0}) × Below) Offence
+unfoldable pub last_line_at : Version → ℕ → Namings → ℕ → List Line → Result (End (Unit {0}) × Below) Offence
 last_line_at version groups n at [] = Err (offence at Truncated)
 last_line_at version groups n at (l ∷ ls) =
     if is_letter 101 l then (do
@@ -308,18 +308,18 @@ last_line_at version groups n at (l ∷ ls) =
     else Err (offence at BadLine)
 
 -- the closing part, and the last line
-unfoldable pub closing_at : Version → Problem → Namings → ℕ → List Line → Result (Ending Derivation × Below) Offence
+unfoldable pub closing_at : Version → Problem → Namings → ℕ → List Line → Result (End Derivation × Below) Offence
 closing_at version p n at ls = do
   d ← proof_at (closing_vars version p.groups) Exhausts at ls
   last ← last_line_at version p.groups n d.1.at d.1.lines
-  Ok (ending_map (λ x. d.0) last.0, last.1)
+  Ok (end_map (λ x. d.0) last.0, last.1)
 
 -- nothing is left: no line, and no byte of one that doesn't end
 abbrev pub is_nothing : List Line → List ℕ → Bool
 is_nothing ls rest = (length ls == 0) && (length rest == 0)
 
 -- nothing stands behind the end
-abbrev pub nothing_behind : List ℕ → Ending Derivation → Below → Result (Answer × Below) Offence
+abbrev pub nothing_behind : List ℕ → End Derivation → Below → Result (Answer × Below) Offence
 nothing_behind rest ending b = if is_nothing b.lines rest then Ok (answer.End ending, b) else Err (offence b.at TrailingText)
 
 -- a record, or the end, where this was named and these bytes stand behind the last line: a conflict (`u`), a correction (`m`),

@@ -12,8 +12,8 @@ use Rattle.evidence_rec.specs.declared.record.Refutation.{Refutation}
 use Rattle.evidence_rec.specs.declared.record.Refutation.TheVariants.{Steps, Earlier}
 use Rattle.evidence_text.specs.declared.goal.Goal.TheVariants.{Refutes}
 use Rattle.evidence_text.specs.declared.offence.Offence.{Offence}
-use Rattle.evidence_text.specs.declared.ending.Ending.{Ending}
-use Rattle.evidence_text.specs.declared.ending.Ending.TheVariants as ends
+use Rattle.evidence_text.specs.declared.end.End.{End}
+use Rattle.evidence_text.specs.declared.end.End.TheVariants as ends
 use Rattle.evidence_text.specs.declared.answer.Answer.{Answer}
 use Rattle.evidence_text.specs.declared.answer.Answer.TheVariants as answer
 use Rattle.evidence_text.specs.declared.version.Version.{Version}
@@ -161,7 +161,7 @@ unfolding piece_at closing_at proof_at step_at
 greater_literal = refl
 
 -- how many groups: at most those of the problem
-abbrev pub level_of_text : List ℕ → Result (Ending (Unit {0}) × Below) Offence
+abbrev pub level_of_text : List ℕ → Result (End (Unit {0}) × Below) Offence
 level_of_text text = last_line_at Three 4 (namings_of three_found) 18 (lines_of text)
 
 pub all_groups_out : level_of_text (codes "e corrections 4\n") ≡ Ok (ends.Level Correction 4 tt, below 19 [])
@@ -205,7 +205,7 @@ unfolding last_line_at
 level_that_does_not_end = refl
 
 -- of so many groups the order is 1 2 3 4, so with one out the counter has 8 variables more, with 4 out it has none
-abbrev pub level_of_groups : ℕ → List ℕ → Result (Ending (Unit {0}) × Below) Offence
+abbrev pub level_of_groups : ℕ → List ℕ → Result (End (Unit {0}) × Below) Offence
 level_of_groups groups text = last_line_at Three groups (namings_of three_found) 18 (lines_of text)
 
 pub last_variable : level_of_groups 2147483639 (codes "e corrections 1\n") ≡ Ok (ends.Level Correction 1 tt, below 19 [])

@@ -12,8 +12,8 @@ use Rattle.evidence_rec.specs.declared.record.Record.{Record}
 use Rattle.evidence_rec.specs.declared.record.Record.TheVariants as record_of
 use Rattle.evidence_rec.specs.declared.record.Refutation.{Refutation}
 use Rattle.evidence_rec.specs.declared.record.Refutation.TheVariants.{Steps, Earlier}
-use Rattle.evidence_text.specs.declared.ending.Ending.{Ending}
-use Rattle.evidence_text.specs.declared.ending.Ending.TheVariants as ends
+use Rattle.evidence_text.specs.declared.end.End.{End}
+use Rattle.evidence_text.specs.declared.end.End.TheVariants as ends
 use Rattle.evidence_text.specs.declared.version.Version.{Version}
 use Rattle.evidence_text.specs.declared.version.Version.TheVariants.{One, Two, Three}
 
@@ -131,13 +131,13 @@ record_lines (record_of.Correction set witness proofs) =
     set_line (codes "m") set ∷ witness_line 0 witness ∷ refutations_lines set proofs
 
 -- what an ending says, with its derivation made another thing
-abbrev pub ending_map : {X Y : Type 0} → (X → Y) → Ending X → Ending Y
-ending_map f ends.Partial = ends.Partial
-ending_map f (ends.Complete d) = ends.Complete (f d)
-ending_map f (ends.Level kind most d) = ends.Level kind most (f d)
+abbrev pub end_map : {X Y : Type 0} → (X → Y) → End X → End Y
+end_map f ends.Partial = ends.Partial
+end_map f (ends.Complete d) = ends.Complete (f d)
+end_map f (ends.Level kind most d) = ends.Level kind most (f d)
 
 -- all is there where something closes the records, and else nothing is said
-abbrev pub closed_by : {X : Type 0} → Option X → Ending X
+abbrev pub closed_by : {X : Type 0} → Option X → End X
 closed_by None = ends.Partial
 closed_by (Some d) = ends.Complete d
 
@@ -147,7 +147,7 @@ closing_lines d last = map step_line d.steps ++ exhaustion_line d.goal ∷ last 
 
 -- the end: that nothing is closed; or steps that refute the block clauses; or steps by which the sets of a kind with at most so
 -- many groups are there
-abbrev pub end_lines : Ending Derivation → List Line
+abbrev pub end_lines : End Derivation → List Line
 end_lines ends.Partial = end_line (codes "partial") ∷ []
 end_lines (ends.Complete d) = closing_lines d (end_line (codes "complete"))
 end_lines (ends.Level kind most d) = closing_lines d (level_line kind most)
@@ -160,9 +160,9 @@ head_text version p = line_text (head_line version p)
 abbrev pub record_text : Record → List ℕ
 record_text r = text_of (record_lines r)
 
-abbrev pub end_text : Ending Derivation → List ℕ
+abbrev pub end_text : End Derivation → List ℕ
 end_text ending = text_of (end_lines ending)
 
 -- the text of these records about the problem, with this ending, in a version that can hold them
-abbrev pub evidence_text : Version → Problem → List Record → Ending Derivation → List ℕ
+abbrev pub evidence_text : Version → Problem → List Record → End Derivation → List ℕ
 evidence_text version p records ending = head_text version p ++ flat_map record_text records ++ end_text ending

@@ -1,5 +1,5 @@
 //! What a reader answers.
-use crate::ending::Ending;
+use crate::end::End;
 use crate::offence::Offence;
 use evidence_rec::Record;
 use gm_base::Derivation;
@@ -10,7 +10,7 @@ pub enum Answer {
     /// The next record.
     Record(Record),
     /// The end, with the derivation of its closing part, if there is one.
-    End(Ending<Derivation>),
+    End(End<Derivation>),
     /// The first offence.
     Offence(Offence),
 }

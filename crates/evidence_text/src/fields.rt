@@ -5,7 +5,7 @@ ghost use Rattle.evidence_text.specs.Namings.{AreWithin};
 ghost use Rattle.evidence_text.specs.Reading.{number_in, literal_in, items_at, ascending_at, counts_at, set_at, step_at, witness_at, goal_at, last_word_at, level_words_at, complete_words_at, last_words_at};
 ghost use Rattle.evidence_text.specs.Cursors.{words_left, ReadsLine, ReadsLineUnlessMemory, ReadsUnlessMemory, ReadsList, ReadsTrues, with_read};
 
-use crate::ending::Ending;
+use crate::end::End;
 use crate::goal::Goal;
 use crate::namings::Namings;
 use crate::offence::Halt;
@@ -166,7 +166,7 @@ pub(crate) fn read_ending(
     version: Version,
     groups: u32,
     namings: &Namings,
-) -> Result<Ending<()>, Halt>
+) -> Result<End<()>, Halt>
     requires { AreWithin groups namings.now }
     ensures { ReadsLineUnlessMemory (λ says. says) result (last_words_at version groups namings.now (words_left words.entry)) }
 {
@@ -184,7 +184,7 @@ fn read_level_or_complete(
     words: Words<'_>,
     groups: u32,
     namings: &Namings,
-) -> Result<Ending<()>, Halt>
+) -> Result<End<()>, Halt>
     requires { AreWithin groups namings.now }
     ensures { ReadsLineUnlessMemory (λ says. says) result (last_words_at Version.Three groups namings.now (words_left words.entry)) }
 {
@@ -207,7 +207,7 @@ fn read_level(
     kind: Kind,
     groups: u32,
     namings: &Namings,
-) -> Result<Ending<()>, Halt>
+) -> Result<End<()>, Halt>
     requires { AreWithin groups namings.now }
     ensures { ReadsLineUnlessMemory (λ says. says) result (level_words_at kind groups namings.now (words_left words.entry)) }
 {
@@ -216,7 +216,7 @@ fn read_level(
         return Err(Halt::Refused(Why::BadNumber));
     }
     words.end()?;
-    Ok(Ending::Level {
+    Ok(End::Level {
         kind,
         most,
         proof: (),
@@ -225,9 +225,9 @@ fn read_level(
 
 /// That all is there.
 #[tactic(auto, unfolding(crate::specs::Reading::complete_words_at))]
-fn read_complete_words(words: Words<'_>) -> Result<Ending<()>, Halt>
+fn read_complete_words(words: Words<'_>) -> Result<End<()>, Halt>
     ensures { ReadsLineUnlessMemory (λ says. says) result (complete_words_at (words_left words.entry)) }
 {
     read_last_word(words, b"complete")?;
-    Ok(Ending::Complete(()))
+    Ok(End::Complete(()))
 }

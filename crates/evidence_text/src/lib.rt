@@ -46,7 +46,7 @@
 
 mod alone;
 mod answer;
-mod ending;
+mod end;
 mod fields;
 mod fitting;
 mod goal;
@@ -68,7 +68,7 @@ mod writing;
 
 pub use alone::{FRONT, RecordAnswer, RecordText, TextParts, record_of};
 pub use answer::Answer;
-pub use ending::{Ending, closed_by};
+pub use end::{End, closed_by};
 pub use fitting::{count_fits, problem_fits, record_fits};
 pub use line_sink::{LineSink, PutError};
 pub use offence::Offence;

@@ -14,10 +14,10 @@ ghost use Rattle.gm_base.specs.Sets.{has};
 ghost use Rattle.evidence_rec.specs.Records.{set_of, AllAccepted};
 ghost use Rattle.evidence_rec.specs.Shorten.{least_serving, naming, shortened_refutations, shortened, shorten};
 ghost use Rattle.evidence_rec.specs.Serving.{IsIndexOf, FindsServing, CanShorten};
-ghost use Rattle.evidence_text.specs.Text.{line_text, head_text, record_text, end_text, evidence_text, set_line, step_line, goal_line, reference_line, witness_line, exhaustion_line, end_line, level_line, set_letter, ending_map, closing_lines, text_of, derivation_lines, refutation_lines, refutations_lines, witnesses_lines};
+ghost use Rattle.evidence_text.specs.Text.{line_text, head_text, record_text, end_text, evidence_text, set_line, step_line, goal_line, reference_line, witness_line, exhaustion_line, end_line, level_line, set_letter, end_map, closing_lines, text_of, derivation_lines, refutation_lines, refutations_lines, witnesses_lines};
 ghost use Rattle.evidence_text.specs.Putting.{Puts};
 
-use crate::ending::Ending;
+use crate::end::End;
 use crate::line_sink::{LineSink, PutError};
 use crate::version::Version;
 use crate::writing::{
@@ -35,12 +35,12 @@ pub fn put_evidence<S: LineSink>(
     version: Version,
     problem: &Problem,
     records: &[Record],
-    ending: Ending<&Derivation>,
+    ending: End<&Derivation>,
     sink: &mut S,
     waiting: &mut Vec<u8>,
 ) -> Result<(), PutError<S::Error>>
     requires { AllAccepted problem.now records.now }
-    ensures { Puts (S.took sink.old sink.new) (S.stopped sink.old sink.new) waiting.old.items waiting.new.items (evidence_text version problem.now (shorten records.now) (ending_map (λ d. d.now) ending.entry)) result }
+    ensures { Puts (S.took sink.old sink.new) (S.stopped sink.old sink.new) waiting.old.items waiting.new.items (evidence_text version problem.now (shorten records.now) (end_map (λ d. d.now) ending.entry)) result }
 {
     put_head(version, problem, sink, waiting)?;
     put_records(alloc, problem, records, sink, waiting)?;
@@ -234,16 +234,16 @@ fn put_steps<S: LineSink>(
 
 /// Puts the closing part and the end, or that nothing is closed.
 pub(crate) fn put_end<S: LineSink>(
-    ending: Ending<&Derivation>,
+    ending: End<&Derivation>,
     sink: &mut S,
     waiting: &mut Vec<u8>,
 ) -> Result<(), PutError<S::Error>>
-    ensures { Puts (S.took sink.old sink.new) (S.stopped sink.old sink.new) waiting.old.items waiting.new.items (end_text (ending_map (λ d. d.now) ending.entry)) result }
+    ensures { Puts (S.took sink.old sink.new) (S.stopped sink.old sink.new) waiting.old.items waiting.new.items (end_text (end_map (λ d. d.now) ending.entry)) result }
 {
     match ending {
-        Ending::Partial => put_partial(sink, waiting),
-        Ending::Complete(proof) => put_complete(proof, sink, waiting),
-        Ending::Level { kind, most, proof } => put_level(kind, most, proof, sink, waiting),
+        End::Partial => put_partial(sink, waiting),
+        End::Complete(proof) => put_complete(proof, sink, waiting),
+        End::Level { kind, most, proof } => put_level(kind, most, proof, sink, waiting),
     }
 }
 

@@ -1,13 +1,13 @@
 //! Records.
 ghost use Rattle.std.specs.Prelude.{◌≡◌, ◌<◌, ◌+◌, ◌^◌, OnOk};
-ghost use Rattle.evidence_text.specs.Text.{ending_map};
+ghost use Rattle.evidence_text.specs.Text.{end_map};
 ghost use Rattle.evidence_text.specs.Namings.{AreWithin};
 ghost use Rattle.evidence_text.specs.Readable.{closing_vars};
 ghost use Rattle.evidence_text.specs.Reading.{at_line, set_at, last_word_at, witness_line_at, witnesses_at, steps_at, reference_or_steps_at, refutation_at, refutations_at, conflict_at, correction_at, closing_at, last_line_at, piece_at, is_nothing};
 ghost use Rattle.evidence_text.specs.Cursors.{left_of, rest_of, words_left, Gives, GivesBelow, GivesLine, ReadsNothing, conflict_behind, correction_behind, partial_behind, closing_ahead};
 
 use crate::answer::Answer;
-use crate::ending::Ending;
+use crate::end::End;
 use crate::fields::{read_ending, read_goal, read_last_word, read_set, read_witness};
 use crate::goal::Goal;
 use crate::lines::Lines;
@@ -210,7 +210,7 @@ pub(crate) fn read_closing(
     problem: &Problem,
     version: Version,
     namings: &Namings,
-) -> Result<Ending<Derivation>, Stop>
+) -> Result<End<Derivation>, Stop>
     requires { AreWithin problem.now.groups namings.now }
     ensures closing { Gives (λ ending. ending) result (left_of lines.new) (closing_at version problem.now namings.now (left_of lines.old).at (left_of lines.old).lines) }
     ensures rest { OnOk result (rest_of lines.new ≡ rest_of lines.old) }
@@ -235,20 +235,20 @@ fn closing_vars(version: Version, groups: u32) -> u32
 }
 
 /// What a last line says, with the derivation that stands before it.
-fn with_proof(says: Ending<()>, proof: Derivation) -> Ending<Derivation>
-    ensures { result ≡ ending_map (λ x. proof) says }
+fn with_proof(says: End<()>, proof: Derivation) -> End<Derivation>
+    ensures { result ≡ end_map (λ x. proof) says }
 {
     match says {
-        Ending::Partial => {
+        End::Partial => {
             drop(proof);
-            Ending::Partial
+            End::Partial
         }
-        Ending::Complete(_) => Ending::Complete(proof),
-        Ending::Level {
+        End::Complete(_) => End::Complete(proof),
+        End::Level {
             kind,
             most,
             proof: _,
-        } => Ending::Level { kind, most, proof },
+        } => End::Level { kind, most, proof },
     }
 }
 
@@ -260,7 +260,7 @@ fn read_last_line(
     version: Version,
     groups: u32,
     namings: &Namings,
-) -> Result<Ending<()>, Stop>
+) -> Result<End<()>, Stop>
     requires { AreWithin groups namings.now }
     ensures says { Gives (λ says. says) result (left_of lines.new) (last_line_at version groups namings.now (left_of lines.old).at (left_of lines.old).lines) }
     ensures rest { OnOk result (rest_of lines.new ≡ rest_of lines.old) }
@@ -331,7 +331,7 @@ fn read_partial_behind(lines: &Lines<'_>, at: u64, words: Words<'_>) -> Result<A
         return Err(refusal(at, why));
     }
     read_nothing(lines)?;
-    Ok(Answer::End(Ending::Partial))
+    Ok(Answer::End(End::Partial))
 }
 
 /// The closing part and the end.

@@ -11,14 +11,14 @@ use Rattle.evidence_rec.proofs.Explored.{explored-holds_all, closing-explores}
 use Rattle.evidence_rec.proofs.HeldLemmas.{held-exactly_all}
 use Rattle.size_levels.proofs.LevelLemmas.{level-of_records}
 use Rattle.size_levels.proofs.HeldLemmas.{holds-up_to}
-use Rattle.evidence_text.specs.declared.ending.Ending.{Ending}
-use Rattle.evidence_text.specs.declared.ending.Ending.TheVariants as ends
+use Rattle.evidence_text.specs.declared.end.End.{End}
+use Rattle.evidence_text.specs.declared.end.End.TheVariants as ends
 use Rattle.gm_audit.specs.declared.answer.Audited.{Audited}
 use Rattle.gm_audit.specs.declared.answer.Audited.TheVariants.{Yes, No}
 use Rattle.gm_audit.specs.Audits.{Closes, without_proof, Shows, AuditYes, TellsRecords, TellsAll}
 
 -- what closes records shows what its ending says
-closes-shows : (p : Problem) (records : List Record) (ending : Ending Derivation) → IsProblem p → AllAccepted p records → AreNew [] records
+closes-shows : (p : Problem) (records : List Record) (ending : End Derivation) → IsProblem p → AllAccepted p records → AreNew [] records
     → Closes p records ending → Shows p records (without_proof ending)
 closes-shows p records ends.Partial ok accepted new closes = tt
 closes-shows p records (ends.Complete d) ok accepted new closes =
@@ -26,7 +26,7 @@ closes-shows p records (ends.Complete d) ok accepted new closes =
 closes-shows p records (ends.Level kind most d) ok accepted new closes =
     holds-up_to kind p most records ok accepted (level-of_records kind p most records d accepted closes)
 
-pub shown-from_yes : (p : Problem) (text : List ℕ) (records : List Record) (shown : Ending (Unit {0})) → IsProblem p → AuditYes p text records shown
+pub shown-from_yes : (p : Problem) (text : List ℕ) (records : List Record) (shown : End (Unit {0})) → IsProblem p → AuditYes p text records shown
     → Shows p records shown
 shown-from_yes p text records shown ok h =
     subst (Shows p records) (sym h.is_shown) (closes-shows p records h.ending ok h.accepted h.distinct h.closes)

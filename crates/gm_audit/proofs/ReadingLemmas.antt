@@ -15,8 +15,8 @@ use Rattle.evidence_rec.specs.declared.record.Record.TheVariants.{Conflict, Corr
 use Rattle.evidence_rec.specs.Records.{founds}
 use Rattle.size_counter.specs.Levels.{level, level_vars}
 use Rattle.size_levels.specs.Shown.{level_clauses, is_more}
-use Rattle.evidence_text.specs.declared.ending.Ending.{Ending}
-use Rattle.evidence_text.specs.declared.ending.Ending.TheVariants as ends
+use Rattle.evidence_text.specs.declared.end.End.{End}
+use Rattle.evidence_text.specs.declared.end.End.TheVariants as ends
 use Rattle.evidence_text.specs.declared.version.Version.{Version}
 use Rattle.evidence_text.specs.declared.offence.Offence.{Offence}
 use Rattle.evidence_text.specs.declared.answer.Answer.{Answer}
@@ -33,7 +33,7 @@ use Rattle.evidence_text.proofs.StandsLemmas.{piece-stands, head-stands}
 use Rattle.gm_audit.specs.declared.answer.Audited.{Audited}
 use Rattle.gm_audit.specs.declared.answer.Audited.TheVariants.{Yes, No}
 use Rattle.gm_audit.specs.declared.auditor.Auditor.{Auditor}
-use Rattle.gm_audit.specs.Refusals.{Placed, End, Contents, with_record, contents_by, contents_at, placed_refusal, records_refusal, derivation_refusal, ending_refusal, kept_in, contents_refusal, text_refusal}
+use Rattle.gm_audit.specs.Refusals.{Placed, Ending, Contents, with_record, contents_by, contents_at, placed_refusal, records_refusal, derivation_refusal, ending_refusal, kept_in, contents_refusal, text_refusal}
 use Rattle.gm_audit.specs.Audits.{Closes, AuditYes, refusal_of, TellsRecords, TellsKept}
 use Rattle.gm_audit.specs.Inside.{IsAuditing}
 use Rattle.gm_audit.proofs.BlocksLemmas.{derivation-shows}
@@ -119,7 +119,7 @@ pub some-lines : (r : Record) → 0 < length (record_lines r)
 some-lines (Conflict set proof ws) = omega arith
 some-lines (Correction set w ds) = omega arith
 
-some-end : (ending : Ending Derivation) → 0 < length (end_lines ending)
+some-end : (ending : End Derivation) → 0 < length (end_lines ending)
 some-end ends.Partial = omega arith
 some-end (ends.Complete d) =
     let count = length-append (map step_line d.steps) (exhaustion_line d.goal ∷ end_line (codes "complete") ∷ []) in omega arith
@@ -253,12 +253,12 @@ record-shorter r old new lines =
 
 -- ---- the ending
 
-pub nothing-left : (p : Problem) (records : List Record) (ending : End)
+pub nothing-left : (p : Problem) (records : List Record) (ending : Ending)
     → contents_refusal p records (record { records = []; ending = ending }) ≡ ending_refusal p records ending
 nothing-left p records ending = ap (λ (rs : List Record). ending_refusal p rs ending) (append-nil records)
 
 -- the end, with its first line
-pub ended : (p : Problem) (text : List ℕ) (old : Reader) (records : List Record) (ending : Ending Derivation) (got : Piece)
+pub ended : (p : Problem) (text : List ℕ) (old : Reader) (records : List Record) (ending : End Derivation) (got : Piece)
     → IsReading p text old records → piece_of old ≡ got → answer.End ending ≡ piece_answer got → old.left.lines ≡ end_lines ending
     → whole_refusal p text ≡ ending_refusal p records (Ok (old.left.at, ending))
 ended p text old records ending got h e is lines = by h.most h.enough h.refusal
@@ -268,7 +268,7 @@ ended p text old records ending got h e is lines = by h.most h.enough h.refusal
     end-at (Err o) more is = cc
     end-at (Ok (answer.Record q, b)) more is = cc
     end-at (Ok (answer.Offence o, b)) more is = cc
-    end-at (Ok (answer.End other, b)) more is = let same : other ≡ ending = cc in ap (λ (d : Ending Derivation). record { records = []; ending = Ok (old.left.at, d) }) same
+    end-at (Ok (answer.End other, b)) more is = let same : other ≡ ending = cc in ap (λ (d : End Derivation). record { records = []; ending = Ok (old.left.at, d) }) same
 
     by : (m : ℕ) → length old.left.lines ≤ m
         → whole_refusal p text ≡ contents_refusal p records (contents_at m old.version p old.namings (unended text) old.left)
@@ -281,7 +281,7 @@ ended p text old records ending got h e is lines = by h.most h.enough h.refusal
         ∙ nothing-left p records (Ok (old.left.at, ending))
 
 -- the end stands there, and nothing behind it
-pub end-stands : (p : Problem) (text : List ℕ) (old : Reader) (records : List Record) (ending : Ending Derivation) (got : Piece)
+pub end-stands : (p : Problem) (text : List ℕ) (old : Reader) (records : List Record) (ending : End Derivation) (got : Piece)
     → p.vars + p.groups < 2 ^ 31 → IsReading p text old records → piece_of old ≡ got → answer.End ending ≡ piece_answer got
     → IsReadableEnd old.version p (founds records) ending × (old.left.lines ≡ end_lines ending) × (unended text ≡ [])
 end-stands p text old records ending got small h e is =
@@ -294,9 +294,9 @@ end-stands p text old records ending got small h e is =
     end-in (Err o) is = cc
     end-in (Ok (answer.Record q, b)) is = cc
     end-in (Ok (answer.Offence o, b)) is = cc
-    end-in (Ok (answer.End other, b)) is = let same : other ≡ ending = cc in (b, ap (λ (c : Ending Derivation). Ok (answer.End c, b)) same)
+    end-in (Ok (answer.End other, b)) is = let same : other ≡ ending = cc in (b, ap (λ (c : End Derivation). Ok (answer.End c, b)) same)
 
-pub end-line : (old new : Reader) (ending : Ending Derivation) (got : Piece) → answer.End ending ≡ piece_answer got
+pub end-line : (old new : Reader) (ending : End Derivation) (got : Piece) → answer.End ending ≡ piece_answer got
     → new ≡ behind_piece old got → new.line ≡ old.left.at
 end-line old new ending (Err o) is behind = cc
 end-line old new ending (Ok (answer.Record q, b)) is behind = cc
@@ -356,7 +356,7 @@ refusal-of (Ok a) x y same says = says ∙ sym same
 refusal-of (Err e) x y same says = tt
 
 -- what is not refused closes the records
-pub closes-of : (p : Problem) (records : List Record) (line : ℕ) (ending : Ending Derivation) → ending_refusal p records (Ok (line, ending)) ≡ None
+pub closes-of : (p : Problem) (records : List Record) (line : ℕ) (ending : End Derivation) → ending_refusal p records (Ok (line, ending)) ≡ None
     → Closes p records ending
 closes-of p records line ends.Partial none = tt
 closes-of p records line (ends.Complete d) none =
@@ -368,7 +368,7 @@ closes-of p records line (ends.Level kind most d) none =
     derivation-shows (level_vars l) clauses (is_more l) d (in_text-none line (derivation_refusal (level_vars l) clauses (is_more l) d) none)
 
 -- a yes has read all, and nothing was refused
-pub yes-of : (p : Problem) (text : List ℕ) (old : Reader) (a : Auditor) (ending : Ending Derivation) (line : ℕ) (answer : Result Audited AllocError)
+pub yes-of : (p : Problem) (text : List ℕ) (old : Reader) (a : Auditor) (ending : End Derivation) (line : ℕ) (answer : Result Audited AllocError)
     → IsReading p text old a.records → IsAuditing p a → IsReadableEnd old.version p (founds a.records) ending → old.left.lines ≡ end_lines ending → unended text ≡ []
     → IfOk answer (λ b. refusal_of b ≡ ending_refusal p a.records (Ok (line, ending))) → IfOk answer (TellsKept a.records ending)
     → IfOk answer (TellsRecords p text)

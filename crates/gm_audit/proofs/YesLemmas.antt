@@ -25,8 +25,8 @@ use Rattle.evidence_text.specs.declared.version.Version.{Version}
 use Rattle.size_counter.specs.Levels.{Level, level, level_by, level_vars}
 use Rattle.size_levels.specs.Shown.{level_clauses, is_more, shows_level}
 use Rattle.evidence_rec.specs.Seeding.{shows_all_explored}
-use Rattle.evidence_text.specs.declared.ending.Ending.{Ending}
-use Rattle.evidence_text.specs.declared.ending.Ending.TheVariants as ends
+use Rattle.evidence_text.specs.declared.end.End.{End}
+use Rattle.evidence_text.specs.declared.end.End.TheVariants as ends
 use Rattle.evidence_text.specs.declared.version.Version.TheVariants.{One, Two, Three}
 use Rattle.evidence_text.specs.declared.offence.Offence.{Offence}
 use Rattle.evidence_text.specs.declared.answer.Answer.{Answer}
@@ -57,7 +57,7 @@ placed-none p earlier line r form accepted new =
     ap (λ t. cond t (Some (offence line RepeatedSet)) (in_text line (record_refusal p earlier r))) new
     ∙ ap (λ (part : Option (ℕ × Why)). in_text line part) (none-from_accepts p earlier r form.shaped accepted.accepts)
 
-ending-none : (p : Problem) (records : List Record) (line : ℕ) (ending : Ending Derivation) → Closes p records ending
+ending-none : (p : Problem) (records : List Record) (line : ℕ) (ending : End Derivation) → Closes p records ending
     → ending_refusal p records (Ok (line, ending)) ≡ None
 ending-none p records line ends.Partial closes = refl
 ending-none p records line (ends.Complete d) closes =
@@ -86,7 +86,7 @@ none-read version p n rest b got le e = by b.lines le e
     by [] le e = ok_err (sym (at-none version p n rest b.at) ∙ e)
     by (l ∷ ls) le e = omega arith
 
-passes : (version : Version) (p : Problem) (n : Namings) (rest : List ℕ) (m : ℕ) (b : Below) (earlier rs : List Record) (ending : Ending Derivation)
+passes : (version : Version) (p : Problem) (n : Namings) (rest : List ℕ) (m : ℕ) (b : Below) (earlier rs : List Record) (ending : End Derivation)
     → p.vars + p.groups < 2 ^ 64 → length b.lines ≤ m → ReadsAll version p n rest b rs ending → AllByRecursion (IsReadable version p) rs
     → AllAcceptedBehind p earlier rs → AreNew earlier rs → Closes p (earlier ++ rs) ending → contents_refusal p earlier (contents_at m version p n rest b) ≡ None
 passes version p n rest zero b earlier [] ending small le (last, e) readable accepted new closes = absurd (none-read version p n rest b (answer.End ending, last) le e)
@@ -105,11 +105,11 @@ within-limit : (p : Problem) (text : List ℕ) → length text ≤ max_bytes →
 within-limit p text le =
     ap (λ t. cond t (Some (offence 0 TooLong)) (text_refusal p text (head_at p 1 (lines_of text)))) (le-ltb max_bytes (length text) le)
 
-hold-of : (p : Problem) (text : List ℕ) (records : List Record) (shown : Ending (Unit {0})) → IsSmall p → (h : AuditYes p text records shown)
+hold-of : (p : Problem) (text : List ℕ) (records : List Record) (shown : End (Unit {0})) → IsSmall p → (h : AuditYes p text records shown)
     → CanHold h.version p records h.ending
 hold-of p text records shown small h = record { small = small; records = h.readable; ending = h.readable_end }
 
-pub none-from_yes : (p : Problem) (text : List ℕ) (records : List Record) (shown : Ending (Unit {0})) → IsSmall p → length text ≤ max_bytes
+pub none-from_yes : (p : Problem) (text : List ℕ) (records : List Record) (shown : End (Unit {0})) → IsSmall p → length text ≤ max_bytes
     → AuditYes p text records shown → first_refusal p text ≡ None
 none-from_yes p text records shown small le h =
     let is : IsRead h.version p text records h.ending =
@@ -117,7 +117,7 @@ none-from_yes p text records shown small le h =
     within-limit p text le ∙ ap (text_refusal p text) is.1
     ∙ passes h.version p no_namings (unended text) (length (is.0).lines) is.0 [] records h.ending small.numbers (omega arith) is.2 h.readable h.accepted h.distinct h.closes
 
-pub yes-is_one : (p : Problem) (text : List ℕ) (records others : List Record) (shown other : Ending (Unit {0})) → IsSmall p
+pub yes-is_one : (p : Problem) (text : List ℕ) (records others : List Record) (shown other : End (Unit {0})) → IsSmall p
     → AuditYes p text records shown → AuditYes p text others other → (records ≡ others) × (shown ≡ other)
 yes-is_one p text records others shown other small h k =
     let (_versions, same, ends) =
@@ -130,7 +130,7 @@ yes-is_one p text records others shown other small h k =
 -- records and an end that stand here, behind these earlier records
 record Stands (version : Version) (p : Problem) (n : Namings) (rest : List ℕ) (ls : List Line) (earlier : List Record) : Type 0 where
   records : List Record
-  ending : Ending Derivation
+  ending : End Derivation
   lines : ls ≡ flat_map record_lines records ++ end_lines ending
   nothing : rest ≡ []
   readable : AllByRecursion (IsReadable version p) records
@@ -230,14 +230,14 @@ limit-of p text none =
     ]
 
 pub yes-from_none : (p : Problem) (text : List ℕ) → IsSmall p → first_refusal p text ≡ None
-    → (length text ≤ max_bytes) × (records : List Record) × (shown : Ending (Unit {0})) × AuditYes p text records shown
+    → (length text ≤ max_bytes) × (records : List Record) × (shown : End (Unit {0})) × AuditYes p text records shown
 yes-from_none p text small none = by (head_at p 1 (lines_of text)) refl
   where
     le : length text ≤ max_bytes
     le = limit-of p text none
 
     by : (h : Result (Version × Below) Offence) → head_at p 1 (lines_of text) ≡ h
-        → (length text ≤ max_bytes) × (records : List Record) × (shown : Ending (Unit {0})) × AuditYes p text records shown
+        → (length text ≤ max_bytes) × (records : List Record) × (shown : End (Unit {0})) × AuditYes p text records shown
     by (Err o) e = absurd (some-none o (sym (within-limit p text le ∙ ap (text_refusal p text) e) ∙ none))
     by (Ok (version, b)) e =
         let s = stands-of version p no_namings (unended text) (length b.lines) b [] small.numbers (sym (within-limit p text le ∙ ap (text_refusal p text) e) ∙ none) in (
@@ -260,7 +260,7 @@ yes-from_none p text small none = by (head_at p 1 (lines_of text)) refl
         )
 
 pub none-is_yes : (p : Problem) (text : List ℕ) → IsSmall p
-    → (first_refusal p text ≡ None) ↔ ((length text ≤ max_bytes) × (records : List Record) × (shown : Ending (Unit {0})) × AuditYes p text records shown)
+    → (first_refusal p text ≡ None) ↔ ((length text ≤ max_bytes) × (records : List Record) × (shown : End (Unit {0})) × AuditYes p text records shown)
 none-is_yes p text small = (
   λ none. yes-from_none p text small none,
   λ yes_it. none-from_yes p text yes_it.1 yes_it.2 small yes_it.0 yes_it.3,
@@ -274,7 +274,7 @@ level-end : (kind : Kind) (p : Problem) (most : ℕ) (found : List Found) (d : D
 level-end kinds.Conflict p most found d ok = ok
 level-end kinds.Correction p most found d ok = ok
 
-readable-end : (version : Version) (p : Problem) (rs : List Record) (ending : Ending Derivation) → CanClose version p rs ending
+readable-end : (version : Version) (p : Problem) (rs : List Record) (ending : End Derivation) → CanClose version p rs ending
     → IsReadableEnd version p (founds rs) ending × Closes p rs ending
 readable-end version p rs ends.Partial h = (tt, tt)
 readable-end One p rs (ends.Complete d) h = absurd h
@@ -287,7 +287,7 @@ readable-end Three p rs (ends.Level kind most d) h =
     let l : Level = level kind p.groups most (founds rs) in
     (level-end kind p most (founds rs) d (level-readable p.groups most l (level_clauses l (founds rs)) d (is_more l) h.2 h.3 h.0 h.1), h.0)
 
-pub written-is_yes : (version : Version) (p : Problem) (rs : List Record) (ending : Ending Derivation) → MayRefer version → length rs ≤ max_id
+pub written-is_yes : (version : Version) (p : Problem) (rs : List Record) (ending : End Derivation) → MayRefer version → length rs ≤ max_id
     → AllAccepted p rs → AllByRecursion HasRecordIds rs → AreNew [] rs → CanClose version p rs ending
     → AuditYes p (evidence_text version p rs ending) rs (without_proof ending)
 written-is_yes version p rs ending may few accepted ids new closes =
@@ -305,7 +305,7 @@ written-is_yes version p rs ending may few accepted ids new closes =
     }
 
 -- the sets stay, so what closes the records closes them when they are short
-close-shorten : (version : Version) (p : Problem) (rs : List Record) (ending : Ending Derivation) → CanClose version p rs ending → CanClose version p (shorten rs) ending
+close-shorten : (version : Version) (p : Problem) (rs : List Record) (ending : End Derivation) → CanClose version p rs ending → CanClose version p (shorten rs) ending
 close-shorten version p rs ends.Partial h = tt
 close-shorten One p rs (ends.Complete d) h = absurd h
 close-shorten Two p rs (ends.Complete d) h =
@@ -321,7 +321,7 @@ close-shorten Three p rs (ends.Level kind most d) h = (
   subst (λ (fs : List Found). level_vars (level kind p.groups most fs) < 2 ^ 31) (sym (founds-shorten rs)) h.3,
 )
 
-pub shortened-is_yes : (version : Version) (p : Problem) (rs : List Record) (ending : Ending Derivation) → MayRefer version → length rs ≤ max_id
+pub shortened-is_yes : (version : Version) (p : Problem) (rs : List Record) (ending : End Derivation) → MayRefer version → length rs ≤ max_id
     → AllAccepted p rs → AllByRecursion HasRecordIds rs → AreNew [] rs → CanClose version p rs ending
     → AuditYes p (evidence_text version p (shorten rs) ending) (shorten rs) (without_proof ending)
 shortened-is_yes version p rs ending may few accepted ids new closes =

@@ -11,12 +11,12 @@ use Rattle.evidence_rec.specs.Shorten.{shorten}
 use Rattle.size_counter.specs.Levels.{level, level_vars}
 use Rattle.size_levels.specs.Sizes.{HoldsUpTo}
 use Rattle.size_levels.specs.Shown.{shows_level}
-use Rattle.evidence_text.specs.declared.ending.Ending.{Ending}
-use Rattle.evidence_text.specs.declared.ending.Ending.TheVariants as ends
+use Rattle.evidence_text.specs.declared.end.End.{End}
+use Rattle.evidence_text.specs.declared.end.End.TheVariants as ends
 use Rattle.evidence_text.specs.declared.version.Version.{Version}
 use Rattle.evidence_text.specs.declared.version.Version.TheVariants.{One, Two, Three}
 use Rattle.evidence_text.specs.declared.offence.Offence.{Offence}
-use Rattle.evidence_text.specs.Text.{ending_map, evidence_text}
+use Rattle.evidence_text.specs.Text.{end_map, evidence_text}
 use Rattle.evidence_text.specs.Reading.{offence}
 use Rattle.evidence_text.specs.Readable.{IsSmall, MayRefer, IsReadable, IsReadableEnd, HasRecordIds}
 use Rattle.gm_audit.specs.declared.answer.Audited.{Audited}
@@ -25,20 +25,20 @@ use Rattle.gm_audit.specs.Refusals.{max_bytes, first_refusal}
 
 -- what closes records, by their sets: nothing; a derivation of the empty clause from their block clauses; or one of "more than the
 -- bound count" from these and from the counter of a level
-abbrev pub Closes : Problem → List Record → Ending Derivation → Type 0
+abbrev pub Closes : Problem → List Record → End Derivation → Type 0
 Closes p records ends.Partial = Unit {0}
 Closes p records (ends.Complete d) = shows_all_explored p.groups (founds records) d ≡ true
 Closes p records (ends.Level kind most d) = shows_level kind p.groups most (founds records) d ≡ true
 
 -- which ending it is
-abbrev pub without_proof : Ending Derivation → Ending (Unit {0})
-without_proof ending = ending_map (λ d. tt) ending
+abbrev pub without_proof : End Derivation → End (Unit {0})
+without_proof ending = end_map (λ d. tt) ending
 
 -- these bytes are the evidence text, of some version, of the records; each of them is accepted with those before it; no two of
 -- one kind have one set; and what the text ends with closes them
-pub record AuditYes (p : Problem) (text : List ℕ) (records : List Record) (shown : Ending (Unit {0})) : Type 0 where
+pub record AuditYes (p : Problem) (text : List ℕ) (records : List Record) (shown : End (Unit {0})) : Type 0 where
   pub version : Version
-  pub ending : Ending Derivation
+  pub ending : End Derivation
   pub is_shown : shown ≡ without_proof ending
   pub text_is : text ≡ evidence_text version p records ending
   -- each number is one that a text can hold
@@ -59,13 +59,13 @@ TellsRecords p text (Yes shown records) = AuditYes p text records shown
 TellsRecords p text (No line why) = Unit {0}
 
 -- a yes tells these records, and this ending
-abbrev pub TellsKept : List Record → Ending Derivation → Audited → Type 0
+abbrev pub TellsKept : List Record → End Derivation → Audited → Type 0
 TellsKept kept ending (Yes shown records) = (records ≡ kept) × (shown ≡ without_proof ending)
 TellsKept kept ending (No line why) = Unit {0}
 
 -- what an ending shows: nothing; that the sets of the records are exactly all minimal conflicts and all minimal corrections; or
 -- that each minimal set of a kind with at most so many groups is among them
-abbrev pub Shows : Problem → List Record → Ending (Unit {0}) → Type 0
+abbrev pub Shows : Problem → List Record → End (Unit {0}) → Type 0
 Shows p records ends.Partial = Unit {0}
 Shows p records (ends.Complete x) = AreExactlyAll p records
 Shows p records (ends.Level kind most x) = HoldsUpTo p records kind most
@@ -77,26 +77,26 @@ TellsAll p (No line why) = Unit {0}
 -- evidence shows what its ending says, whoever wrote it
 abbrev pub EndingIsShown : Type 0
 EndingIsShown =
-    (p : Problem) (text : List ℕ) (records : List Record) (shown : Ending (Unit {0})) → IsProblem p → AuditYes p text records shown → Shows p records shown
+    (p : Problem) (text : List ℕ) (records : List Record) (shown : End (Unit {0})) → IsProblem p → AuditYes p text records shown → Shows p records shown
 
 -- a text is refused for nothing exactly where it is within the limit and shows what it says, with some records
 abbrev pub NoneIsYes : Type 0
 NoneIsYes =
     (p : Problem) (text : List ℕ)
     → IsSmall p
-    → (first_refusal p text ≡ None) ↔ ((length text ≤ max_bytes) × (records : List Record) × (shown : Ending (Unit {0})) × AuditYes p text records shown)
+    → (first_refusal p text ≡ None) ↔ ((length text ≤ max_bytes) × (records : List Record) × (shown : End (Unit {0})) × AuditYes p text records shown)
 
 -- and these are of one list of records, with one ending
 abbrev pub YesIsOne : Type 0
 YesIsOne =
-    (p : Problem) (text : List ℕ) (records others : List Record) (shown other : Ending (Unit {0}))
+    (p : Problem) (text : List ℕ) (records others : List Record) (shown other : End (Unit {0}))
     → IsSmall p
     → AuditYes p text records shown
     → AuditYes p text others other
     → (records ≡ others) × (shown ≡ other)
 
 -- what closes records, and can be written in this version
-abbrev pub CanClose : Version → Problem → List Record → Ending Derivation → Type 0
+abbrev pub CanClose : Version → Problem → List Record → End Derivation → Type 0
 CanClose version p records ends.Partial = Unit {0}
 CanClose One p records (ends.Complete d) = ⊥
 CanClose Two p records (ends.Complete d) = (shows_all_explored p.groups (founds records) d ≡ true) × HasIds d
@@ -110,7 +110,7 @@ CanClose Three p records (ends.Level kind most d) =
 -- it says
 abbrev pub WrittenIsYes : Type 0
 WrittenIsYes =
-    (version : Version) (p : Problem) (records : List Record) (ending : Ending Derivation)
+    (version : Version) (p : Problem) (records : List Record) (ending : End Derivation)
     → MayRefer version
     → length records ≤ max_id
     → AllAccepted p records
@@ -122,7 +122,7 @@ WrittenIsYes =
 -- and so is what is written of them where each is shortened behind those before it
 abbrev pub ShortenedIsYes : Type 0
 ShortenedIsYes =
-    (version : Version) (p : Problem) (records : List Record) (ending : Ending Derivation)
+    (version : Version) (p : Problem) (records : List Record) (ending : End Derivation)
     → MayRefer version
     → length records ≤ max_id
     → AllAccepted p records

@@ -14,8 +14,8 @@ use Rattle.evidence_rec.specs.Held.{AreNew}
 use Rattle.evidence_rec.specs.Index.{IsIndex}
 use Rattle.gm_base.specs.Explored.{Found}
 use Rattle.size_counter.specs.Levels.{Level, level, level_vars}
-use Rattle.evidence_text.specs.declared.ending.Ending.{Ending}
-use Rattle.evidence_text.specs.declared.ending.Ending.TheVariants as ends
+use Rattle.evidence_text.specs.declared.end.End.{End}
+use Rattle.evidence_text.specs.declared.end.End.TheVariants as ends
 use Rattle.evidence_text.specs.Readable.{IsSetUpTo}
 use Rattle.gm_audit.specs.declared.auditor.Auditor.{Auditor}
 
@@ -32,7 +32,7 @@ pub record IsAuditing (p : Problem) (a : Auditor) : Type 0 where
   pub distinct : AreNew [] a.records
 
 -- literals can name the variables of an end: those of a level
-abbrev pub HasLiterals : ℕ → List Found → Ending Derivation → Type 0
+abbrev pub HasLiterals : ℕ → List Found → End Derivation → Type 0
 HasLiterals groups found ends.Partial = Unit {0}
 HasLiterals groups found (ends.Complete d) = Unit {0}
 HasLiterals groups found (ends.Level kind most d) = level_vars (level kind groups most found) < 2 ^ 31

@@ -18,8 +18,8 @@ use Rattle.evidence_rec.specs.Refusals.{at_line, steps_refusal, record_refusal}
 use Rattle.size_counter.specs.Levels.{Level, level, level_vars}
 use Rattle.size_levels.specs.Shown.{is_more, level_clauses}
 use Rattle.evidence_text.specs.declared.version.Version.{Version}
-use Rattle.evidence_text.specs.declared.ending.Ending.{Ending}
-use Rattle.evidence_text.specs.declared.ending.Ending.TheVariants as ends
+use Rattle.evidence_text.specs.declared.end.End.{End}
+use Rattle.evidence_text.specs.declared.end.End.TheVariants as ends
 use Rattle.evidence_text.specs.declared.offence.Offence.{Offence}
 use Rattle.evidence_text.specs.declared.answer.Answer.{Answer}
 use Rattle.evidence_text.specs.declared.answer.Answer.TheVariants as answer
@@ -35,13 +35,13 @@ pub record Placed : Type 0 where
   pub kept : Record
 
 -- the end, with its first line, or the first offence of the text
-abbrev pub End : Type 0
-End = Result (ℕ × Ending Derivation) Offence
+abbrev pub Ending : Type 0
+Ending = Result (ℕ × End Derivation) Offence
 
 -- the records that can be read, and what stands behind them
 pub record Contents : Type 0 where
   pub records : List Placed
-  pub ending : End
+  pub ending : Ending
 
 abbrev pub with_record : ℕ → Record → Contents → Contents
 with_record line r c = record { records = record { line = line; kept = r } ∷ c.records; ending = c.ending }
@@ -97,7 +97,7 @@ abbrev pub level_refusal : Level → List Found → Derivation → Option (ℕ �
 level_refusal l found d = derivation_refusal (level_vars l) (level_clauses l found) (is_more l) d
 
 -- what stands behind these records
-abbrev pub ending_refusal : Problem → List Record → End → Option Offence
+abbrev pub ending_refusal : Problem → List Record → Ending → Option Offence
 ending_refusal p records (Ok (line, ends.Partial)) = None
 ending_refusal p records (Ok (line, ends.Complete d)) = in_text line (closing_refusal p.groups (founds records) d)
 ending_refusal p records (Ok (line, ends.Level kind most d)) = in_text line (level_refusal (level kind p.groups most (founds records)) (founds records) d)

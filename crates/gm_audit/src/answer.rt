@@ -3,7 +3,7 @@ ghost use Rattle.std.specs.Prelude.{◌≡◌, Some};
 ghost use Rattle.gm_audit.specs.Audits.{refusal_of};
 
 use evidence_rec::Records;
-use evidence_text::{Ending, Offence};
+use evidence_text::{End, Offence};
 use lrat_check::Why;
 
 /// What became of a text of evidence.
@@ -11,7 +11,7 @@ use lrat_check::Why;
 pub enum Audited {
     /// Nothing is refused: which ending it has, and its records, in their order.
     Yes {
-        ending: Ending<()>,
+        ending: End<()>,
         records: Records,
     },
     /// The first refusal: its line, from 1, or 0 where the text is too long.

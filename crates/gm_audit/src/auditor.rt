@@ -4,12 +4,12 @@ ghost use Rattle.evidence_rec.specs.Records.{founds, AllAccepted};
 ghost use Rattle.gm_audit.specs.Inside.{HasLiterals};
 ghost use Rattle.gm_audit.specs.Refusals.{placed_refusal, ending_refusal};
 ghost use Rattle.gm_audit.specs.Audits.{refusal_of, TellsKept};
-ghost use Rattle.evidence_text.specs.declared.ending.Ending.TheVariants as ends;
+ghost use Rattle.evidence_text.specs.declared.end.End.TheVariants as ends;
 
 use crate::answer::Audited;
 use crate::closing::{closing_offence, level_offence, offence_of};
 use evidence_rec::{Held, Record, RecordChecker, Records};
-use evidence_text::{Ending, Offence};
+use evidence_text::{End, Offence};
 use gm_base::{Derivation, Kind, Problem};
 use lrat_check::Why;
 use std::alloc::{AllocError, Global};
@@ -94,7 +94,7 @@ impl Auditor {
         self,
         alloc: Global,
         problem: &Problem,
-        ending: Ending<Derivation>,
+        ending: End<Derivation>,
         line: u64,
     ) -> Result<Audited, AllocError>
         requires auditing { IsAuditing problem.now self }
@@ -104,12 +104,12 @@ impl Auditor {
     {
         let records = self.into_records();
         match ending {
-            Ending::Partial => Ok(Audited::Yes {
-                ending: Ending::Partial,
+            End::Partial => Ok(Audited::Yes {
+                ending: End::Partial,
                 records,
             }),
-            Ending::Complete(proof) => close_complete(alloc, problem, records, line, proof),
-            Ending::Level { kind, most, proof } => {
+            End::Complete(proof) => close_complete(alloc, problem, records, line, proof),
+            End::Level { kind, most, proof } => {
                 close_level(alloc, problem, records, line, kind, most, proof)
             }
         }
@@ -143,7 +143,7 @@ fn close_complete(
     match refusal {
         Some(offence) => Ok(Audited::refused(offence)),
         None => Ok(Audited::Yes {
-            ending: Ending::Complete(()),
+            ending: End::Complete(()),
             records,
         }),
     }
@@ -168,7 +168,7 @@ fn close_level(
     match refusal {
         Some(offence) => Ok(Audited::refused(offence)),
         None => Ok(Audited::Yes {
-            ending: Ending::Level {
+            ending: End::Level {
                 kind,
                 most,
                 proof: (),

@@ -5,9 +5,9 @@
 //!
 //! ```text
 //! match audit(alloc, &problem, bytes)? {
-//!     Audited::Yes { ending: Ending::Complete(()), records } => ..,  // their sets are exactly all minimal ones, by the contract
-//!     Audited::Yes { ending: Ending::Level { kind, most, .. }, records } => .., // all of the kind with so many groups are there
-//!     Audited::Yes { ending: Ending::Partial, records } => .., // their sets are minimal
+//!     Audited::Yes { ending: End::Complete(()), records } => ..,  // their sets are exactly all minimal ones, by the contract
+//!     Audited::Yes { ending: End::Level { kind, most, .. }, records } => .., // all of the kind with so many groups are there
+//!     Audited::Yes { ending: End::Partial, records } => .., // their sets are minimal
 //!     Audited::No { line, why } => ..,                 // the first refusal
 //! }
 //! ```

@@ -6,7 +6,7 @@ use gm_base::Kind;
 
 /// How a text ends, with its derivation, if it has one.
 #[derive(Clone, Copy, Debug, Drop)]
-pub enum Ending<D> {
+pub enum End<D> {
     /// Nothing is said of what is missing.
     Partial,
     /// No minimal set is missing.
@@ -16,11 +16,11 @@ pub enum Ending<D> {
 }
 
 /// Complete if something closes the records, and else partial.
-pub fn closed_by<D>(proof: Option<D>) -> Ending<D>
+pub fn closed_by<D>(proof: Option<D>) -> End<D>
     ensures { result ≡ closed_by proof }
 {
     match proof {
-        Some(proof) => Ending::Complete(proof),
-        None => Ending::Partial,
+        Some(proof) => End::Complete(proof),
+        None => End::Partial,
     }
 }
