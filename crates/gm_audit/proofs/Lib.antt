@@ -2,5 +2,6 @@ pub mod BlocksLemmas
 pub mod ExactLemmas
 pub mod KeptLemmas
 pub mod TextLemmas
+pub mod SomeLemmas
 pub mod ReadingLemmas
 pub mod YesLemmas

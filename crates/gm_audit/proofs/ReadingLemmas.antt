@@ -8,7 +8,8 @@ use Rattle.std.proofs.lemmas.Grind.{flat_map-append}
 use Rattle.std.proofs.lemmas.List.Concat.{flat_map-cons}
 use Rattle.sat_base.specs.Derivation.{Derivation}
 use Rattle.gm_base.specs.Problem.{Problem}
-use Rattle.gm_base.specs.Explored.{block_clause}
+use Rattle.gm_base.specs.Explored.{Found, block_clause}
+use Rattle.gm_base.specs.declared.kind.Kind.TheVariants as kinds
 use Rattle.lrat_check.specs.declared.why.Why.TheVariants.{Truncated}
 use Rattle.evidence_rec.specs.declared.record.Record.{Record}
 use Rattle.evidence_rec.specs.declared.record.Record.TheVariants.{Conflict, Correction}
@@ -18,6 +19,7 @@ use Rattle.size_levels.specs.Shown.{level_clauses, is_more}
 use Rattle.evidence_text.specs.declared.end.End.{End}
 use Rattle.evidence_text.specs.declared.end.End.TheVariants as ends
 use Rattle.evidence_text.specs.declared.version.Version.{Version}
+use Rattle.evidence_text.specs.declared.version.Version.TheVariants.{One, Two, Three}
 use Rattle.evidence_text.specs.declared.offence.Offence.{Offence}
 use Rattle.evidence_text.specs.declared.answer.Answer.{Answer}
 use Rattle.evidence_text.specs.declared.answer.Answer.TheVariants as answer
@@ -35,7 +37,7 @@ use Rattle.gm_audit.specs.declared.answer.Audited.TheVariants.{Yes, No}
 use Rattle.gm_audit.specs.declared.auditor.Auditor.{Auditor}
 use Rattle.gm_audit.specs.Refusals.{Placed, Ending, Contents, with_record, contents_by, contents_at, placed_refusal, records_refusal, derivation_refusal, ending_refusal, kept_in, contents_refusal, text_refusal}
 use Rattle.gm_audit.specs.Audits.{Closes, AuditYes, refusal_of, TellsRecords, TellsKept}
-use Rattle.gm_audit.specs.Inside.{IsAuditing}
+use Rattle.gm_audit.specs.Inside.{HasLiterals, IsAuditing}
 use Rattle.gm_audit.proofs.BlocksLemmas.{derivation-shows}
 use Rattle.gm_audit.proofs.KeptLemmas.{in_text-none}
 use Rattle.gm_audit.proofs.TextLemmas.{evidence-from_lines}
@@ -366,6 +368,16 @@ closes-of p records line (ends.Level kind most d) none =
     let l = level kind p.groups most (founds records) in
     let clauses = level_clauses l (founds records) in
     derivation-shows (level_vars l) clauses (is_more l) d (in_text-none line (derivation_refusal (level_vars l) clauses (is_more l) d) none)
+
+-- literals can name the variables of what was read
+pub literals-of : (version : Version) (p : Problem) (found : List Found) (ending : End Derivation) → IsReadableEnd version p found ending
+    → HasLiterals p.groups found ending
+literals-of version p found ends.Partial ok = tt
+literals-of version p found (ends.Complete d) ok = tt
+literals-of One p found (ends.Level kind most d) ok = absurd ok
+literals-of Two p found (ends.Level kind most d) ok = absurd ok
+literals-of Three p found (ends.Level kinds.Conflict most d) ok = ok.1
+literals-of Three p found (ends.Level kinds.Correction most d) ok = ok.1
 
 -- a yes has read all, and nothing was refused
 pub yes-of : (p : Problem) (text : List ℕ) (old : Reader) (a : Auditor) (ending : End Derivation) (line : ℕ) (answer : Result Audited AllocError)

@@ -1,9 +1,10 @@
 use Rattle.std.proofs.Common.{◌∙◌, ℕ, refl, sym, ap, subst}
 use Rattle.std.specs.Prelude.{Ok}
+use Rattle.evidence_rec.specs.Records.{founds}
 use Rattle.evidence_text.specs.Reader.{piece_of}
 use Rattle.gm_audit.specs.Refusals.{placed_refusal, ending_refusal}
 use Rattle.gm_audit.proofs.KeptLemmas.{form-readable}
-use Rattle.gm_audit.proofs.ReadingLemmas.{IsReading, placed, whole_refusal, reading-begun, record-line, record-stands, record-shorter, refused-record, reading-record, ended, end-stands, end-line, offended, refusal-of, yes-of}
+use Rattle.gm_audit.proofs.ReadingLemmas.{IsReading, placed, whole_refusal, reading-begun, record-line, record-stands, record-shorter, refused-record, reading-record, ended, end-stands, end-line, offended, refusal-of, literals-of, yes-of}
 use Rattle.gm_audit.proofs.auditing.audit_text.Goals as goal
 
 -- nothing but the head was read
@@ -76,6 +77,16 @@ returns-in-End-clause-yes c =
     let stands = end-stands p c.args.bytes.now old c.pieces.auditor.records c.in-End.ending (piece_of old) c.groups-groups.ensures.small h refl is in
     yes-of p c.args.bytes.now old c.pieces.auditor c.in-End.ending c.line-in-End.result c.close.result
     h c.pieces.invariant.auditing stands.0 stands.1 stands.2 c.close.ensures.refusal c.close.ensures.records
+
+-- literals can name the variables of the end
+pub close-requires-clause-literals : goal.close-requires-clause-literals
+close-requires-clause-literals c =
+    let p = c.args.problem.now in
+    let old = c.pieces.reader in
+    let h = c.pieces.invariant.reading in
+    literals-of old.version p (founds c.pieces.auditor.records) c.in-End.ending
+    (end-stands p c.args.bytes.now old c.pieces.auditor.records c.in-End.ending (piece_of old) c.groups-groups.ensures.small h refl
+    (sym c.in-End.is ∙ c.in_ok-found.ensures.answer h.clean)).0
 
 -- what is read has one item of evidence for each group
 pub add-requires-clause-form : goal.add-requires-clause-form
