@@ -165,15 +165,15 @@ fn close_level(
     ensures records { IfOk result (TellsKept records (ends.Level kind most proof)) }
 {
     let refusal = level_offence(alloc, problem, &records, line, kind, most, &proof)?;
-    match refusal {
-        Some(offence) => Ok(Audited::refused(offence)),
-        None => Ok(Audited::Yes {
-            ending: End::Level {
-                kind,
-                most,
-                proof: (),
-            },
-            records,
-        }),
+    if let Some(offence) = refusal {
+        return Ok(Audited::refused(offence));
     }
+    Ok(Audited::Yes {
+        ending: End::Level {
+            kind,
+            most,
+            proof: (),
+        },
+        records,
+    })
 }
