@@ -1,14 +1,16 @@
 -- A derivation is checked alike over all clauses and over some of them, where those are there that it names, and the last.
-use Rattle.std.proofs.Common.{◌≡◌, ℕ, suc, ◌+◌, ◌<◌, ◌≤◌, Bool, true, false, cond, ◌||◌, eqb, List, [], ◌∷◌, ◌++◌, map, length, Option, Some, None, refl, sym, ◌∙◌, ap, subst, inl, inr, arith}
-use Rattle.std.specs.Prelude.{ℤ, neg_ℤ, nat_lt, if◌then◌else◌}
-use Rattle.std.specs.List.{filter, find, AllByRecursion}
+use Rattle.std.proofs.Common.{◌≡◌, ◌⊎◌, ℕ, suc, ◌+◌, ◌-◌, ◌<◌, ◌≤◌, Bool, true, false, cond, ◌&&◌, ◌||◌, eqb, ltb, leb, List, [], ◌∷◌, ◌++◌, map, length, take, get_or, Option, Some, None, refl, sym, ◌∙◌, ap, ap₂, subst, inl, inr, arith, append_assoc, append-nil}
+use Rattle.std.specs.Prelude.{ℤ, neg_ℤ, nat_lt, nat_le, slice_get, if◌then◌else◌}
+use Rattle.std.specs.List.{filter, find, list_all, AllByRecursion}
 use Rattle.std.specs.Option.{option_map, option_map_or, option_or}
-use Rattle.std.proofs.lemmas.Bool.{true≢false, cases_Bool, eqb-true}
+use Rattle.std.proofs.lemmas.Bool.{true≢false, false≢true, cases_Bool, cases_lt, eqb-true, cond-true, cond-false}
+use Rattle.std.proofs.lemmas.List.{take_all}
+use Rattle.std.proofs.lemmas.List.Elements.{filter-append}
 use Rattle.sat_base.specs.Derivation.{Step, Derivation, numbered, clause_of, all_known, open_lits, only_lit, is_nil, is_step_clause}
 use Rattle.lrat_check.specs.declared.why.Why.{Why}
-use Rattle.lrat_check.specs.declared.why.Why.TheVariants.{UnknownHint, NotUnit, NotFalse, HintsLeft, IdNotRising, BadLiteral}
+use Rattle.lrat_check.specs.declared.why.Why.TheVariants.{UnknownHint, NotUnit, NotFalse, HintsLeft, IdNotRising, BadLiteral, UnknownClause, NotRefuting}
 use Rattle.lrat_check.specs.Refusal.{last_id, hints_refusal, clause_refusal, step_refusal}
-use Rattle.lrat_check.proofs.KnownLemmas.{last_id-push}
+use Rattle.lrat_check.proofs.KnownLemmas.{last_id-push, numbered_next}
 use Rattle.evidence_rec.specs.Refusals.{at_line, steps_refusal}
 use Rattle.gm_audit.specs.Inside.{behind_steps}
 use Rattle.gm_audit.specs.Refusals.{goal_refusal, derivation_refusal}
@@ -127,3 +129,122 @@ kept-named keep (e ∷ es) id h =
     front : (xs : Known) (t : Bool) → eqb e.0 id ≡ t
         → clause_of (e ∷ xs) id ≡ option_map (λ (x : ℕ × List ℤ). x.1) (cond t (Some e) (find (λ (x : ℕ × List ℤ). eqb x.0 id) xs))
     front xs t is = ap (λ q. option_map (λ (x : ℕ × List ℤ). x.1) (cond q (Some e) (find (λ (x : ℕ × List ℤ). eqb x.0 id) xs))) is
+
+-- none is where no id from one on is kept
+none-kept : (keep : ℕ → Bool) (from : ℕ) (cs : List (List ℤ)) → ((id : ℕ) → from ≤ id → keep id ≡ false) → kept keep (numbered from cs) ≡ []
+none-kept keep from [] none = refl
+none-kept keep from (c ∷ cs) none =
+    let rest = kept keep (numbered (from + 1) cs) in
+    cond-false (keep from) ((from, c) ∷ rest) rest (none from (omega arith)) ∙ none-kept keep (from + 1) cs (λ id le. none id (omega arith))
+
+-- with one id more, which is above those that were kept, its clause stands behind theirs
+pub kept-push : (k l : ℕ → Bool) (from n : ℕ) (cs : List (List ℤ)) (c : List ℤ) → from ≤ n → slice_get cs (n - from) ≡ Some c
+    → ((id : ℕ) → id < n → l id ≡ k id) → l n ≡ true → ((id : ℕ) → n < id → l id ≡ false) → ((id : ℕ) → n ≤ id → k id ≡ false)
+    → kept l (numbered from cs) ≡ kept k (numbered from cs) ++ (n, c) ∷ []
+kept-push k l from n [] c le is same has above none = absurd (none_some is)
+  where
+    none_some : None ≡ Some c → ⊥
+    none_some e = cc
+kept-push k l from n (d ∷ ds) c le is same has above none =
+    let more = kept l (numbered (from + 1) ds) in
+    let rest = kept k (numbered (from + 1) ds) in
+    elim (cases_lt from n) [
+      | inr here ↦
+          let at : from ≡ n = omega arith in
+          let place : n - from ≡ 0 = omega arith in
+          let first : d ≡ c = some_is (ap (λ (i : ℕ). slice_get (d ∷ ds) i) (sym place) ∙ is) in
+          cond-true (l from) ((from, d) ∷ more) more (ap l at ∙ has)
+          ∙ ap (λ (xs : Known). (from, d) ∷ xs) (none-kept l (from + 1) ds (λ id low. above id (omega arith)))
+          ∙ ap₂ (λ (i : ℕ) (x : List ℤ). (i, x) ∷ []) at first
+          ∙ sym (ap (λ (xs : Known). xs ++ (n, c) ∷ []) (cond-false (k from) ((from, d) ∷ rest) rest (none from (omega arith)) ∙ none-kept k (from + 1) ds (λ id low. none id (omega arith))))
+      | inl before ↦
+          let place : n - from ≡ suc (n - (from + 1)) = omega arith in
+          let behind = kept-push k l (from + 1) n ds c (omega arith) (ap (λ (i : ℕ). slice_get (d ∷ ds) i) (sym place) ∙ is) same has above none in
+          ap (λ t. cond t ((from, d) ∷ more) more) (same from before)
+          ∙ elim (cases_Bool (k from)) [
+            | inl in_it ↦
+                cond-true (k from) ((from, d) ∷ more) more in_it ∙ ap (λ (xs : Known). (from, d) ∷ xs) behind
+                ∙ sym (ap (λ (xs : Known). xs ++ (n, c) ∷ []) (cond-true (k from) ((from, d) ∷ rest) rest in_it))
+            | inr out ↦
+                cond-false (k from) ((from, d) ∷ more) more out ∙ behind
+                ∙ sym (ap (λ (xs : Known). xs ++ (n, c) ∷ []) (cond-false (k from) ((from, d) ∷ rest) rest out))
+          ]
+    ]
+  where
+    some_is : Some d ≡ Some c → d ≡ c
+    some_is e = cc
+
+-- the last id is the same where it is kept
+pub last-kept : (keep : ℕ → Bool) (cs : List (List ℤ)) → keep (length cs) ≡ true → last_id (kept keep (numbered 1 cs)) ≡ last_id (numbered 1 cs)
+last-kept keep [] h = refl
+last-kept keep (c ∷ ds) h =
+    let cs = c ∷ ds in
+    let i = length ds in
+    let before = numbered 1 (take i cs) in
+    let last : ℕ × List ℤ = (1 + i, get_or cs i []) in
+    let whole : numbered 1 cs ≡ before ++ last ∷ [] =
+    ap (numbered 1) (sym (take_all (i + 1) cs (omega arith))) ∙ numbered_next i 1 cs [] (omega arith) in
+    let id : 1 + i ≡ length cs = omega arith in
+    let one : kept keep (last ∷ []) ≡ last ∷ [] = cond-true (keep (1 + i)) (last ∷ []) [] (ap keep id ∙ h) in
+    ap (λ (ks : Known). last_id (kept keep ks)) whole
+    ∙ ap last_id (filter-append (λ (e : ℕ × List ℤ). keep e.0) before (last ∷ []) ∙ ap (λ (ks : Known). kept keep before ++ ks) one)
+    ∙ last_id-push (kept keep before) (1 + i) (get_or cs i [])
+    ∙ sym (ap last_id whole ∙ last_id-push before (1 + i) (get_or cs i []))
+
+-- where there is no clause with an id, none is kept
+kept-none : (keep : ℕ → Bool) (known : Known) (id : ℕ) → clause_of known id ≡ None → clause_of (kept keep known) id ≡ None
+kept-none keep known id none = by (cases_Bool (keep id))
+  where
+    -- of the id alone, none is kept but where it is
+    lost : (xs : Known) → keep id ≡ false → clause_of (kept keep xs) id ≡ None
+    lost [] out = refl
+    lost (e ∷ es) out =
+        let rest = kept keep es in
+        elim (cases_Bool (keep e.0)) [
+          | inr gone ↦ ap (λ (ks : Known). clause_of ks id) (cond-false (keep e.0) (e ∷ rest) rest gone) ∙ lost es out
+          | inl stays ↦
+              ap (λ (ks : Known). clause_of ks id) (cond-true (keep e.0) (e ∷ rest) rest stays)
+              ∙ elim (cases_Bool (eqb e.0 id)) [
+                | inl here ↦ absurd (true≢false (sym stays ∙ ap keep (eqb-true e.0 id here) ∙ out))
+                | inr other ↦
+                    ap (λ t. option_map (λ (x : ℕ × List ℤ). x.1) (cond t (Some e) (find (λ (x : ℕ × List ℤ). eqb x.0 id) rest))) other ∙ lost es out
+              ]
+        ]
+
+    by : (keep id ≡ true) ⊎ (keep id ≡ false) → clause_of (kept keep known) id ≡ None
+    by (inl stays) = kept-named keep known id stays ∙ none
+    by (inr out) = lost known out
+
+-- ---- the whole derivation
+
+alike-steps : (keep : ℕ → Bool) (a b : Known) (steps : List Step) → AreAlike keep a b → AreAlike keep (behind_steps a steps) (behind_steps b steps)
+alike-steps keep a b [] same = subst (λ (x : Known). AreAlike keep x (b ++ [])) (sym (append-nil a)) (subst (AreAlike keep a) (sym (append-nil b)) same)
+alike-steps keep a b (s ∷ ss) same =
+    let step : Known = (s.id, s.lits) ∷ [] in
+    let rest : Known = map (λ (t : Step). (t.id, t.lits)) ss in
+    subst (λ (x : Known). AreAlike keep x (b ++ (step ++ rest))) (append_assoc a step rest)
+    (subst (AreAlike keep ((a ++ step) ++ rest)) (append_assoc b step rest) (alike-steps keep (a ++ step) (b ++ step) ss (alike-push keep a b s.id s.lits same)))
+
+list_all-same : (p q : ℤ → Bool) (xs : List ℤ) → ((x : ℤ) → p x ≡ q x) → list_all p xs ≡ list_all q xs
+list_all-same p q [] same = refl
+list_all-same p q (x ∷ xs) same = ap (λ t. t && list_all p xs) (same x) ∙ ap (λ t. q x && t) (list_all-same p q xs same)
+
+goal-same : (p q : ℤ → Bool) (o : Option (List ℤ)) → ((x : ℤ) → p x ≡ q x)
+    → option_map_or (λ c. if list_all p c then None else Some NotRefuting) o (Some UnknownClause)
+    ≡ option_map_or (λ c. if list_all q c then None else Some NotRefuting) o (Some UnknownClause)
+goal-same p q None same = refl
+goal-same p q (Some c) same = ap (λ t. cond t None (Some NotRefuting)) (list_all-same p q c same)
+
+-- what is told over some of the clauses is told over all of them
+pub derivation-alike : (keep : ℕ → Bool) (vars : ℕ) (some : Known) (clauses : List (List ℤ)) (p q : ℤ → Bool) (d : Derivation)
+    → AreAlike keep some (numbered 1 clauses) → AllByRecursion (λ (s : Step). AllByRecursion (λ h. keep h ≡ true) s.hints) d.steps → keep d.goal ≡ true
+    → ((x : ℤ) → p x ≡ q x)
+    → option_or (steps_refusal vars some 0 d.steps) (at_line (length d.steps) (goal_refusal (behind_steps some d.steps) p d.goal))
+    ≡ derivation_refusal vars clauses q d
+derivation-alike keep vars some clauses p q d same hints goal pointwise =
+    let all = alike-steps keep some (numbered 1 clauses) d.steps same in
+    ap (λ (w : Option (ℕ × Why)). option_or w (at_line (length d.steps) (goal_refusal (behind_steps some d.steps) p d.goal)))
+    (steps-alike keep vars some (numbered 1 clauses) 0 d.steps same hints)
+    ∙ ap (λ (w : Option Why). option_or (steps_refusal vars (numbered 1 clauses) 0 d.steps) (at_line (length d.steps) w))
+    (ap (λ (o : Option (List ℤ)). option_map_or (λ c. if list_all p c then None else Some NotRefuting) o (Some UnknownClause)) (all.clauses d.goal goal)
+    ∙ goal-same p q (clause_of (all_known clauses d.steps) d.goal) pointwise)
