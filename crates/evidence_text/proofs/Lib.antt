@@ -21,3 +21,4 @@ pub mod WholeLemmas
 pub mod AcceptedLemmas
 pub mod AloneLemmas
 pub mod FormLemmas
+pub mod ReaderLemmas

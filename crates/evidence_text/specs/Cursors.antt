@@ -118,10 +118,6 @@ abbrev pub Gives : {X Y : Type 0} → (X → Y) → Result X Stop → Below → 
 Gives view (Ok x) left read = read ≡ Ok (view x, left)
 Gives view (Err s) left read = Stops s read
 
-abbrev pub GivesBelow : Result (Unit {0}) Stop → Below → Result Below Offence → Type 0
-GivesBelow (Ok x) left read = read ≡ Ok left
-GivesBelow (Err s) left read = Stops s read
-
 abbrev pub GivesLine : {X Y : Type 0} → (X → Y) → Result X Stop → Result Y Offence → Type 0
 GivesLine view (Ok x) read = read ≡ Ok (view x)
 GivesLine view (Err s) read = Stops s read

@@ -4,7 +4,7 @@ ghost use Rattle.evidence_text.specs.Text.{end_map};
 ghost use Rattle.evidence_text.specs.Namings.{AreWithin};
 ghost use Rattle.evidence_text.specs.Readable.{closing_vars};
 ghost use Rattle.evidence_text.specs.Reading.{at_line, set_at, last_word_at, witness_line_at, witnesses_at, steps_at, reference_or_steps_at, refutation_at, refutations_at, conflict_at, correction_at, closing_at, last_line_at, piece_at, is_nothing};
-ghost use Rattle.evidence_text.specs.Cursors.{left_of, rest_of, words_left, Gives, GivesBelow, GivesLine, ReadsNothing, conflict_behind, correction_behind, partial_behind, closing_ahead};
+ghost use Rattle.evidence_text.specs.Cursors.{left_of, rest_of, words_left, Gives, GivesLine, ReadsNothing, conflict_behind, correction_behind, partial_behind, closing_ahead};
 
 use crate::answer::Answer;
 use crate::end::End;
