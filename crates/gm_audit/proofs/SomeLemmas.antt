@@ -3,7 +3,10 @@ use Rattle.std.proofs.Common.{◌≡◌, ◌⊎◌, ℕ, suc, ◌+◌, ◌-◌, 
 use Rattle.std.specs.Prelude.{ℤ, neg_ℤ, nat_lt, nat_le, slice_get, if◌then◌else◌}
 use Rattle.std.specs.List.{filter, find, list_all, AllByRecursion}
 use Rattle.std.specs.Option.{option_map, option_map_or, option_or}
-use Rattle.std.proofs.lemmas.Bool.{true≢false, false≢true, cases_Bool, cases_lt, eqb-true, cond-true, cond-false}
+use Rattle.std.proofs.lemmas.Bool.{true≢false, cases_Bool, cases_lt, or_cases, or_left, or_right, and_from, eqb-true, ne_eqb, lt-ltb, ltb-true, le-leb, cond-true, cond-false}
+use Rattle.sat_base.specs.Members.{In}
+use Rattle.gm_base.specs.Sets.{has}
+use Rattle.gm_base.proofs.SetLemmas.{has-filter, has-head}
 use Rattle.std.proofs.lemmas.List.{take_all}
 use Rattle.std.proofs.lemmas.List.Elements.{filter-append}
 use Rattle.sat_base.specs.Derivation.{Step, Derivation, numbered, clause_of, all_known, open_lits, only_lit, is_nil, is_step_clause}
@@ -12,7 +15,7 @@ use Rattle.lrat_check.specs.declared.why.Why.TheVariants.{UnknownHint, NotUnit, 
 use Rattle.lrat_check.specs.Refusal.{last_id, hints_refusal, clause_refusal, step_refusal}
 use Rattle.lrat_check.proofs.KnownLemmas.{last_id-push, numbered_next}
 use Rattle.evidence_rec.specs.Refusals.{at_line, steps_refusal}
-use Rattle.gm_audit.specs.Inside.{behind_steps}
+use Rattle.gm_audit.specs.Inside.{kept_of, within, AreNamed, behind_steps}
 use Rattle.gm_audit.specs.Refusals.{goal_refusal, derivation_refusal}
 
 abbrev pub Known : Type 0
@@ -248,3 +251,87 @@ derivation-alike keep vars some clauses p q d same hints goal pointwise =
     ∙ ap (λ (w : Option Why). option_or (steps_refusal vars (numbered 1 clauses) 0 d.steps) (at_line (length d.steps) w))
     (ap (λ (o : Option (List ℤ)). option_map_or (λ c. if list_all p c then None else Some NotRefuting) o (Some UnknownClause)) (all.clauses d.goal goal)
     ∙ goal-same p q (clause_of (all_known clauses d.steps) d.goal) pointwise)
+
+-- ---- the clauses that a derivation names
+
+-- ids whose clauses are kept, and those above all
+abbrev pub keeps : ℕ → ℕ → List ℕ → ℕ → Bool
+keeps first last named id = (nat_le id first || has named id) || nat_lt last id
+
+above-none : (cs : List (List ℤ)) (from id : ℕ) → from + length cs ≤ id → clause_of (numbered from cs) id ≡ None
+above-none [] from id le = refl
+above-none (c ∷ cs) from id le =
+    ap (λ t. option_map (λ (x : ℕ × List ℤ). x.1) (cond t (Some (from, c)) (find (λ (x : ℕ × List ℤ). eqb x.0 id) (numbered (from + 1) cs)))) (ne_eqb from id (λ e. omega (arith, e, le)))
+    ∙ above-none cs (from + 1) id (omega arith)
+
+-- they are as all are
+pub named-alike : (first : ℕ) (cs : List (List ℤ)) (d : Derivation) (named : List ℕ) → AreNamed first (length cs) d named
+    → AreAlike (keeps first (length cs) named) (kept_of first named cs) (numbered 1 cs)
+named-alike first cs d named h = record { clauses = same; last = last-kept keep cs last-in }
+  where
+    keep : ℕ → Bool
+    keep id = nat_le id first || has named id
+
+    same : (id : ℕ) → keeps first (length cs) named id ≡ true → clause_of (kept keep (numbered 1 cs)) id ≡ clause_of (numbered 1 cs) id
+    same id kept_it =
+        elim (or_cases (keep id) (nat_lt (length cs) id) kept_it) [
+          | inl is ↦ kept-named keep (numbered 1 cs) id is
+          | inr above ↦
+              let high : length cs < id = ltb-true (length cs) id above in
+              let none = above-none cs 1 id (omega arith) in
+              kept-none keep (numbered 1 cs) id none ∙ sym none
+        ]
+
+    last-in : keep (length cs) ≡ true
+    last-in =
+        elim (cases_lt first (length cs)) [
+          | inl more ↦ or_right (nat_le (length cs) first) (has named (length cs)) (h.last_is more)
+          | inr few ↦ or_left (nat_le (length cs) first) (has named (length cs)) (le-leb (length cs) first few)
+        ]
+
+-- an id in the range is kept where it is named
+pub within-kept : (first last : ℕ) (named ids : List ℕ) (id : ℕ) → has ids id ≡ true
+    → (has (within first last ids) id ≡ true → has named id ≡ true) → keeps first last named id ≡ true
+within-kept first last named ids id there names =
+    elim (cases_lt first id) [
+      | inr low ↦
+          or_left (nat_le id first || has named id) (nat_lt last id) (or_left (nat_le id first) (has named id) (le-leb id first low))
+      | inl above ↦
+          elim (cases_lt last id) [
+            | inl high ↦ or_right (nat_le id first || has named id) (nat_lt last id) (lt-ltb last id high)
+            | inr up_to ↦
+                let in_range = and_from (nat_lt first id) (nat_le id last) (lt-ltb first id above) (le-leb id last up_to) in
+                let is = has-filter (λ i. nat_lt first i && nat_le i last) ids id ∙ and_from (nat_lt first id && nat_le id last) (has ids id) in_range there in
+                or_left (nat_le id first || has named id) (nat_lt last id) (or_right (nat_le id first) (has named id) (names is))
+          ]
+    ]
+
+hints-kept : (first last : ℕ) (named all hints : List ℕ) → ((id : ℕ) → has hints id ≡ true → has all id ≡ true)
+    → ((id : ℕ) → has (within first last all) id ≡ true → has named id ≡ true) → AllByRecursion (λ h. keeps first last named h ≡ true) hints
+hints-kept first last named all [] part names = tt
+hints-kept first last named all (x ∷ xs) part names = (
+  within-kept first last named all x (part x (has-head x xs)) (names x),
+  hints-kept first last named all xs (λ id inside. part id (or_right (eqb x id) (has xs id) inside)) names,
+)
+
+pub steps-kept : (first last : ℕ) (named : List ℕ) (steps : List Step)
+    → ((s : Step) (id : ℕ) → In s steps → has (within first last s.hints) id ≡ true → has named id ≡ true)
+    → AllByRecursion (λ (s : Step). AllByRecursion (λ h. keeps first last named h ≡ true) s.hints) steps
+steps-kept first last named [] names = tt
+steps-kept first last named (s ∷ ss) names = (
+  hints-kept first last named s.hints s.hints (λ id inside. inside) (λ id. names s id (inl refl)),
+  steps-kept first last named ss (λ t id inside. names t id (inr inside)),
+)
+
+-- so what is told over the clauses that a derivation names is told over all of them
+pub named-derivation : (first vars : ℕ) (some : Known) (clauses : List (List ℤ)) (p q : ℤ → Bool) (d : Derivation) (named : List ℕ)
+    → AreNamed first (length clauses) d named → some ≡ kept_of first named clauses → ((x : ℤ) → p x ≡ q x)
+    → option_or (steps_refusal vars some 0 d.steps) (at_line (length d.steps) (goal_refusal (behind_steps some d.steps) p d.goal))
+    ≡ derivation_refusal vars clauses q d
+named-derivation first vars some clauses p q d named h is pointwise =
+    let last = length clauses in
+    derivation-alike (keeps first last named) vars some clauses p q d
+    (subst (λ (ks : Known). AreAlike (keeps first last named) ks (numbered 1 clauses)) (sym is) (named-alike first clauses d named h))
+    (steps-kept first last named d.steps h.hints)
+    (within-kept first last named (d.goal ∷ []) d.goal (has-head d.goal []) (h.goal d.goal))
+    pointwise
