@@ -1,8 +1,9 @@
 //! How a text ends.
 ghost use Rattle.std.specs.Prelude.{◌≡◌};
-ghost use Rattle.evidence_text.specs.Text.{closed_by};
+ghost use Rattle.std.specs.Option.{option_map};
+ghost use Rattle.evidence_text.specs.Text.{closed_by, end_map};
 
-use gm_base::Kind;
+use gm_base::{Derivation, Kind};
 
 /// How a text ends, with its derivation, if it has one.
 #[derive(Clone, Copy, Debug, Drop)]
@@ -16,8 +17,8 @@ pub enum End<D> {
 }
 
 /// Complete if something closes the records, and else partial.
-pub fn closed_by<D>(proof: Option<D>) -> End<D>
-    ensures { result ≡ closed_by proof }
+pub fn closed_by(proof: Option<&Derivation>) -> End<&Derivation>
+    ensures { end_map (λ d. d.now) result ≡ closed_by (option_map (λ d. d.now) proof.entry) }
 {
     match proof {
         Some(proof) => End::Complete(proof),
