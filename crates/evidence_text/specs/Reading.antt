@@ -154,8 +154,8 @@ last_word_at due ws = do
 
 -- goes on behind a word, or reads otherwise where it isn't there
 abbrev pub word_or : {X : Type 0} → Result (List Word) Why → (List Word → Result X Why) → Result X Why → Result X Why
-word_or (Ok ws) then other = then ws
-word_or (Err why) then other = other
+word_or (Ok ws) next other = next ws
+word_or (Err why) next other = other
 
 -- literals can name the variables of a level; else its number is too great
 abbrev pub has_literals : Level → Result (Unit {0}) Why
