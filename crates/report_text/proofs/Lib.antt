@@ -1,1 +1,2 @@
 mod RoleLines
+mod SizeOrder
