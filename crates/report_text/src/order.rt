@@ -25,7 +25,7 @@ pub fn in_order_of_size<'a>(
     ensures { IfOk result (λ order. IsBySizeOf most sets.now (lists_of order.items)) }
 {
     let mut order = in_order(alloc, sets)?;
-    order.retain(|set| set.len() <= most);
     order.sort_by_key(|set| set.len())?;
+    order.retain(|set| set.len() <= most);
     Ok(order)
 }
