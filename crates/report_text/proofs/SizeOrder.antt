@@ -4,7 +4,7 @@ use Rattle.std.specs.List.{filter}
 use Rattle.std.specs.List.Sorted.{IsNonDecreasingBy, IsStableByKey, ties}
 use Rattle.std.specs.Ordering.{nat_cmp, is_lt}
 use Rattle.std.specs.declared.cmp.Ordering.TheVariants.{Less, Equal, Greater}
-use Rattle.std.proofs.lemmas.Bool.{cases_Bool, cases_order, cond-true, cond-false, eq-eqb, eqb-eq, ne_eqb, le-leb, lt-leb, lt-ltb, le-ltb}
+use Rattle.std.proofs.lemmas.Bool.{cases_Bool, cases_order, cond-true, cond-false, eq-eqb, eqb-true, ne_eqb, le-leb, lt-leb, lt-ltb, le-ltb}
 use Rattle.gm_base.specs.Lent.{lists_of}
 use Rattle.size_levels.specs.Sizes.{up_to, of_size, by_size}
 
@@ -66,7 +66,7 @@ rising-by_size zero xs up = all xs
   where
     same : (n : ℕ) → leb n 0 ≡ eqb n 0
     same zero = refl
-    same (suc n) = refl
+    same (suc n) = lt-leb (suc n) 0 (omega arith) ∙ sym (ne_eqb (suc n) 0 (λ e. absurd (omega arith)))
 
     all : (xs : List (List ℕ)) → up_to 0 xs ≡ of_size 0 xs
     all [] = refl
@@ -118,10 +118,10 @@ first-passes test (y ∷ ys) x rest is =
 same-by : {X : Type 0} (test : X → Bool) (xs ys : List X) → ((x : X) → test x ≡ true → filter test ys ≡ filter test xs) → filter test ys ≡ filter test xs
 same-by {X} test xs ys h = by (filter test xs) (filter test ys) refl refl
   where
-    by : (as bs : List X) → filter test xs ≡ as → filter test ys ≡ bs → filter test ys ≡ filter test xs
+    by : (olds news : List X) → filter test xs ≡ olds → filter test ys ≡ news → filter test ys ≡ filter test xs
     by [] [] p q = q ∙ sym p
-    by [] (b ∷ bs) p q = h b (first-passes test ys b bs q)
-    by (a ∷ as) bs p q = h a (first-passes test xs a as p)
+    by [] (y ∷ news) p q = h y (first-passes test ys y news q)
+    by (x ∷ olds) news p q = h x (first-passes test xs x olds p)
 
 less-is : (a b : ℕ) → is_lt (nat_cmp a b) ≡ ltb a b
 less-is a b = by (ltb a b) (eqb a b)
@@ -150,7 +150,7 @@ lt_by_size x y = is_lt (nat_cmp (size_of x) (size_of y))
 same-sized : (xs ys : List (Bor (List ℕ))) → IsStableByKey size_of nat_cmp xs ys → (size : ℕ) → of_size size (lists_of ys) ≡ of_size size (lists_of xs)
 same-sized xs ys stable size =
     sym (lists_of-filter (λ set. eqb (length set) size) ys)
-    ∙ ap lists_of (same-by (λ (y : Bor (List ℕ)). eqb (size_of y) size) xs ys (λ x is. by x (eqb-eq (size_of x) size is)))
+    ∙ ap lists_of (same-by (λ (y : Bor (List ℕ)). eqb (size_of y) size) xs ys (λ x is. by x (eqb-true (size_of x) size is)))
     ∙ lists_of-filter (λ set. eqb (length set) size) xs
   where
     tied : (x y : Bor (List ℕ)) → ties lt_by_size x y ≡ eqb (size_of y) (size_of x)

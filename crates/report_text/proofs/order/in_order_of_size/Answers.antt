@@ -1,6 +1,6 @@
 use Rattle.std.proofs.Common.{◌≡◌, ℕ, List, length, leb, Bor, rules, tests}
 use Rattle.std.specs.List.{filter}
-use Rattle.std.proofs.lemmas.List.Elements.{filter_from_retain}
+use Rattle.std.proofs.lemmas.Fn.{filter_same}
 use Rattle.std.proofs.lemmas.List.Sorted.{answers_always, IsNonDecreasingBy-from_sort_by_key}
 use Rattle.gm_base.specs.Lent.{lists_of}
 use Rattle.report_text.proofs.SizeOrder.{by_size-sorted}
@@ -15,7 +15,7 @@ returns c =
     let up = IsNonDecreasingBy-from_sort_by_key (λ (x : Bor (List ℕ)). length x.now) by c.in_ok-sort_by_key.ensures.sorted (λ a r q k. search rules) in
     let stable = c.in_ok-sort_by_key.ensures.stable (λ (x : Bor (List ℕ)). length x.now) (answers_always _ _ _ (λ f a r g h. search rules)) in
     let kept : c.retain.new.self.items ≡ filter (λ (x : Bor (List ℕ)). leb (length x.now) most) by =
-        filter_from_retain _ (λ (x : Bor (List ℕ)). leb (length x.now) most) (λ p x b q k. search (rules, tests)) _ by c.retain.new.self.items c.retain.ensures.filtered in
+        filter_same _ (λ (x : Bor (List ℕ)). leb (length x.now) most) _ (λ x b q k. search (rules, tests)) by c.retain.new.self.items c.retain.ensures.filtered in
     record {
       sorted = lists_of old;
       in_order = c.in_ok-order.ensures;
