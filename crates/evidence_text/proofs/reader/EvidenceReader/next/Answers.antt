@@ -1,7 +1,9 @@
-use Rattle.std.proofs.Common.{◌≡◌, ◌∙◌, Some, Ok, ap, sym, refl}
+use Rattle.std.proofs.Common.{◌≡◌, ◌∙◌, Some, Ok, ap, sym, refl, subst}
 use Rattle.evidence_text.specs.declared.answer.Answer.TheVariants as answer
 use Rattle.evidence_text.specs.declared.offence.Offence.{Offence}
+use Rattle.evidence_text.specs.Namings.{AreWithin}
 use Rattle.evidence_text.specs.Reader.{Reader}
+use Rattle.evidence_text.proofs.ReaderLemmas.{read-within}
 use Rattle.evidence_text.proofs.reader.EvidenceReader.next.Goals as goal
 
 -- the offence that was found is told again
@@ -16,3 +18,10 @@ returns-in-Some-clause-again c = λ o found.
 -- where memory is wanting, the reader stands where it stood
 pub returns-in-Err-Memory-clause-memory : goal.returns-in-Err-Memory-clause-memory
 returns-in-Err-Memory-clause-memory c = refl
+
+-- what is read as a record names groups of the problem
+pub invariant_of-self-in-Ok-Record : goal.invariant_of-self-in-Ok-Record
+invariant_of-self-in-Ok-Record c =
+    let s = c.self.inside in
+    subst (AreWithin s.problem.now.groups) (sym c.in_ok-add-in-Ok-Record.ensures.ok)
+    (read-within s.version s.problem.now s.namings _ _ _ c.in-Ok-Record.r _ c.problem_fits.ensures c.self.invariant c.in-Ok-Record.ensures.piece)
