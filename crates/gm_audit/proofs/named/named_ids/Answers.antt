@@ -1,0 +1,21 @@
+use Rattle.std.proofs.Common.{◌≡◌, ◌∙◌, ◌++◌, ◌∷◌, [], List, ℕ, take, ap, sym, arith, append_assoc}
+use Rattle.std.proofs.lemmas.List.{take_all}
+use Rattle.std.specs.List.{flat_map}
+use Rattle.sat_base.specs.Hints.{ids_of}
+use Rattle.sat_base.specs.Derivation.{Step}
+use Rattle.gm_audit.specs.Inside.{within}
+use Rattle.gm_audit.proofs.NamedLemmas.{gone_over, hints-next, named-sorted}
+use Rattle.gm_audit.proofs.named.named_ids.Goals as goal
+
+-- the hints of one step more
+pub loop-at-preserved : goal.loop-at-preserved
+loop-at-preserved c =
+    let r = c.step.result in
+    let s : Step = record { id = r.id; lits = r.lits.now; hints = ids_of r.hints } in
+    c.in_ok-push_hints.ensures
+    ∙ ap (λ (ns : List ℕ). ns ++ within c.args.first c.args.last s.hints) c.loop-at.invariant
+    ∙ sym (hints-next c.args.first c.args.last c.args.proof.now.steps c.loop-at.at s c.step.ensures)
+
+-- what was gone over, in order
+pub returns : goal.returns
+returns c = ?
