@@ -1,7 +1,8 @@
 -- The ids that a derivation names, put in order, and the clauses that have them.
-use Rattle.std.proofs.Common.{◌≡◌, ℕ, zero, suc, ◌+◌, ◌-◌, ◌<◌, ◌≤◌, Bool, true, false, ◌&&◌, ◌||◌, eqb, ltb, leb, List, [], ◌∷◌, ◌++◌, length, map, take, get_or, Some, sym, refl, ◌∙◌, ap, ap₂, subst, ◌⊎◌, inl, inr, arith}
-use Rattle.std.specs.Prelude.{ℤ, All, Contains, nat_cmp, nat_lt, nat_le, slice_get}
-use Rattle.std.specs.List.{AllPairs, IsFiltered, DiffersFromLast, dedup, filter, flat_map}
+use Rattle.std.proofs.Common.{◌≡◌, ℕ, zero, suc, ◌+◌, ◌-◌, ◌<◌, ◌≤◌, Bool, true, false, ◌&&◌, ◌||◌, eqb, nat_cmp, List, [], ◌∷◌, ◌++◌, length, map, take, get_or, Some, sym, refl, ◌∙◌, ap, ap₂, subst, ◌⊎◌, inl, inr, arith}
+use Rattle.std.specs.Prelude.{ℤ, All, Contains, nat_lt, nat_le, slice_get}
+use Rattle.std.specs.List.{AllPairs, dedup, filter, flat_map}
+use Rattle.std.specs.List.Retain.{IsFiltered, DiffersFromLast}
 use Rattle.std.specs.List.Sorted.{IsPermutation, IsSorted}
 use Rattle.std.proofs.lemmas.Bool.{or_left, or_right, or_cases, and_parts, and_from, false≢true, eqb-true, eq-eqb, ne_eqb, leb-true, ltb-true, lt-ltb, le-leb, lt-leb, cases_lt, cond-true, cond-false}
 use Rattle.std.proofs.lemmas.List.{take_more, flat_map_more}
@@ -32,15 +33,15 @@ has-steps first last [] s id inside h = absurd inside
 has-steps first last (t ∷ ts) s id inside h =
     let here : List ℕ = within first last t.hints in
     let rest : List ℕ = flat_map (λ (u : Step). within first last u.hints) ts in
-    has-append here rest id ∙ by inside
+    has-append here rest id ∙ by inside (λ later. has-steps first last ts s id later h)
   where
-    by : (s ≡ t) ⊎ In s ts → (has (within first last t.hints) id || has (flat_map (λ (u : Step). within first last u.hints) ts) id) ≡ true
-    by (inl same) =
+    by : (s ≡ t) ⊎ In s ts → (In s ts → has (flat_map (λ (u : Step). within first last u.hints) ts) id ≡ true)
+        → (has (within first last t.hints) id || has (flat_map (λ (u : Step). within first last u.hints) ts) id) ≡ true
+    by (inl same) rest =
         or_left (has (within first last t.hints) id) (has (flat_map (λ (u : Step). within first last u.hints) ts) id)
         (sym (ap (λ (u : Step). has (within first last u.hints) id) same) ∙ h)
-    by (inr later) =
-        or_right (has (within first last t.hints) id) (has (flat_map (λ (u : Step). within first last u.hints) ts) id)
-        (has-steps first last ts s id later h)
+    by (inr later) rest =
+        or_right (has (within first last t.hints) id) (has (flat_map (λ (u : Step). within first last u.hints) ts) id) (rest later)
 
 -- hints one more, and those of one step more
 pub within-next : (first last : ℕ) (ids : List ℕ) (at : ℕ) → at < length ids
@@ -207,7 +208,8 @@ kept-map : (keep : ℕ → Bool) (f : ℕ → List ℤ) (low : ℕ) (cs : List (
     → filter (λ (e : ℕ × List ℤ). keep e.0) (numbered (low + 1) cs) ≡ map (λ id. (id, f id)) named
 kept-map keep f low [] [] up same high at = refl
 kept-map keep f low [] (n ∷ ns) up same high at = let top = high n (has-head n ns) in let above = up.0 in absurd (omega arith)
-kept-map keep f low (c ∷ cs) named up same high at = by named up same high
+kept-map keep f low (c ∷ cs) named up same high at =
+    by (λ ns above goes top. kept-map keep f (low + 1) cs ns above goes top later) named up same high
   where
     id : ℕ
     id = low + 1
@@ -215,32 +217,38 @@ kept-map keep f low (c ∷ cs) named up same high at = by named up same high
     rest : List (ℕ × List ℤ)
     rest = filter (λ (e : ℕ × List ℤ). keep e.0) (numbered (low + 1 + 1) cs)
 
+    Goes : List ℕ → Type 0
+    Goes ns =
+        AscendsAbove id ns → ((k : ℕ) → id < k → keep k ≡ has ns k) → ((k : ℕ) → has ns k ≡ true → k ≤ id + length cs)
+        → filter (λ (e : ℕ × List ℤ). keep e.0) (numbered (low + 1 + 1) cs) ≡ map (λ k. (k, f k)) ns
+
     here : f id ≡ c
     here = let place : id ≡ low + 1 + 0 = omega arith in ap f place ∙ at 0 (omega arith)
 
     later : (i : ℕ) → i < length cs → f (low + 1 + 1 + i) ≡ get_or cs i []
     later i lt = let place : low + 1 + 1 + i ≡ low + 1 + suc i = omega arith in ap f place ∙ at (suc i) (omega arith)
 
-    passed : (ns : List ℕ) → AscendsAbove id ns → ((k : ℕ) → low < k → keep k ≡ has ns k) → ((k : ℕ) → has ns k ≡ true → k ≤ low + length (c ∷ cs))
+    passed : (ns : List ℕ) → Goes ns → AscendsAbove id ns → ((k : ℕ) → low < k → keep k ≡ has ns k) → ((k : ℕ) → has ns k ≡ true → k ≤ low + length (c ∷ cs))
         → filter (λ (e : ℕ × List ℤ). keep e.0) (numbered (low + 1) (c ∷ cs)) ≡ map (λ k. (k, f k)) ns
-    passed ns above goes top =
+    passed ns go above goes top =
         cond-false (keep id) ((id, c) ∷ rest) rest (goes id (omega arith) ∙ not_has-bound id id ns (omega arith) above)
-        ∙ kept-map keep f id cs ns above (λ k lt. goes k (omega arith)) (λ k h. let most = top k h in omega arith) later
+        ∙ go above (λ k lt. goes k (omega arith)) (λ k h. let most = top k h in omega arith)
 
-    by : (ns : List ℕ) → AscendsAbove low ns → ((k : ℕ) → low < k → keep k ≡ has ns k) → ((k : ℕ) → has ns k ≡ true → k ≤ low + length (c ∷ cs))
+    by : ((ns : List ℕ) → Goes ns) → (ns : List ℕ) → AscendsAbove low ns → ((k : ℕ) → low < k → keep k ≡ has ns k)
+        → ((k : ℕ) → has ns k ≡ true → k ≤ low + length (c ∷ cs))
         → filter (λ (e : ℕ × List ℤ). keep e.0) (numbered (low + 1) (c ∷ cs)) ≡ map (λ k. (k, f k)) ns
-    by [] above goes top = passed [] tt goes top
-    by (n ∷ ns) above goes top =
+    by go [] above goes top = passed [] (go []) tt goes top
+    by go (n ∷ ns) above goes top =
         elim (cases_lt id n) [
-          | inl less ↦ passed (n ∷ ns) (less, above.1) goes top
+          | inl less ↦ passed (n ∷ ns) (go (n ∷ ns)) (less, above.1) goes top
           | inr le ↦
               let first = above.0 in
               let same_id : id ≡ n = omega arith in
               cond-true (keep id) ((id, c) ∷ rest) rest (goes id (omega arith) ∙ ap (has (n ∷ ns)) same_id ∙ has-head n ns)
               ∙ ap₂ (λ (e : ℕ × List ℤ) (es : List (ℕ × List ℤ)). e ∷ es) (ap₂ (λ (k : ℕ) (x : List ℤ). (k, x)) same_id (sym here ∙ ap f same_id))
-              (kept-map keep f id cs ns (subst (λ k. AscendsAbove k ns) (sym same_id) above.1)
+              (go ns (subst (λ k. AscendsAbove k ns) (sym same_id) above.1)
               (λ k lt. goes k (omega arith) ∙ ap (λ t. t || has ns k) (ne_eqb n k (λ e. omega (arith, e, lt, same_id))))
-              (λ k h. let most = top k (or_right (eqb n k) (has ns k) h) in omega arith) later)
+              (λ k h. let most = top k (or_right (eqb n k) (has ns k) h) in omega arith))
         ]
 
 pub kept-behind : (first : ℕ) (bs cs : List (List ℤ)) (named : List ℕ) → first ≡ length bs → AscendsAbove first named

@@ -130,21 +130,15 @@ fn goal_refusal(checker: &Checker, more: Option<Lit>, goal: u64) -> Option<Why>
 fn has_only(clause: &[Lit], more: Option<Lit>) -> bool
     ensures { result ≡ list_all (may_have more) clause.now }
 {
+    let Some(more) = more else {
+        return clause.is_empty();
+    };
     for lit in clause {
-        if !is_it(more, *lit) {
+        if *lit != more {
             return false;
         }
     }
     true
-}
-
-fn is_it(more: Option<Lit>, lit: Lit) -> bool
-    ensures { result ≡ may_have more lit }
-{
-    match more {
-        Some(more) => more == lit,
-        None => false,
-    }
 }
 
 // A checker of steps from the block clauses of the records, over so many variables.

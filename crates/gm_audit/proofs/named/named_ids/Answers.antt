@@ -18,4 +18,18 @@ loop-at-preserved c =
 
 -- what was gone over, in order
 pub returns : goal.returns
-returns c = ?
+returns c =
+    let first = c.args.first in
+    let last = c.args.last in
+    let d = c.args.proof.now in
+    let hints = λ (s : Step). within first last s.hints in
+    let steps = take_all c.loop-at.at d.steps (omega (arith, c.loop-at-test.false, c.len-at-end.ensures)) in
+    let numbers : c.push_within-2.new.named.items ≡ gone_over first last d =
+    c.in_ok-push_within-2.ensures
+    ∙ ap (λ (ns : List ℕ). ns ++ within first last (last ∷ []))
+    (c.in_ok-push_within.ensures
+    ∙ ap (λ (ns : List ℕ). ns ++ within first last (c.goal.result ∷ [])) (c.loop-at.invariant ∙ ap (flat_map hints) steps)
+    ∙ ap (λ (id : ℕ). flat_map hints d.steps ++ within first last (id ∷ [])) c.goal.ensures.goal)
+    ∙ append_assoc (flat_map hints d.steps) (within first last (d.goal ∷ [])) (within first last (last ∷ [])) in
+    named-sorted first last d c.push_within-2.new.named.items c.sort_unstable.new.self.items c.dedup.new.self.items numbers
+    c.sort_unstable.ensures.permutation c.sort_unstable.ensures.sorted c.dedup.ensures.filtered
