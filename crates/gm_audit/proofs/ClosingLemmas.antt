@@ -1,12 +1,13 @@
 -- The checker of a closing part: its variables, and the clauses that are given to it one after another.
-use Rattle.std.proofs.Common.{◌≡◌, ◌⊎◌, ℕ, zero, suc, ◌+◌, ◌-◌, ◌*◌, ◌^◌, ◌<◌, ◌≤◌, Bool, true, false, ◌&&◌, List, [], ◌∷◌, ◌++◌, length, map, take, drop, get_or, Option, Some, None, refl, sym, ◌∙◌, ap, ap₂, subst, inl, inr, arith, append_assoc}
-use Rattle.std.specs.Prelude.{ℤ, neg_ℤ, IsSome, nat_lt, slice_get, if◌then◌else◌}
+use Rattle.std.proofs.Common.{◌≡◌, ◌⊎◌, ℕ, zero, suc, ◌+◌, ◌-◌, ◌*◌, ◌^◌, ◌<◌, ◌≤◌, Bool, true, false, ◌&&◌, List, [], ◌∷◌, ◌++◌, length, map, take, drop, get_or, Option, Some, None, refl, sym, ◌∙◌, ap, subst, inl, inr, arith, eqb, append_assoc}
+use Rattle.std.specs.Prelude.{ℤ, neg_ℤ, IsSome, is_some, nat_lt, slice_get, if◌then◌else◌}
 use Rattle.std.specs.List.{AllByRecursion}
 use Rattle.std.specs.Option.{option_to_list}
 use Rattle.std.specs.Ordering.{int_eq}
 use Rattle.std.proofs.Math.IntN.{neg_ℤ-neg_ℤ}
-use Rattle.std.proofs.lemmas.Bool.{cases_Bool, cond-true, cond-false, lt-ltb}
+use Rattle.std.proofs.lemmas.Bool.{cases_Bool, cond-true, cond-false, lt-ltb, eq-eqb}
 use Rattle.std.proofs.lemmas.List.{drop_more, map_more}
+use Rattle.std.proofs.lemmas.List.Folds.{list_any_at}
 use Rattle.std.proofs.lemmas.Option.{get_or_from_slice_get}
 use Rattle.sat_base.specs.Members.{In}
 use Rattle.sat_base.specs.Literals.{IsLiteral, AreLiterals}
@@ -38,7 +39,7 @@ pub named-vars : (l : Level) (vars : Option ℕ) → level_vars l < 2 ^ 31
 named-vars l vars few is = is ∙ cond-true (nat_lt (level_vars l) (2 ^ 31)) (Some (level_vars l)) None (lt-ltb (level_vars l) (2 ^ 31) few)
 
 pub named-some : (l : Level) (vars : Option ℕ) → vars ≡ Some (level_vars l) → IsSome vars
-named-some l vars is = subst (λ (o : Option ℕ). IsSome o) (sym is) tt
+named-some l vars is = ap is_some is
 
 pub some-same : {X : Type 0} (x y : X) → Some x ≡ Some y → x ≡ y
 some-same x y e = cc
@@ -92,26 +93,26 @@ got-over l at clause ordered is =
     literals-from (level_vars l) clause (λ lit inside. level-over l clause lit ordered (In-got (level_counter l) at clause is) inside)
 
 -- one more is given
-pub behind-next : (first : ℕ) (clauses : List (List ℤ)) (named : List ℕ) (i id : ℕ) (clause : List ℤ) (before known : List (ℕ × List ℤ))
-    → i < length named → id ≡ get_or named i id → slice_get clauses (id - first - 1) ≡ Some clause
+pub behind-next : (first : ℕ) (clauses : List (List ℤ)) (named : List ℕ) (i : ℕ) (clause : List ℤ) (before known : List (ℕ × List ℤ))
+    → i < length named → slice_get clauses (get_or named i 0 - first - 1) ≡ Some clause
     → known ≡ before ++ map (behind first clauses) (take i named)
-    → known ++ (id, clause) ∷ [] ≡ before ++ map (behind first clauses) (take (i + 1) named)
-behind-next first clauses named i id clause before known lt here got is =
+    → known ++ (get_or named i 0, clause) ∷ [] ≡ before ++ map (behind first clauses) (take (i + 1) named)
+behind-next first clauses named i clause before known lt got is =
+    let id : ℕ = get_or named i 0 in
     ap (λ (ks : List (ℕ × List ℤ)). ks ++ (id, clause) ∷ []) is
     ∙ append_assoc before (map (behind first clauses) (take i named)) ((id, clause) ∷ [])
-    ∙ ap (λ (e : ℕ × List ℤ). before ++ (map (behind first clauses) (take i named) ++ e ∷ []))
-    (ap (λ (c : List ℤ). (id, c)) (sym (get_or_from_slice_get clauses (id - first - 1) clause [] got)) ∙ ap (behind first clauses) here)
-    ∙ ap (λ (ks : List (ℕ × List ℤ)). before ++ ks) (sym (map_more (behind first clauses) named i id lt))
+    ∙ ap (λ (c : List ℤ). before ++ (map (behind first clauses) (take i named) ++ (id, c) ∷ []))
+    (sym (get_or_from_slice_get clauses (id - first - 1) clause [] got))
+    ∙ ap (λ (ks : List (ℕ × List ℤ)). before ++ ks) (sym (map_more (behind first clauses) named i 0 lt))
 
 -- the ids that are left are above it
-pub ahead-now : (low : ℕ) (named : List ℕ) (i id : ℕ) → i < length named → id ≡ get_or named i id → AscendsAbove low (drop i named)
-    → (low < id) × AscendsAbove id (drop (i + 1) named)
-ahead-now low named i id lt here up =
-    let parts = subst (AscendsAbove low) (drop_more named i id lt) up in (
-      subst (λ n. low < n) (sym here) parts.0,
-      subst (λ n. AscendsAbove n (drop (i + 1) named)) (sym here) parts.1,
-    )
+pub ahead-now : (low : ℕ) (named : List ℕ) (i : ℕ) → i < length named → AscendsAbove low (drop i named)
+    → (low < get_or named i 0) × AscendsAbove (get_or named i 0) (drop (i + 1) named)
+ahead-now low named i lt up = subst (AscendsAbove low) (drop_more named i 0 lt) up
 
 pub ahead-next : (known : List (ℕ × List ℤ)) (id : ℕ) (clause : List ℤ) (ids : List ℕ) → AscendsAbove id ids
     → AscendsAbove (last_id (known ++ (id, clause) ∷ [])) ids
 ahead-next known id clause ids up = subst (λ n. AscendsAbove n ids) (sym (last_id-push known id clause)) up
+
+pub named-has : (named : List ℕ) (i : ℕ) → i < length named → has named (get_or named i 0) ≡ true
+named-has named i lt = let id : ℕ = get_or named i 0 in list_any_at (λ h. eqb h id) named i 0 lt (eq-eqb id id refl)
