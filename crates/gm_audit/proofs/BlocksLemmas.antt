@@ -8,6 +8,7 @@ use Rattle.std.proofs.lemmas.List.{take_all, length-map, get_or-map}
 use Rattle.std.proofs.lemmas.Option.{slice_get_within, get_or_from_slice_get}
 use Rattle.sat_base.specs.Derivation.{Derivation, numbered, clause_of, all_known, steps_follow, is_derivation, derives_within}
 use Rattle.gm_base.specs.Sets.{IsSubset, all_groups}
+use Rattle.gm_base.proofs.SetLemmas.{all_groups-has, has-all_groups}
 use Rattle.gm_base.specs.Problem.{Problem}
 use Rattle.gm_base.specs.Explored.{Found, block_clause}
 use Rattle.lrat_check.specs.declared.why.Why.{Why}
@@ -47,6 +48,11 @@ all-blocks rs at end = take_all at (blocks rs) (omega (arith, end, length-blocks
 pub within-at : (p : Problem) (rs : List Record) (at : ℕ) (r : Record) → AllAccepted p rs
     → slice_get rs at ≡ Some r → IsSubset (set_of r) (all_groups p.groups)
 within-at p rs at r all is = (accepted-at p rs at r all is).1.within
+
+-- a set of some groups is one of more
+pub subset-wider : (groups vars : ℕ) (set : List ℕ) → groups ≤ vars → IsSubset set (all_groups groups) → IsSubset set (all_groups vars)
+subset-wider groups vars set le within g inside =
+    let range = all_groups-has groups g (within g inside) in has-all_groups vars g range.0 (omega (arith, range.1, le))
 
 -- ---- a derivation in which nothing is refused
 

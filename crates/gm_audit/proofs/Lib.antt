@@ -4,5 +4,6 @@ pub mod KeptLemmas
 pub mod TextLemmas
 pub mod SomeLemmas
 pub mod NamedLemmas
+pub mod ClosingLemmas
 pub mod ReadingLemmas
 pub mod YesLemmas

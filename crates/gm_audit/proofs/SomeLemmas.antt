@@ -133,50 +133,6 @@ kept-named keep (e ∷ es) id h =
         → clause_of (e ∷ xs) id ≡ option_map (λ (x : ℕ × List ℤ). x.1) (cond t (Some e) (find (λ (x : ℕ × List ℤ). eqb x.0 id) xs))
     front xs t is = ap (λ q. option_map (λ (x : ℕ × List ℤ). x.1) (cond q (Some e) (find (λ (x : ℕ × List ℤ). eqb x.0 id) xs))) is
 
--- none is where no id from one on is kept
-none-kept : (keep : ℕ → Bool) (from : ℕ) (cs : List (List ℤ)) → ((id : ℕ) → from ≤ id → keep id ≡ false) → kept keep (numbered from cs) ≡ []
-none-kept keep from [] none = refl
-none-kept keep from (c ∷ cs) none =
-    let rest = kept keep (numbered (from + 1) cs) in
-    cond-false (keep from) ((from, c) ∷ rest) rest (none from (omega arith)) ∙ none-kept keep (from + 1) cs (λ id le. none id (omega arith))
-
--- with one id more, which is above those that were kept, its clause stands behind theirs
-pub kept-push : (k l : ℕ → Bool) (from n : ℕ) (cs : List (List ℤ)) (c : List ℤ) → from ≤ n → slice_get cs (n - from) ≡ Some c
-    → ((id : ℕ) → id < n → l id ≡ k id) → l n ≡ true → ((id : ℕ) → n < id → l id ≡ false) → ((id : ℕ) → n ≤ id → k id ≡ false)
-    → kept l (numbered from cs) ≡ kept k (numbered from cs) ++ (n, c) ∷ []
-kept-push k l from n [] c le is same has above none = absurd (none_some is)
-  where
-    none_some : None ≡ Some c → ⊥
-    none_some e = cc
-kept-push k l from n (d ∷ ds) c le is same has above none =
-    let more = kept l (numbered (from + 1) ds) in
-    let rest = kept k (numbered (from + 1) ds) in
-    elim (cases_lt from n) [
-      | inr here ↦
-          let at : from ≡ n = omega arith in
-          let place : n - from ≡ 0 = omega arith in
-          let first : d ≡ c = some_is (ap (λ (i : ℕ). slice_get (d ∷ ds) i) (sym place) ∙ is) in
-          cond-true (l from) ((from, d) ∷ more) more (ap l at ∙ has)
-          ∙ ap (λ (xs : Known). (from, d) ∷ xs) (none-kept l (from + 1) ds (λ id low. above id (omega arith)))
-          ∙ ap₂ (λ (i : ℕ) (x : List ℤ). (i, x) ∷ []) at first
-          ∙ sym (ap (λ (xs : Known). xs ++ (n, c) ∷ []) (cond-false (k from) ((from, d) ∷ rest) rest (none from (omega arith)) ∙ none-kept k (from + 1) ds (λ id low. none id (omega arith))))
-      | inl before ↦
-          let place : n - from ≡ suc (n - (from + 1)) = omega arith in
-          let behind = kept-push k l (from + 1) n ds c (omega arith) (ap (λ (i : ℕ). slice_get (d ∷ ds) i) (sym place) ∙ is) same has above none in
-          ap (λ t. cond t ((from, d) ∷ more) more) (same from before)
-          ∙ elim (cases_Bool (k from)) [
-            | inl in_it ↦
-                cond-true (k from) ((from, d) ∷ more) more in_it ∙ ap (λ (xs : Known). (from, d) ∷ xs) behind
-                ∙ sym (ap (λ (xs : Known). xs ++ (n, c) ∷ []) (cond-true (k from) ((from, d) ∷ rest) rest in_it))
-            | inr out ↦
-                cond-false (k from) ((from, d) ∷ more) more out ∙ behind
-                ∙ sym (ap (λ (xs : Known). xs ++ (n, c) ∷ []) (cond-false (k from) ((from, d) ∷ rest) rest out))
-          ]
-    ]
-  where
-    some_is : Some d ≡ Some c → d ≡ c
-    some_is e = cc
-
 -- the last id is the same where it is kept
 pub last-kept : (keep : ℕ → Bool) (cs : List (List ℤ)) → keep (length cs) ≡ true → last_id (kept keep (numbered 1 cs)) ≡ last_id (numbered 1 cs)
 last-kept keep [] h = refl

@@ -1,5 +1,5 @@
 -- What an audit keeps from record to record.
-use Rattle.std.specs.Prelude.{◌≡◌, ℕ, ◌≤◌, ◌<◌, ◌^◌, ◌&&◌, ◌||◌, Bool, true, false, List, [], ◌∷◌, ◌++◌, map, nat_le, nat_lt, ℤ, Option, Some, None}
+use Rattle.std.specs.Prelude.{◌≡◌, ℕ, ◌-◌, ◌≤◌, ◌<◌, ◌^◌, ◌&&◌, ◌||◌, Bool, true, false, List, [], ◌∷◌, ◌++◌, map, nat_le, nat_lt, ℤ, slice_index_or, Option, Some, None}
 use Rattle.std.specs.Ordering.{int_eq}
 use Rattle.sat_base.specs.Members.{In}
 use Rattle.std.specs.List.{filter}
@@ -44,6 +44,10 @@ is_kept first named clause = nat_le clause.0 first || has named clause.0
 -- of clauses with the ids from 1 on these
 abbrev pub kept_of : ℕ → List ℕ → List (List ℤ) → List (ℕ × List ℤ)
 kept_of first named clauses = filter (is_kept first named) (numbered 1 clauses)
+
+-- the id and the clause that has it, of clauses behind so many others
+abbrev pub behind : ℕ → List (List ℤ) → ℕ → ℕ × List ℤ
+behind first clauses id = (id, slice_index_or clauses (id - first - 1) [])
 
 -- the ids above the first so many and up to the last
 abbrev pub within : ℕ → ℕ → List ℕ → List ℕ

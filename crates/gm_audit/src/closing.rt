@@ -6,18 +6,20 @@
 //! Where none of a kind with few groups is to be missing, the clauses of a counter stand behind them, and the goal may also say that
 //! more than its bound count. A counter may have billions of clauses, so only those are made that a hint or the goal names,
 //! under the ids that they have among all of them. The last one is made too: ids of steps are above it.
-ghost use Rattle.std.specs.Prelude.{◌≡◌, ◌+◌, ◌<◌, ◌≤◌, ◌^◌, ◌++◌, ◌∷◌, [], List, ℕ, ℤ, IfOk, OnOk, length, map};
+ghost use Rattle.std.specs.Prelude.{◌≡◌, ◌+◌, ◌<◌, ◌≤◌, ◌^◌, ◌++◌, ◌∷◌, [], List, ℕ, ℤ, true, IfOk, OnOk, length, map};
 ghost use Rattle.std.specs.Option.{option_or};
 ghost use Rattle.std.specs.List.{AllByRecursion, list_all};
-ghost use Rattle.gm_base.specs.Sets.{IsSubset, all_groups};
+ghost use Rattle.gm_base.specs.Sets.{has, AscendsAbove, IsSubset, all_groups};
 ghost use Rattle.gm_base.specs.Explored.{block_clause, block_of};
 ghost use Rattle.sat_base.specs.Derivation.{numbered, all_known};
 ghost use Rattle.evidence_rec.specs.Records.{found_of, founds, set_of, AllAccepted};
 ghost use Rattle.evidence_rec.specs.Verdicts.{refusal_by};
 ghost use Rattle.evidence_rec.specs.Refusals.{steps_refusal, at_line};
-ghost use Rattle.size_counter.specs.Levels.{level, level_vars};
+ghost use Rattle.lrat_check.specs.Refusal.{last_id};
+ghost use Rattle.size_counter.specs.Counter.{IsOrder};
+ghost use Rattle.size_counter.specs.Levels.{level, level_counter, level_vars};
 ghost use Rattle.size_levels.specs.Shown.{is_more, level_clauses};
-ghost use Rattle.gm_audit.specs.Inside.{behind_steps, may_have, kept_of, AreNamed, IsLevelOf};
+ghost use Rattle.gm_audit.specs.Inside.{behind, behind_steps, may_have, kept_of, AreNamed, IsLevelOf};
 ghost use Rattle.gm_audit.specs.Refusals.{in_text, goal_refusal, closing_refusal, level_refusal};
 
 use crate::named::named_ids;
@@ -179,12 +181,34 @@ fn level_checker(
     let vars = level.vars().unwrap();
     let mut checker = block_checker(alloc, problem, vars, records)?;
     let first = records.len() as u64;
-    let named = named_ids(alloc, proof, first, first + level.len())?;
-    for id in named.as_slice() {
+    let last = first.checked_add(level.len()).ok_or(AllocError)?;
+    let named = named_ids(alloc, proof, first, last)?;
+    add_named(alloc, &mut checker, level, first, named.as_slice())?;
+    Ok(checker)
+}
+
+// Gives the clauses of the level's counter that have these ids, where the counter stands behind so many clauses.
+fn add_named(
+    alloc: Global,
+    checker: &mut Checker,
+    level: &Level,
+    first: u64,
+    named: &[u64],
+) -> Result<(), AllocError>
+    requires order { IsOrder level.now.groups level.now.order }
+    requires literals { level_vars level.now < 2 ^ 31 }
+    requires vars { checker.old.vars ≡ level_vars level.now }
+    requires last { last_id checker.old.known ≡ first }
+    requires ascend { AscendsAbove first named.now }
+    requires within { (id : ℕ) → has named.now id ≡ true → id ≤ first + length (level_counter level.now) }
+    ensures added { OnOk result (checker.new.known ≡ checker.old.known ++ map (behind first (level_counter level.now)) named.now) }
+    ensures vars { checker.new.vars ≡ checker.old.vars }
+{
+    for id in named {
         let clause = level.clause(alloc, *id - first - 1)?;
         checker.add_clause(*id, clause.as_slice())?;
     }
-    Ok(checker)
+    Ok(())
 }
 
 // Gives the block clause of a record.
