@@ -41,8 +41,8 @@ up_to-next most (x ∷ xs) up =
           cond-true (leb (length x) (suc most)) (x ∷ up_to (suc most) xs) (up_to (suc most) xs) (le-leb (length x) (suc most) (omega arith))
           ∙ ap (λ ys. x ∷ ys) (rest ∙ ap (λ ys. ys ++ of_size (suc most) xs) none)
           ∙ sym (ap₂ (λ (ys zs : List (List ℕ)). ys ++ zs)
-              (cond-false (leb (length x) most) (x ∷ up_to most xs) (up_to most xs) (lt-leb (length x) most (omega arith)) ∙ none)
-              (cond-true (eqb (length x) (suc most)) (x ∷ of_size (suc most) xs) (of_size (suc most) xs) (eq-eqb (length x) (suc most) is)))
+          (cond-false (leb (length x) most) (x ∷ up_to most xs) (up_to most xs) (lt-leb (length x) most (omega arith)) ∙ none)
+          (cond-true (eqb (length x) (suc most)) (x ∷ of_size (suc most) xs) (of_size (suc most) xs) (eq-eqb (length x) (suc most) is)))
       | inr other ↦
           let off : eqb (length x) (suc most) ≡ false = ne_eqb (length x) (suc most) (λ e. elim other [ inl lt ↦ absurd (omega arith) | inr gt ↦ absurd (omega arith) ]) in
           let last = cond-false (eqb (length x) (suc most)) (x ∷ of_size (suc most) xs) (of_size (suc most) xs) off in
@@ -51,12 +51,12 @@ up_to-next most (x ∷ xs) up =
                 cond-true (leb (length x) (suc most)) (x ∷ up_to (suc most) xs) (up_to (suc most) xs) (le-leb (length x) (suc most) (omega arith))
                 ∙ ap (λ ys. x ∷ ys) rest
                 ∙ sym (ap₂ (λ (ys zs : List (List ℕ)). ys ++ zs)
-                    (cond-true (leb (length x) most) (x ∷ up_to most xs) (up_to most xs) (le-leb (length x) most (omega arith))) last)
+                (cond-true (leb (length x) most) (x ∷ up_to most xs) (up_to most xs) (le-leb (length x) most (omega arith))) last)
             | inr beyond ↦
                 cond-false (leb (length x) (suc most)) (x ∷ up_to (suc most) xs) (up_to (suc most) xs) (lt-leb (length x) (suc most) beyond)
                 ∙ rest
                 ∙ sym (ap₂ (λ (ys zs : List (List ℕ)). ys ++ zs)
-                    (cond-false (leb (length x) most) (x ∷ up_to most xs) (up_to most xs) (lt-leb (length x) most (omega arith))) last)
+                (cond-false (leb (length x) most) (x ∷ up_to most xs) (up_to most xs) (lt-leb (length x) most (omega arith))) last)
           ]
     ]
 

@@ -22,12 +22,7 @@ fn letter_of(kind: Kind) -> &'static str
 }
 
 /// The lines before the sets: the number of groups, and how far the list goes.
-fn push_limit(
-    out: &mut Vec<u8>,
-    groups: u32,
-    word: &str,
-    size: usize,
-) -> Result<(), AllocError>
+fn push_limit(out: &mut Vec<u8>, groups: u32, word: &str, size: usize) -> Result<(), AllocError>
     ensures { OnOk result (out.new.items ≡ out.old.items ++ (codes "p least " ++ decimal groups ++ codes "\ns " ++ word.now ++ codes " " ++ decimal size ++ codes "\n")) }
 {
     push_text(out, "p least ")?;

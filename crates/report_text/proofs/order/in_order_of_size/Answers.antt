@@ -15,7 +15,7 @@ returns c =
     let up = IsNonDecreasingBy-from_sort_by_key (λ (x : Bor (List ℕ)). length x.now) by c.in_ok-sort_by_key.ensures.sorted (λ a r q k. search rules) in
     let stable = c.in_ok-sort_by_key.ensures.stable (λ (x : Bor (List ℕ)). length x.now) (answers_always _ _ _ (λ f a r g h. search rules)) in
     let kept : c.retain.new.self.items ≡ filter (λ (x : Bor (List ℕ)). leb (length x.now) most) by =
-        filter_same _ (λ (x : Bor (List ℕ)). leb (length x.now) most) _ (λ x b q k. search (rules, tests)) by c.retain.new.self.items c.retain.ensures.filtered in
+    filter_same _ (λ (x : Bor (List ℕ)). leb (length x.now) most) _ (λ x b q k. search (rules, tests)) by c.retain.new.self.items c.retain.ensures.filtered in
     record {
       sorted = lists_of old;
       in_order = c.in_ok-order.ensures;
