@@ -77,13 +77,7 @@ impl Namings {
         Ok(level.vars().is_some())
     }
 
-    fn level(
-        &self,
-        alloc: Global,
-        kind: Kind,
-        groups: u32,
-        most: u32,
-    ) -> Result<Level, AllocError>
+    fn level(&self, alloc: Global, kind: Kind, groups: u32, most: u32) -> Result<Level, AllocError>
         requires { AreWithin groups self.now }
         ensures { IfOk result (λ level. level ≡ level_by groups most (naming_for kind self.now)) }
     {

@@ -90,11 +90,7 @@ fn push_if_true(out: &mut Vec<u8>, witness: &Assign, at: usize) -> Result<(), Al
 }
 
 /// Appends the head of a text of this version about this problem.
-pub fn write_head(
-    version: Version,
-    problem: &Problem,
-    out: &mut Vec<u8>,
-) -> Result<(), AllocError>
+pub fn write_head(version: Version, problem: &Problem, out: &mut Vec<u8>) -> Result<(), AllocError>
     ensures { OnOk result (out.new.items ≡ out.old.items ++ head_text version problem.now) }
 {
     push_text(out, "p gmev")?;
