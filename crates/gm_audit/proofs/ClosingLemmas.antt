@@ -1,5 +1,5 @@
 -- The checker of a closing part: its variables, and the clauses that are given to it one after another.
-use Rattle.std.proofs.Common.{◌≡◌, ◌⊎◌, ℕ, zero, suc, ◌+◌, ◌-◌, ◌*◌, ◌^◌, ◌<◌, ◌≤◌, Bool, true, false, ◌&&◌, List, [], ◌∷◌, ◌++◌, length, map, take, drop, get_or, Option, Some, None, refl, sym, ◌∙◌, ap, subst, inl, inr, arith, eqb, append_assoc}
+use Rattle.std.proofs.Common.{◌≡◌, ◌⊎◌, ℕ, zero, suc, ◌+◌, ◌-◌, ◌*◌, ◌^◌, ◌<◌, ◌≤◌, Bool, true, false, ◌&&◌, List, [], ◌∷◌, ◌++◌, length, map, take, drop, get_or, Option, Some, None, refl, sym, ◌∙◌, ap, subst, inl, inr, arith, eqb, append_assoc, length-append}
 use Rattle.std.specs.Prelude.{ℤ, neg_ℤ, IsSome, is_some, nat_lt, slice_get, if◌then◌else◌}
 use Rattle.std.specs.List.{AllByRecursion}
 use Rattle.std.specs.Option.{option_to_list}
@@ -11,15 +11,21 @@ use Rattle.std.proofs.lemmas.List.Folds.{list_any_at}
 use Rattle.std.proofs.lemmas.Option.{get_or_from_slice_get}
 use Rattle.sat_base.specs.Members.{In}
 use Rattle.sat_base.specs.Literals.{IsLiteral, AreLiterals}
-use Rattle.sat_base.specs.Derivation.{numbered}
+use Rattle.sat_base.specs.Derivation.{Derivation, numbered}
 use Rattle.lrat_check.specs.Refusal.{last_id}
 use Rattle.lrat_check.proofs.KnownLemmas.{last_id-push}
 use Rattle.gm_base.specs.Sets.{has, AscendsAbove}
+use Rattle.gm_base.specs.Problem.{Problem}
+use Rattle.evidence_rec.specs.declared.record.Record.{Record}
+use Rattle.evidence_rec.specs.Records.{founds, AllAccepted}
 use Rattle.size_counter.specs.Counter.{IsOrder, at_least, counter_vars}
 use Rattle.size_counter.specs.Levels.{Level, level_counter, level_vars, level_limit}
-use Rattle.size_counter.proofs.LevelLemmas.{level-over}
-use Rattle.size_levels.specs.Shown.{is_more}
-use Rattle.gm_audit.specs.Inside.{behind, may_have}
+use Rattle.size_counter.proofs.LevelLemmas.{level-over, level-order}
+use Rattle.size_levels.specs.Shown.{is_more, level_clauses}
+use Rattle.size_levels.proofs.LevelLemmas.{accepted-within}
+use Rattle.gm_audit.specs.Inside.{behind, kept_of, AreNamed, IsLevelOf}
+use Rattle.gm_audit.proofs.BlocksLemmas.{blocks, length-blocks}
+use Rattle.gm_audit.proofs.NamedLemmas.{kept-behind}
 
 -- ---- the variables of a level
 
@@ -116,3 +122,27 @@ ahead-next known id clause ids up = subst (λ n. AscendsAbove n ids) (sym (last_
 
 pub named-has : (named : List ℕ) (i : ℕ) → i < length named → has named (get_or named i 0) ≡ true
 named-has named i lt = let id : ℕ = get_or named i 0 in list_any_at (λ h. eqb h id) named i 0 lt (eq-eqb id id refl)
+
+-- the order of a level is one of the problem's groups
+pub level-ordered : (p : Problem) (records : List Record) (l : Level) → AllAccepted p records → IsLevelOf p (founds records) l → IsOrder l.groups l.order
+level-ordered p records l accepted of =
+    subst (λ (x : Level). IsOrder x.groups x.order) (sym of.level_is)
+    (level-order of.kind p.groups of.most (founds records) (accepted-within p records accepted))
+
+-- all that were given are those of the level's clauses that are kept
+pub kept-given : (records : List Record) (l : Level) (d : Derivation) (first last : ℕ) (named : List ℕ) (given known : List (ℕ × List ℤ))
+    → first ≡ length records → last ≡ first + length (level_counter l) → AreNamed first last d named → given ≡ numbered 1 (blocks records)
+    → known ≡ given ++ map (behind first (level_counter l)) named
+    → (ids : List ℕ) × AreNamed (length records) (length (level_clauses l (founds records))) d ids
+    × (known ≡ kept_of (length records) ids (level_clauses l (founds records)))
+kept-given records l d first last named given known is end names start added = (
+  named,
+  subst (λ (n : ℕ). AreNamed n (length (level_clauses l (founds records))) d named) is (subst (λ (n : ℕ). AreNamed first n d named) all names),
+  added ∙ ap (λ (ks : List (ℕ × List ℤ)). ks ++ map (behind first (level_counter l)) named) start
+  ∙ sym (kept-behind first (blocks records) (level_counter l) named (is ∙ sym (length-blocks records)) names.ascend
+  (λ id h. subst (λ (n : ℕ). id ≤ n) end (names.up_to id h)))
+  ∙ ap (λ (n : ℕ). kept_of n named (level_clauses l (founds records))) is,
+)
+  where
+    all : last ≡ length (level_clauses l (founds records))
+    all = omega (arith, end, is, length-append (blocks records) (level_counter l), length-blocks records)
