@@ -1,7 +1,7 @@
 -- The checker of a closing part: its variables, and the clauses that are given to it one after another.
 use Rattle.std.proofs.Common.{◌≡◌, ◌⊎◌, ℕ, zero, suc, ◌+◌, ◌-◌, ◌*◌, ◌^◌, ◌<◌, ◌≤◌, Bool, true, false, ◌&&◌, List, [], ◌∷◌, ◌++◌, length, map, take, drop, get_or, Option, Some, None, refl, sym, ◌∙◌, ap, subst, inl, inr, arith, eqb, append_assoc, length-append}
-use Rattle.std.specs.Prelude.{ℤ, neg_ℤ, IsSome, is_some, nat_lt, slice_get, if◌then◌else◌}
-use Rattle.std.specs.List.{AllByRecursion}
+use Rattle.std.specs.Prelude.{ℤ, ◌==◌, neg_ℤ, IsSome, is_some, nat_lt, slice_get, if◌then◌else◌}
+use Rattle.std.specs.List.{list_all}
 use Rattle.std.specs.Option.{option_to_list}
 use Rattle.std.specs.Ordering.{int_eq}
 use Rattle.std.proofs.Math.IntN.{neg_ℤ-neg_ℤ}
@@ -23,7 +23,7 @@ use Rattle.size_counter.specs.Levels.{Level, level_counter, level_vars, level_li
 use Rattle.size_counter.proofs.LevelLemmas.{level-over, level-order}
 use Rattle.size_levels.specs.Shown.{is_more, level_clauses}
 use Rattle.size_levels.proofs.LevelLemmas.{accepted-within}
-use Rattle.gm_audit.specs.Inside.{behind, kept_of, AreNamed, IsLevelOf}
+use Rattle.gm_audit.specs.Inside.{behind, may_have, kept_of, AreNamed, IsLevelOf}
 use Rattle.gm_audit.proofs.BlocksLemmas.{blocks, length-blocks}
 use Rattle.gm_audit.proofs.NamedLemmas.{kept-behind}
 
@@ -80,6 +80,11 @@ more-some l limit x is some lit =
 pub more-none : (l : Level) (limit : Option ℤ) → option_to_list limit ≡ level_limit l → limit ≡ None → (lit : ℤ) → false ≡ is_more l lit
 more-none l limit is none lit =
     (more-by (nat_lt l.bound (length l.order)) (at_least l.groups l.bound (length l.order) (l.bound + 1)) limit is lit).1 none
+
+-- without it only the empty clause may be named
+pub only-none : (clause : List ℤ) → (length clause == 0) ≡ list_all (may_have None) clause
+only-none [] = refl
+only-none (l ∷ ls) = refl
 
 -- ---- the clauses of the counter
 
