@@ -23,7 +23,7 @@ use Rattle.size_counter.specs.Levels.{Level, level_counter, level_vars, level_li
 use Rattle.size_counter.proofs.LevelLemmas.{level-over, level-order}
 use Rattle.size_levels.specs.Shown.{is_more, level_clauses}
 use Rattle.size_levels.proofs.LevelLemmas.{accepted-within}
-use Rattle.gm_audit.specs.Inside.{behind, may_have, kept_of, AreNamed, IsLevelOf}
+use Rattle.gm_audit.specs.Inside.{clause_behind, may_have, kept_of, AreNamed, AreGiven, IsLevelOf}
 use Rattle.gm_audit.proofs.BlocksLemmas.{blocks, length-blocks}
 use Rattle.gm_audit.proofs.NamedLemmas.{kept-behind}
 
@@ -106,15 +106,15 @@ got-over l at clause ordered is =
 -- one more is given
 pub behind-next : (first : ℕ) (clauses : List (List ℤ)) (named : List ℕ) (i : ℕ) (clause : List ℤ) (before known : List (ℕ × List ℤ))
     → i < length named → slice_get clauses (get_or named i 0 - first - 1) ≡ Some clause
-    → known ≡ before ++ map (behind first clauses) (take i named)
-    → known ++ (get_or named i 0, clause) ∷ [] ≡ before ++ map (behind first clauses) (take (i + 1) named)
+    → known ≡ before ++ map (clause_behind first clauses) (take i named)
+    → known ++ (get_or named i 0, clause) ∷ [] ≡ before ++ map (clause_behind first clauses) (take (i + 1) named)
 behind-next first clauses named i clause before known lt got is =
     let id : ℕ = get_or named i 0 in
     ap (λ (ks : List (ℕ × List ℤ)). ks ++ (id, clause) ∷ []) is
-    ∙ append_assoc before (map (behind first clauses) (take i named)) ((id, clause) ∷ [])
-    ∙ ap (λ (c : List ℤ). before ++ (map (behind first clauses) (take i named) ++ (id, c) ∷ []))
+    ∙ append_assoc before (map (clause_behind first clauses) (take i named)) ((id, clause) ∷ [])
+    ∙ ap (λ (c : List ℤ). before ++ (map (clause_behind first clauses) (take i named) ++ (id, c) ∷ []))
     (sym (get_or_from_slice_get clauses (id - first - 1) clause [] got))
-    ∙ ap (λ (ks : List (ℕ × List ℤ)). before ++ ks) (sym (map_more (behind first clauses) named i 0 lt))
+    ∙ ap (λ (ks : List (ℕ × List ℤ)). before ++ ks) (sym (map_more (clause_behind first clauses) named i 0 lt))
 
 -- the ids that are left are above it
 pub ahead-now : (low : ℕ) (named : List ℕ) (i : ℕ) → i < length named → AscendsAbove low (drop i named)
@@ -137,16 +137,15 @@ level-ordered p records l accepted of =
 -- all that were given are those of the level's clauses that are kept
 pub kept-given : (records : List Record) (l : Level) (d : Derivation) (first last : ℕ) (named : List ℕ) (given known : List (ℕ × List ℤ))
     → first ≡ length records → last ≡ first + length (level_counter l) → AreNamed first last d named → given ≡ numbered 1 (blocks records)
-    → known ≡ given ++ map (behind first (level_counter l)) named
-    → (ids : List ℕ) × AreNamed (length records) (length (level_clauses l (founds records))) d ids
-    × (known ≡ kept_of (length records) ids (level_clauses l (founds records)))
+    → known ≡ given ++ map (clause_behind first (level_counter l)) named
+    → AreGiven (length records) (level_clauses l (founds records)) d known
 kept-given records l d first last named given known is end names start added = (
   named,
   subst (λ (n : ℕ). AreNamed n (length (level_clauses l (founds records))) d named) is (subst (λ (n : ℕ). AreNamed first n d named) all names),
-  added ∙ ap (λ (ks : List (ℕ × List ℤ)). ks ++ map (behind first (level_counter l)) named) start
-  ∙ sym (kept-behind first (blocks records) (level_counter l) named (is ∙ sym (length-blocks records)) names.ascend
-  (λ id h. subst (λ (n : ℕ). id ≤ n) end (names.up_to id h)))
-  ∙ ap (λ (n : ℕ). kept_of n named (level_clauses l (founds records))) is,
+  added ∙ ap (λ (ks : List (ℕ × List ℤ)). ks ++ map (clause_behind first (level_counter l)) named) start
+      ∙ sym (kept-behind first (blocks records) (level_counter l) named (is ∙ sym (length-blocks records)) names.ascend
+      (λ id h. subst (λ (n : ℕ). id ≤ n) end (names.up_to id h)))
+      ∙ ap (λ (n : ℕ). kept_of n named (level_clauses l (founds records))) is,
 )
   where
     all : last ≡ length (level_clauses l (founds records))

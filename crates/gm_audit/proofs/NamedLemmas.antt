@@ -17,57 +17,57 @@ use Rattle.sat_base.specs.Members.{In}
 use Rattle.sat_base.specs.Derivation.{Step, Derivation, numbered}
 use Rattle.gm_base.specs.Sets.{has, AscendsAbove}
 use Rattle.gm_base.proofs.SetLemmas.{has-filter, not_has-bound, has-head}
-use Rattle.gm_audit.specs.Inside.{behind, within, is_kept, kept_of, AreNamed}
+use Rattle.gm_audit.specs.Inside.{clause_behind, ids_within, is_given, kept_of, AreNamed}
 
 -- what is gone over: hints, the goal, and the last id
 abbrev pub gone_over : ℕ → ℕ → Derivation → List ℕ
 gone_over first last d =
-    flat_map (λ (s : Step). within first last s.hints) d.steps ++ (within first last (d.goal ∷ []) ++ within first last (last ∷ []))
+    flat_map (λ (s : Step). ids_within first last s.hints) d.steps ++ (ids_within first last (d.goal ∷ []) ++ ids_within first last (last ∷ []))
 
 has-append : (xs ys : List ℕ) (id : ℕ) → has (xs ++ ys) id ≡ (has xs id || has ys id)
 has-append xs ys id = list_any-append (λ k. eqb k id) xs ys
 
-has-steps : (first last : ℕ) (steps : List Step) (s : Step) (id : ℕ) → In s steps → has (within first last s.hints) id ≡ true
-    → has (flat_map (λ (t : Step). within first last t.hints) steps) id ≡ true
+has-steps : (first last : ℕ) (steps : List Step) (s : Step) (id : ℕ) → In s steps → has (ids_within first last s.hints) id ≡ true
+    → has (flat_map (λ (t : Step). ids_within first last t.hints) steps) id ≡ true
 has-steps first last [] s id inside h = absurd inside
 has-steps first last (t ∷ ts) s id inside h =
-    let here : List ℕ = within first last t.hints in
-    let rest : List ℕ = flat_map (λ (u : Step). within first last u.hints) ts in
+    let here : List ℕ = ids_within first last t.hints in
+    let rest : List ℕ = flat_map (λ (u : Step). ids_within first last u.hints) ts in
     has-append here rest id ∙ by inside (λ later. has-steps first last ts s id later h)
   where
-    by : (s ≡ t) ⊎ In s ts → (In s ts → has (flat_map (λ (u : Step). within first last u.hints) ts) id ≡ true)
-        → (has (within first last t.hints) id || has (flat_map (λ (u : Step). within first last u.hints) ts) id) ≡ true
+    by : (s ≡ t) ⊎ In s ts → (In s ts → has (flat_map (λ (u : Step). ids_within first last u.hints) ts) id ≡ true)
+        → (has (ids_within first last t.hints) id || has (flat_map (λ (u : Step). ids_within first last u.hints) ts) id) ≡ true
     by (inl same) rest =
-        or_left (has (within first last t.hints) id) (has (flat_map (λ (u : Step). within first last u.hints) ts) id)
-        (sym (ap (λ (u : Step). has (within first last u.hints) id) same) ∙ h)
+        or_left (has (ids_within first last t.hints) id) (has (flat_map (λ (u : Step). ids_within first last u.hints) ts) id)
+        (sym (ap (λ (u : Step). has (ids_within first last u.hints) id) same) ∙ h)
     by (inr later) rest =
-        or_right (has (within first last t.hints) id) (has (flat_map (λ (u : Step). within first last u.hints) ts) id) (rest later)
+        or_right (has (ids_within first last t.hints) id) (has (flat_map (λ (u : Step). ids_within first last u.hints) ts) id) (rest later)
 
 -- hints one more, and those of one step more
 pub within-next : (first last : ℕ) (ids : List ℕ) (at : ℕ) → at < length ids
-    → within first last (take (at + 1) ids) ≡ within first last (take at ids) ++ within first last (get_or ids at 0 ∷ [])
+    → ids_within first last (take (at + 1) ids) ≡ ids_within first last (take at ids) ++ ids_within first last (get_or ids at 0 ∷ [])
 within-next first last ids at lt =
-    ap (within first last) (take_more ids at 0 lt) ∙ filter-append (λ id. nat_lt first id && nat_le id last) (take at ids) (get_or ids at 0 ∷ [])
+    ap (ids_within first last) (take_more ids at 0 lt) ∙ filter-append (λ id. nat_lt first id && nat_le id last) (take at ids) (get_or ids at 0 ∷ [])
 
 pub hints-next : (first last : ℕ) (steps : List Step) (at : ℕ) (s : Step) → slice_get steps at ≡ Some s
-    → flat_map (λ (t : Step). within first last t.hints) (take (at + 1) steps)
-    ≡ flat_map (λ (t : Step). within first last t.hints) (take at steps) ++ within first last s.hints
+    → flat_map (λ (t : Step). ids_within first last t.hints) (take (at + 1) steps)
+    ≡ flat_map (λ (t : Step). ids_within first last t.hints) (take at steps) ++ ids_within first last s.hints
 hints-next first last steps at s is =
-    ap (flat_map (λ (t : Step). within first last t.hints))
+    ap (flat_map (λ (t : Step). ids_within first last t.hints))
     (take_more steps at s (slice_get_within steps at s is) ∙ ap (λ (t : Step). take at steps ++ t ∷ []) (get_or_from_slice_get steps at s s is))
-    ∙ sym (flat_map_more (λ (t : Step). within first last t.hints) [] (take at steps) s)
+    ∙ sym (flat_map_more (λ (t : Step). ids_within first last t.hints) [] (take at steps) s)
 
 -- all of them are in the range
-within-range : (first last : ℕ) (ids : List ℕ) (id : ℕ) → has (within first last ids) id ≡ true → (nat_lt first id && nat_le id last) ≡ true
+within-range : (first last : ℕ) (ids : List ℕ) (id : ℕ) → has (ids_within first last ids) id ≡ true → (nat_lt first id && nat_le id last) ≡ true
 within-range first last ids id h =
     (and_parts (nat_lt first id && nat_le id last) (has ids id) (sym (has-filter (λ i. nat_lt first i && nat_le i last) ids id) ∙ h)).0
 
-hints-range : (first last : ℕ) (steps : List Step) (id : ℕ) → has (flat_map (λ (s : Step). within first last s.hints) steps) id ≡ true
+hints-range : (first last : ℕ) (steps : List Step) (id : ℕ) → has (flat_map (λ (s : Step). ids_within first last s.hints) steps) id ≡ true
     → (nat_lt first id && nat_le id last) ≡ true
 hints-range first last [] id h = absurd (false≢true h)
 hints-range first last (s ∷ ss) id h =
-    let rest : List ℕ = flat_map (λ (t : Step). within first last t.hints) ss in
-    elim (or_cases (has (within first last s.hints) id) (has rest id) (sym (has-append (within first last s.hints) rest id) ∙ h)) [
+    let rest : List ℕ = flat_map (λ (t : Step). ids_within first last t.hints) ss in
+    elim (or_cases (has (ids_within first last s.hints) id) (has rest id) (sym (has-append (ids_within first last s.hints) rest id) ∙ h)) [
       | inl here ↦ within-range first last s.hints id here
       | inr later ↦ hints-range first last ss id later
     ]
@@ -79,13 +79,13 @@ gone-range first last d id h =
     (ltb-true first id parts.0, leb-true id last parts.1)
   where
     steps : List ℕ
-    steps = flat_map (λ (s : Step). within first last s.hints) d.steps
+    steps = flat_map (λ (s : Step). ids_within first last s.hints) d.steps
 
     goal : List ℕ
-    goal = within first last (d.goal ∷ [])
+    goal = ids_within first last (d.goal ∷ [])
 
     end : List ℕ
-    end = within first last (last ∷ [])
+    end = ids_within first last (last ∷ [])
 
     by_end : (has goal id ≡ true) ⊎ (has end id ≡ true) → (nat_lt first id && nat_le id last) ≡ true
     by_end (inl here) = within-range first last (d.goal ∷ []) id here
@@ -137,11 +137,11 @@ has-sorted numbers sorted id moved =
 -- numbers that ascend and are those that were gone over
 pub named-from : (first last : ℕ) (d : Derivation) (named : List ℕ) → AscendsAbove first named
     → ((id : ℕ) → has named id ≡ has (gone_over first last d) id) → ((id : ℕ) → has (gone_over first last d) id ≡ true → id ≤ last)
-    → (first < last → has (within first last (last ∷ [])) last ≡ true) → AreNamed first last d named
+    → (first < last → has (ids_within first last (last ∷ [])) last ≡ true) → AreNamed first last d named
 named-from first last d named up same high at_last =
-    let steps : List ℕ = flat_map (λ (s : Step). within first last s.hints) d.steps in
-    let goal : List ℕ = within first last (d.goal ∷ []) in
-    let end : List ℕ = within first last (last ∷ []) in
+    let steps : List ℕ = flat_map (λ (s : Step). ids_within first last s.hints) d.steps in
+    let goal : List ℕ = ids_within first last (d.goal ∷ []) in
+    let end : List ℕ = ids_within first last (last ∷ []) in
     record {
       ascend = up;
       hints = λ s id inside h.
@@ -177,7 +177,7 @@ named-sorted first last d numbers sorted ids is moved up filtered = named-from f
     high : (id : ℕ) → has (gone_over first last d) id ≡ true → id ≤ last
     high id h = (gone-range first last d id h).1
 
-    at_last : first < last → has (within first last (last ∷ [])) last ≡ true
+    at_last : first < last → has (ids_within first last (last ∷ [])) last ≡ true
     at_last more =
         has-filter (λ i. nat_lt first i && nat_le i last) (last ∷ []) last
         ∙ and_from (nat_lt first last && nat_le last last) (has (last ∷ []) last)
@@ -253,10 +253,10 @@ kept-map keep f low (c ∷ cs) named up same high at =
 
 pub kept-behind : (first : ℕ) (bs cs : List (List ℤ)) (named : List ℕ) → first ≡ length bs → AscendsAbove first named
     → ((id : ℕ) → has named id ≡ true → id ≤ first + length cs)
-    → kept_of first named (bs ++ cs) ≡ numbered 1 bs ++ map (behind first cs) named
+    → kept_of first named (bs ++ cs) ≡ numbered 1 bs ++ map (clause_behind first cs) named
 kept-behind first bs cs named is up high =
-    ap (filter (is_kept first named)) (numbered-append 1 bs cs)
-    ∙ filter-append (is_kept first named) (numbered 1 bs) (numbered (1 + length bs) cs)
+    ap (filter (is_given first named)) (numbered-append 1 bs cs)
+    ∙ filter-append (is_given first named) (numbered 1 bs) (numbered (1 + length bs) cs)
     ∙ ap₂ (λ (xs ys : List (ℕ × List ℤ)). xs ++ ys)
     (kept-front keep 1 bs (λ id lt. or_left (nat_le id first) (has named id) (le-leb id first (omega (arith, is, lt)))))
     (ap (λ (n : ℕ). filter (λ (e : ℕ × List ℤ). keep e.0) (numbered n cs)) from

@@ -266,7 +266,7 @@ pub ended : (p : Problem) (text : List ℕ) (old : Reader) (records : List Recor
 ended p text old records ending got h e is lines = by h.most h.enough h.refusal
   where
     end-at : (got : Piece) (more : Record → Below → Contents) → answer.End ending ≡ piece_answer got
-        → contents_by old.left.at got more ≡ record { records = []; ending = Ok (old.left.at, closing) }
+        → contents_by old.left.at got more ≡ record { records = []; ending = Ok (old.left.at, ending) }
     end-at (Err o) more is = cc
     end-at (Ok (answer.Record q, b)) more is = cc
     end-at (Ok (answer.Offence o, b)) more is = cc

@@ -15,8 +15,8 @@ use Rattle.lrat_check.specs.declared.why.Why.TheVariants.{UnknownHint, NotUnit, 
 use Rattle.lrat_check.specs.Refusal.{last_id, hints_refusal, clause_refusal, step_refusal}
 use Rattle.lrat_check.proofs.KnownLemmas.{last_id-push, numbered_next}
 use Rattle.evidence_rec.specs.Refusals.{at_line, steps_refusal}
-use Rattle.gm_audit.specs.Inside.{kept_of, within, AreNamed, behind_steps}
-use Rattle.gm_audit.specs.Refusals.{goal_refusal, derivation_refusal}
+use Rattle.gm_audit.specs.Inside.{kept_of, ids_within, AreNamed, behind_steps}
+use Rattle.gm_audit.specs.Refusals.{goal_within_refusal, derivation_refusal}
 
 abbrev pub Known : Type 0
 Known = List (ℕ × List ℤ)
@@ -198,11 +198,11 @@ goal-same p q (Some c) same = ap (λ t. cond t None (Some NotRefuting)) (list_al
 pub derivation-alike : (keep : ℕ → Bool) (vars : ℕ) (some : Known) (clauses : List (List ℤ)) (p q : ℤ → Bool) (d : Derivation)
     → AreAlike keep some (numbered 1 clauses) → AllByRecursion (λ (s : Step). AllByRecursion (λ h. keep h ≡ true) s.hints) d.steps → keep d.goal ≡ true
     → ((x : ℤ) → p x ≡ q x)
-    → option_or (steps_refusal vars some 0 d.steps) (at_line (length d.steps) (goal_refusal (behind_steps some d.steps) p d.goal))
+    → option_or (steps_refusal vars some 0 d.steps) (at_line (length d.steps) (goal_within_refusal (behind_steps some d.steps) p d.goal))
     ≡ derivation_refusal vars clauses q d
 derivation-alike keep vars some clauses p q d same hints goal pointwise =
     let all = alike-steps keep some (numbered 1 clauses) d.steps same in
-    ap (λ (w : Option (ℕ × Why)). option_or w (at_line (length d.steps) (goal_refusal (behind_steps some d.steps) p d.goal)))
+    ap (λ (w : Option (ℕ × Why)). option_or w (at_line (length d.steps) (goal_within_refusal (behind_steps some d.steps) p d.goal)))
     (steps-alike keep vars some (numbered 1 clauses) 0 d.steps same hints)
     ∙ ap (λ (w : Option Why). option_or (steps_refusal vars (numbered 1 clauses) 0 d.steps) (at_line (length d.steps) w))
     (ap (λ (o : Option (List ℤ)). option_map_or (λ c. if list_all p c then None else Some NotRefuting) o (Some UnknownClause)) (all.clauses d.goal goal)
@@ -247,7 +247,7 @@ named-alike first cs d named h = record { clauses = same; last = last-kept keep 
 
 -- an id in the range is kept where it is named
 pub within-kept : (first last : ℕ) (named ids : List ℕ) (id : ℕ) → has ids id ≡ true
-    → (has (within first last ids) id ≡ true → has named id ≡ true) → keeps first last named id ≡ true
+    → (has (ids_within first last ids) id ≡ true → has named id ≡ true) → keeps first last named id ≡ true
 within-kept first last named ids id there names =
     elim (cases_lt first id) [
       | inr low ↦
@@ -263,7 +263,7 @@ within-kept first last named ids id there names =
     ]
 
 hints-kept : (first last : ℕ) (named all hints : List ℕ) → ((id : ℕ) → has hints id ≡ true → has all id ≡ true)
-    → ((id : ℕ) → has (within first last all) id ≡ true → has named id ≡ true) → AllByRecursion (λ h. keeps first last named h ≡ true) hints
+    → ((id : ℕ) → has (ids_within first last all) id ≡ true → has named id ≡ true) → AllByRecursion (λ h. keeps first last named h ≡ true) hints
 hints-kept first last named all [] part names = tt
 hints-kept first last named all (x ∷ xs) part names = (
   within-kept first last named all x (part x (has-head x xs)) (names x),
@@ -271,7 +271,7 @@ hints-kept first last named all (x ∷ xs) part names = (
 )
 
 pub steps-kept : (first last : ℕ) (named : List ℕ) (steps : List Step)
-    → ((s : Step) (id : ℕ) → In s steps → has (within first last s.hints) id ≡ true → has named id ≡ true)
+    → ((s : Step) (id : ℕ) → In s steps → has (ids_within first last s.hints) id ≡ true → has named id ≡ true)
     → AllByRecursion (λ (s : Step). AllByRecursion (λ h. keeps first last named h ≡ true) s.hints) steps
 steps-kept first last named [] names = tt
 steps-kept first last named (s ∷ ss) names = (
@@ -282,7 +282,7 @@ steps-kept first last named (s ∷ ss) names = (
 -- so what is told over the clauses that a derivation names is told over all of them
 pub named-derivation : (first vars : ℕ) (some : Known) (clauses : List (List ℤ)) (p q : ℤ → Bool) (d : Derivation) (named : List ℕ)
     → AreNamed first (length clauses) d named → some ≡ kept_of first named clauses → ((x : ℤ) → p x ≡ q x)
-    → option_or (steps_refusal vars some 0 d.steps) (at_line (length d.steps) (goal_refusal (behind_steps some d.steps) p d.goal))
+    → option_or (steps_refusal vars some 0 d.steps) (at_line (length d.steps) (goal_within_refusal (behind_steps some d.steps) p d.goal))
     ≡ derivation_refusal vars clauses q d
 named-derivation first vars some clauses p q d named h is pointwise =
     let last = length clauses in
