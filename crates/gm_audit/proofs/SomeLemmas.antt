@@ -71,7 +71,7 @@ clause_of-push : (known : Known) (at : ℕ) (c : List ℤ) (id : ℕ)
 clause_of-push [] at c id = refl
 clause_of-push (e ∷ es) at c id =
     elim (cases_Bool (eqb e.0 id)) [
-      | inl here ↦ branch true here
+      | inl here ↦ branch true here ∙ sym (found true here)
       | inr other ↦ branch false other ∙ clause_of-push es at c id ∙ sym (found false other)
     ]
   where
@@ -140,15 +140,15 @@ last-kept keep (c ∷ ds) h =
     let cs = c ∷ ds in
     let i = length ds in
     let before = numbered 1 (take i cs) in
-    let last : ℕ × List ℤ = (1 + i, get_or cs i []) in
+    let last : ℕ × List ℤ = (i + 1, get_or cs i []) in
     let whole : numbered 1 cs ≡ before ++ last ∷ [] =
     ap (numbered 1) (sym (take_all (i + 1) cs (omega arith))) ∙ numbered_next i 1 cs [] (omega arith) in
-    let id : 1 + i ≡ length cs = omega arith in
-    let one : kept keep (last ∷ []) ≡ last ∷ [] = cond-true (keep (1 + i)) (last ∷ []) [] (ap keep id ∙ h) in
+    let id : i + 1 ≡ length cs = omega arith in
+    let one : kept keep (last ∷ []) ≡ last ∷ [] = cond-true (keep (i + 1)) (last ∷ []) [] (ap keep id ∙ h) in
     ap (λ (ks : Known). last_id (kept keep ks)) whole
     ∙ ap last_id (filter-append (λ (e : ℕ × List ℤ). keep e.0) before (last ∷ []) ∙ ap (λ (ks : Known). kept keep before ++ ks) one)
-    ∙ last_id-push (kept keep before) (1 + i) (get_or cs i [])
-    ∙ sym (ap last_id whole ∙ last_id-push before (1 + i) (get_or cs i []))
+    ∙ last_id-push (kept keep before) (i + 1) (get_or cs i [])
+    ∙ sym (ap last_id whole ∙ last_id-push before (i + 1) (get_or cs i []))
 
 -- where there is no clause with an id, none is kept
 kept-none : (keep : ℕ → Bool) (known : Known) (id : ℕ) → clause_of known id ≡ None → clause_of (kept keep known) id ≡ None
