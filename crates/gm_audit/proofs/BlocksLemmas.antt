@@ -56,6 +56,7 @@ subset-wider groups vars set le within g inside =
 
 -- ---- a derivation in which nothing is refused
 
+-- a goal that is not refused names a clause of such literals
 goal-within : (o : Option (List ℤ)) (allowed : ℤ → Bool)
     → option_map_or (λ (c : List ℤ). if list_all allowed c then None else Some NotRefuting) o (Some UnknownClause) ≡ None
     → option_map_or (λ (c : List ℤ). list_all allowed c) o false ≡ true
@@ -69,6 +70,7 @@ goal-within (Some c) allowed h = by (list_all allowed c) h
     by true h = refl
     by false h = cc
 
+-- and one that does is not refused
 within-goal : (o : Option (List ℤ)) (allowed : ℤ → Bool) → option_map_or (λ (c : List ℤ). list_all allowed c) o false ≡ true
     → option_map_or (λ (c : List ℤ). if list_all allowed c then None else Some NotRefuting) o (Some UnknownClause) ≡ None
 within-goal None allowed h = absurd (false≢true h)

@@ -44,23 +44,29 @@ pub named-vars : (l : Level) (vars : Option ℕ) → level_vars l < 2 ^ 31
     → vars ≡ (if nat_lt (level_vars l) (2 ^ 31) then Some (level_vars l) else None) → vars ≡ Some (level_vars l)
 named-vars l vars few is = is ∙ cond-true (nat_lt (level_vars l) (2 ^ 31)) (Some (level_vars l)) None (lt-ltb (level_vars l) (2 ^ 31) few)
 
+-- so there is a number
 pub named-some : (l : Level) (vars : Option ℕ) → vars ≡ Some (level_vars l) → IsSome vars
 named-some l vars is = ap is_some is
 
+-- two values in the same answer are one
 pub some-same : {X : Type 0} (x y : X) → Some x ≡ Some y → x ≡ y
 some-same x y e = cc
 
 -- ---- "more than the bound count"
 
+-- so are those of two lists of one
 list-same : (x y : ℤ) → x ∷ [] ≡ y ∷ [] → x ≡ y
 list-same x y e = cc
 
+-- an empty list is not one with a literal
 none-some : (y : ℤ) → [] ≡ y ∷ [] → ⊥
 none-some y e = cc
 
+-- nor the other way round
 some-none : (x : ℤ) → x ∷ [] ≡ [] → ⊥
 some-none x e = cc
 
+-- told by whether more groups are there than may count
 more-by : (counts : Bool) (more : ℤ) (limit : Option ℤ) → option_to_list limit ≡ (if counts then neg_ℤ more ∷ [] else []) → (lit : ℤ)
     → ((x : ℤ) → limit ≡ Some x → int_eq (neg_ℤ x) lit ≡ (counts && int_eq more lit)) × (limit ≡ None → false ≡ (counts && int_eq more lit))
 more-by true more None is lit = absurd (none-some (neg_ℤ more) is)
@@ -77,6 +83,7 @@ pub more-some : (l : Level) (limit : Option ℤ) (x : ℤ) → option_to_list li
 more-some l limit x is some lit =
     (more-by (nat_lt l.bound (length l.order)) (at_least l.groups l.bound (length l.order) (l.bound + 1)) limit is lit).0 x some
 
+-- without a limit no literal says it
 pub more-none : (l : Level) (limit : Option ℤ) → option_to_list limit ≡ level_limit l → limit ≡ None → (lit : ℤ) → false ≡ is_more l lit
 more-none l limit is none lit =
     (more-by (nat_lt l.bound (length l.order)) (at_least l.groups l.bound (length l.order) (l.bound + 1)) limit is lit).1 none
@@ -88,11 +95,13 @@ only-none (l ∷ ls) = ne_eqb (length (l ∷ ls)) 0 (λ e. omega (arith, e))
 
 -- ---- the clauses of the counter
 
+-- what stands at a place is in the list
 In-got : {X : Type 0} (xs : List X) (at : ℕ) (x : X) → slice_get xs at ≡ Some x → In x xs
 In-got [] at x is = absurd (let clash : None ≡ Some x = is in cc)
 In-got (y ∷ ys) zero x is = inl (sym (some-same y x is))
 In-got (y ∷ ys) (suc at) x is = inr (In-got ys at x is)
 
+-- each literal is over the variables
 literals-from : (vars : ℕ) (lits : List ℤ) → ((l : ℤ) → In l lits → IsLiteral vars l) → AreLiterals vars lits
 literals-from vars [] each = tt
 literals-from vars (l ∷ ls) each = (each l (inl refl), literals-from vars ls (λ m i. each m (inr i)))
@@ -121,10 +130,12 @@ pub ahead-now : (low : ℕ) (named : List ℕ) (i : ℕ) → i < length named �
     → (low < get_or named i 0) × AscendsAbove (get_or named i 0) (drop (i + 1) named)
 ahead-now low named i lt up = subst (AscendsAbove low) (drop_more named i 0 lt) up
 
+-- they are above the last id then
 pub ahead-next : (known : List (ℕ × List ℤ)) (id : ℕ) (clause : List ℤ) (ids : List ℕ) → AscendsAbove id ids
     → AscendsAbove (last_id (known ++ (id, clause) ∷ [])) ids
 ahead-next known id clause ids up = subst (λ n. AscendsAbove n ids) (sym (last_id-push known id clause)) up
 
+-- an id that is gone over is one of them
 pub named-has : (named : List ℕ) (i : ℕ) → i < length named → has named (get_or named i 0) ≡ true
 named-has named i lt = let id : ℕ = get_or named i 0 in list_any_at (λ h. eqb h id) named i 0 lt (eq-eqb id id refl)
 

@@ -26,6 +26,7 @@ closes-shows p records (ends.Complete d) ok accepted new closes =
 closes-shows p records (ends.Level kind most d) ok accepted new closes =
     holds-up_to kind p most records ok accepted (level-of_records kind p most records d accepted closes)
 
+-- and a yes tells the ending of what closes them
 pub shown-from_yes : (p : Problem) (text : List ℕ) (records : List Record) (shown : End (Unit {0})) → IsProblem p → AuditYes p text records shown
     → EndShows p records shown
 shown-from_yes p text records shown ok h =

@@ -24,9 +24,11 @@ abbrev pub gone_over : ℕ → ℕ → Derivation → List ℕ
 gone_over first last d =
     flat_map (λ (s : Step). ids_within first last s.hints) d.steps ++ (ids_within first last (d.goal ∷ []) ++ ids_within first last (last ∷ []))
 
+-- a number is in one of two lists
 has-append : (xs ys : List ℕ) (id : ℕ) → has (xs ++ ys) id ≡ (has xs id || has ys id)
 has-append xs ys id = list_any-append (λ k. eqb k id) xs ys
 
+-- a hint of a step is among those of all steps
 has-steps : (first last : ℕ) (steps : List Step) (s : Step) (id : ℕ) → In s steps → has (ids_within first last s.hints) id ≡ true
     → has (flat_map (λ (t : Step). ids_within first last t.hints) steps) id ≡ true
 has-steps first last [] s id inside h = absurd inside
@@ -49,6 +51,7 @@ pub within-next : (first last : ℕ) (ids : List ℕ) (at : ℕ) → at < length
 within-next first last ids at lt =
     ap (ids_within first last) (take_more ids at 0 lt) ∙ filter-append (λ id. nat_lt first id && nat_le id last) (take at ids) (get_or ids at 0 ∷ [])
 
+-- those of the steps, with one step more
 pub hints-next : (first last : ℕ) (steps : List Step) (at : ℕ) (s : Step) → slice_get steps at ≡ Some s
     → flat_map (λ (t : Step). ids_within first last t.hints) (take (at + 1) steps)
     ≡ flat_map (λ (t : Step). ids_within first last t.hints) (take at steps) ++ ids_within first last s.hints
@@ -62,6 +65,7 @@ within-range : (first last : ℕ) (ids : List ℕ) (id : ℕ) → has (ids_withi
 within-range first last ids id h =
     (and_parts (nat_lt first id && nat_le id last) (has ids id) (sym (has-filter (λ i. nat_lt first i && nat_le i last) ids id) ∙ h)).0
 
+-- so are the hints of all steps
 hints-range : (first last : ℕ) (steps : List Step) (id : ℕ) → has (flat_map (λ (s : Step). ids_within first last s.hints) steps) id ≡ true
     → (nat_lt first id && nat_le id last) ≡ true
 hints-range first last [] id h = absurd (false≢true h)
@@ -72,6 +76,7 @@ hints-range first last (s ∷ ss) id h =
       | inr later ↦ hints-range first last ss id later
     ]
 
+-- and all that is gone over
 gone-range : (first last : ℕ) (d : Derivation) (id : ℕ) → has (gone_over first last d) id ≡ true → (first < id) × (id ≤ last)
 gone-range first last d id h =
     let in_range = by (or_cases (has steps id) (has (goal ++ end) id) (sym (has-append steps (goal ++ end) id) ∙ h)) in
@@ -97,9 +102,11 @@ gone-range first last d id h =
 
 -- ---- sorted, each once
 
+-- a number at a place is one of the list
 has-Contains : (xs : List ℕ) (id : ℕ) → Contains xs id → has xs id ≡ true
 has-Contains xs id (k, lt, is) = list_any_at (λ h. eqb h id) xs k id lt (eq-eqb (get_or xs k id) id is)
 
+-- and one of the list stands at a place
 Contains-has : (xs : List ℕ) (id : ℕ) → has xs id ≡ true → Contains xs id
 Contains-has [] id h = absurd (false≢true h)
 Contains-has (x ∷ xs) id h =
@@ -108,6 +115,7 @@ Contains-has (x ∷ xs) id h =
       | inr later ↦ let (k, lt, is) = Contains-has xs id later in (suc k, omega arith, is)
     ]
 
+-- numbers of which each is above those before it ascend
 ascends-pairs : (low : ℕ) (xs : List ℕ) → AllPairs (λ x y. x < y) xs → All (λ g. low < g) xs → AscendsAbove low xs
 ascends-pairs low [] up above = tt
 ascends-pairs low (x ∷ xs) up above = (
@@ -122,11 +130,13 @@ ascends-sorted low numbers sorted all moved up =
     ascends-pairs low (dedup eqb sorted) (AllPairs-from_increasing (dedup eqb sorted) (IsStrictlyIncreasing-dedup sorted up))
     (All-dedup eqb (λ g. low < g) sorted (All-permutation (λ g. low < g) numbers sorted moved all))
 
+-- tests that follow from one another are the same
 same-by : (a b : Bool) → (a ≡ true → b ≡ true) → (b ≡ true → a ≡ true) → a ≡ b
 same-by true b there back = sym (there refl)
 same-by false true there back = back refl
 same-by false false there back = refl
 
+-- and each number of the list is there
 has-sorted : (numbers sorted : List ℕ) (id : ℕ) → IsPermutation numbers sorted → has (dedup eqb sorted) id ≡ has numbers id
 has-sorted numbers sorted id moved =
     same-by (has (dedup eqb sorted) id) (has sorted id)
@@ -185,6 +195,7 @@ named-sorted first last d numbers sorted ids is moved up filtered = named-from f
 
 -- ---- the clauses with these ids
 
+-- behind other clauses the ids go on
 numbered-append : (from : ℕ) (xs ys : List (List ℤ)) → numbered from (xs ++ ys) ≡ numbered from xs ++ numbered (from + length xs) ys
 numbered-append from [] ys = let same : from ≡ from + 0 = omega arith in ap (λ (n : ℕ). numbered n ys) same
 numbered-append from (x ∷ xs) ys =
@@ -251,6 +262,7 @@ kept-map keep f low (c ∷ cs) named up same high at =
               (λ k h. let most = top k (or_right (eqb n k) (has ns k) h) in omega arith))
         ]
 
+-- so the clauses in front and those that are named are all that are given
 pub kept-behind : (first : ℕ) (bs cs : List (List ℤ)) (named : List ℕ) → first ≡ length bs → AscendsAbove first named
     → ((id : ℕ) → has named id ≡ true → id ≤ first + length cs)
     → kept_of first named (bs ++ cs) ≡ numbered 1 bs ++ map (clause_behind first cs) named

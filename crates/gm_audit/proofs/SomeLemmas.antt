@@ -28,6 +28,7 @@ pub record AreAlike (keep : ℕ → Bool) (a b : Known) : Type 0 where
   pub clauses : (id : ℕ) → keep id ≡ true → clause_of a id ≡ clause_of b id
   pub last : last_id a ≡ last_id b
 
+-- hints look a clause up by its id alone
 hints-alike : (a b : Known) (falses : List ℤ) (hints : List ℕ) → AllByRecursion (λ h. clause_of a h ≡ clause_of b h) hints
     → hints_refusal a falses hints ≡ hints_refusal b falses hints
 hints-alike a b falses [] all = refl
@@ -53,11 +54,13 @@ hints-alike a b falses (h ∷ h' ∷ hs) all =
     by None rest = refl
     by (Some c) rest = ap (λ (w : Option Why). cond (is_nil (open_lits falses c)) (Some HintsLeft) w) (goes (only_lit (open_lits falses c)) rest)
 
+-- the clauses of hints that are kept are the same
 all-named : (keep : ℕ → Bool) (a b : Known) (hints : List ℕ) → AreAlike keep a b → AllByRecursion (λ h. keep h ≡ true) hints
     → AllByRecursion (λ h. clause_of a h ≡ clause_of b h) hints
 all-named keep a b [] same all = tt
 all-named keep a b (h ∷ hs) same all = (same.clauses h all.0, all-named keep a b hs same all.1)
 
+-- so a step is refused for the same
 step-alike : (keep : ℕ → Bool) (vars : ℕ) (a b : Known) (s : Step) → AreAlike keep a b → AllByRecursion (λ h. keep h ≡ true) s.hints
     → step_refusal vars a s.id s.lits s.hints ≡ step_refusal vars b s.id s.lits s.hints
 step-alike keep vars a b s same all =
@@ -88,6 +91,7 @@ clause_of-push (e ∷ es) at c id =
     branch : (t : Bool) → eqb e.0 id ≡ t → clause_of ((e ∷ es) ++ (at, c) ∷ []) id ≡ option_map lits (cond t (Some e) (rest (es ++ (at, c) ∷ [])))
     branch t is = ap (λ q. option_map lits (cond q (Some e) (rest (es ++ (at, c) ∷ [])))) is
 
+-- with the same clause behind both they stay alike
 alike-push : (keep : ℕ → Bool) (a b : Known) (id : ℕ) (lits : List ℤ) → AreAlike keep a b → AreAlike keep (a ++ (id, lits) ∷ []) (b ++ (id, lits) ∷ [])
 alike-push keep a b id lits same =
     record {
@@ -97,6 +101,7 @@ alike-push keep a b id lits same =
       last = last_id-push a id lits ∙ sym (last_id-push b id lits);
     }
 
+-- so steps are refused for the same, one after another
 pub steps-alike : (keep : ℕ → Bool) (vars : ℕ) (a b : Known) (line : ℕ) (steps : List Step) → AreAlike keep a b
     → AllByRecursion (λ (s : Step). AllByRecursion (λ h. keep h ≡ true) s.hints) steps → steps_refusal vars a line steps ≡ steps_refusal vars b line steps
 steps-alike keep vars a b line [] same all = refl
@@ -176,6 +181,7 @@ kept-none keep known id none = by (cases_Bool (keep id))
 
 -- ---- the whole derivation
 
+-- and the clauses of steps behind both
 alike-steps : (keep : ℕ → Bool) (a b : Known) (steps : List Step) → AreAlike keep a b → AreAlike keep (behind_steps a steps) (behind_steps b steps)
 alike-steps keep a b [] same = subst (λ (x : Known). AreAlike keep x (b ++ [])) (sym (append-nil a)) (subst (AreAlike keep a) (sym (append-nil b)) same)
 alike-steps keep a b (s ∷ ss) same =
@@ -184,10 +190,12 @@ alike-steps keep a b (s ∷ ss) same =
     subst (λ (x : Known). AreAlike keep x (b ++ (step ++ rest))) (append_assoc a step rest)
     (subst (AreAlike keep ((a ++ step) ++ rest)) (append_assoc b step rest) (alike-steps keep (a ++ step) (b ++ step) ss (alike-push keep a b s.id s.lits same)))
 
+-- tests that agree on each literal agree on a clause
 list_all-same : (p q : ℤ → Bool) (xs : List ℤ) → ((x : ℤ) → p x ≡ q x) → list_all p xs ≡ list_all q xs
 list_all-same p q [] same = refl
 list_all-same p q (x ∷ xs) same = ap (λ t. t && list_all p xs) (same x) ∙ ap (λ t. q x && t) (list_all-same p q xs same)
 
+-- so a goal is refused for the same
 goal-same : (p q : ℤ → Bool) (o : Option (List ℤ)) → ((x : ℤ) → p x ≡ q x)
     → option_map_or (λ c. if list_all p c then None else Some NotRefuting) o (Some UnknownClause)
     ≡ option_map_or (λ c. if list_all q c then None else Some NotRefuting) o (Some UnknownClause)
@@ -214,6 +222,7 @@ derivation-alike keep vars some clauses p q d same hints goal pointwise =
 abbrev pub keeps : ℕ → ℕ → List ℕ → ℕ → Bool
 keeps first last named id = (nat_le id first || has named id) || nat_lt last id
 
+-- no clause has an id above all
 above-none : (cs : List (List ℤ)) (from id : ℕ) → from + length cs ≤ id → clause_of (numbered from cs) id ≡ None
 above-none [] from id le = refl
 above-none (c ∷ cs) from id le =
@@ -262,6 +271,7 @@ within-kept first last named ids id there names =
           ]
     ]
 
+-- the clauses of hints are kept if each in the range is named
 hints-kept : (first last : ℕ) (named all hints : List ℕ) → ((id : ℕ) → has hints id ≡ true → has all id ≡ true)
     → ((id : ℕ) → has (ids_within first last all) id ≡ true → has named id ≡ true) → AllByRecursion (λ h. keeps first last named h ≡ true) hints
 hints-kept first last named all [] part names = tt
@@ -270,6 +280,7 @@ hints-kept first last named all (x ∷ xs) part names = (
   hints-kept first last named all xs (λ id inside. part id (or_right (eqb x id) (has xs id) inside)) names,
 )
 
+-- and so are those of all steps
 pub steps-kept : (first last : ℕ) (named : List ℕ) (steps : List Step)
     → ((s : Step) (id : ℕ) → In s steps → has (ids_within first last s.hints) id ≡ true → has named id ≡ true)
     → AllByRecursion (λ (s : Step). AllByRecursion (λ h. keeps first last named h ≡ true) s.hints) steps
