@@ -19,7 +19,7 @@ use Rattle.evidence_rec.specs.Records.{found_of, founds, set_of, AllAccepted}
 use Rattle.evidence_rec.specs.Refusals.{at_line, steps_refusal}
 use Rattle.evidence_rec.proofs.AcceptedLemmas.{accepted-at}
 use Rattle.evidence_rec.proofs.VerdictLemmas.{none-parts, or-goes, steps-none}
-use Rattle.gm_audit.specs.Refusals.{goal_refusal, derivation_refusal}
+use Rattle.gm_audit.specs.Refusals.{goal_within_refusal, derivation_refusal}
 
 abbrev pub blocks : List Record → List (List ℤ)
 blocks rs = map block_clause (founds rs)
@@ -56,6 +56,7 @@ subset-wider groups vars set le within g inside =
 
 -- ---- a derivation in which nothing is refused
 
+-- a goal that is not refused names a clause of such literals
 goal-within : (o : Option (List ℤ)) (allowed : ℤ → Bool)
     → option_map_or (λ (c : List ℤ). if list_all allowed c then None else Some NotRefuting) o (Some UnknownClause) ≡ None
     → option_map_or (λ (c : List ℤ). list_all allowed c) o false ≡ true
@@ -69,6 +70,7 @@ goal-within (Some c) allowed h = by (list_all allowed c) h
     by true h = refl
     by false h = cc
 
+-- and one that does is not refused
 within-goal : (o : Option (List ℤ)) (allowed : ℤ → Bool) → option_map_or (λ (c : List ℤ). list_all allowed c) o false ≡ true
     → option_map_or (λ (c : List ℤ). if list_all allowed c then None else Some NotRefuting) o (Some UnknownClause) ≡ None
 within-goal None allowed h = absurd (false≢true h)
@@ -82,7 +84,7 @@ at_line-none line (Some w) h = cc
 pub derivation-shows : (vars : ℕ) (clauses : List (List ℤ)) (allowed : ℤ → Bool) (d : Derivation) → derivation_refusal vars clauses allowed d ≡ None
     → derives_within vars clauses d allowed ≡ true
 derivation-shows vars clauses allowed d h =
-    let why : Option Why = goal_refusal (all_known clauses d.steps) allowed d.goal in
+    let why : Option Why = goal_within_refusal (all_known clauses d.steps) allowed d.goal in
     let parts = none-parts (steps_refusal vars (numbered 1 clauses) 0 d.steps) (at_line (length d.steps) why) h in
     and_from (is_derivation vars clauses d) (option_map_or (λ (c : List ℤ). list_all allowed c) (clause_of (all_known clauses d.steps) d.goal) false)
     (subst (λ n. steps_follow vars n (numbered 1 clauses) d.steps ≡ true) (last_id-numbered clauses)
@@ -93,7 +95,7 @@ derivation-shows vars clauses allowed d h =
 pub shows-none : (vars : ℕ) (clauses : List (List ℤ)) (allowed : ℤ → Bool) (d : Derivation) → derives_within vars clauses d allowed ≡ true
     → derivation_refusal vars clauses allowed d ≡ None
 shows-none vars clauses allowed d h =
-    let why : Option Why = goal_refusal (all_known clauses d.steps) allowed d.goal in
+    let why : Option Why = goal_within_refusal (all_known clauses d.steps) allowed d.goal in
     let parts = and_parts (is_derivation vars clauses d) (option_map_or (λ (c : List ℤ). list_all allowed c) (clause_of (all_known clauses d.steps) d.goal) false) h in
     or-goes (steps_refusal vars (numbered 1 clauses) 0 d.steps) (at_line (length d.steps) why)
     ((steps-none vars (numbered 1 clauses) 0 d.steps).1

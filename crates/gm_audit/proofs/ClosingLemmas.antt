@@ -5,7 +5,7 @@ use Rattle.std.specs.List.{list_all}
 use Rattle.std.specs.Option.{option_to_list}
 use Rattle.std.specs.Ordering.{int_eq}
 use Rattle.std.proofs.Math.IntN.{neg_ℤ-neg_ℤ}
-use Rattle.std.proofs.lemmas.Bool.{cases_Bool, cond-true, cond-false, lt-ltb, eq-eqb}
+use Rattle.std.proofs.lemmas.Bool.{cases_Bool, cond-true, cond-false, lt-ltb, eq-eqb, ne_eqb}
 use Rattle.std.proofs.lemmas.List.{drop_more, map_more}
 use Rattle.std.proofs.lemmas.List.Folds.{list_any_at}
 use Rattle.std.proofs.lemmas.Option.{get_or_from_slice_get}
@@ -23,7 +23,7 @@ use Rattle.size_counter.specs.Levels.{Level, level_counter, level_vars, level_li
 use Rattle.size_counter.proofs.LevelLemmas.{level-over, level-order}
 use Rattle.size_levels.specs.Shown.{is_more, level_clauses}
 use Rattle.size_levels.proofs.LevelLemmas.{accepted-within}
-use Rattle.gm_audit.specs.Inside.{behind, may_have, kept_of, AreNamed, IsLevelOf}
+use Rattle.gm_audit.specs.Inside.{clause_behind, may_have, kept_of, AreNamed, AreGiven, IsLevelOf}
 use Rattle.gm_audit.proofs.BlocksLemmas.{blocks, length-blocks}
 use Rattle.gm_audit.proofs.NamedLemmas.{kept-behind}
 
@@ -44,23 +44,29 @@ pub named-vars : (l : Level) (vars : Option ℕ) → level_vars l < 2 ^ 31
     → vars ≡ (if nat_lt (level_vars l) (2 ^ 31) then Some (level_vars l) else None) → vars ≡ Some (level_vars l)
 named-vars l vars few is = is ∙ cond-true (nat_lt (level_vars l) (2 ^ 31)) (Some (level_vars l)) None (lt-ltb (level_vars l) (2 ^ 31) few)
 
+-- so there is a number
 pub named-some : (l : Level) (vars : Option ℕ) → vars ≡ Some (level_vars l) → IsSome vars
 named-some l vars is = ap is_some is
 
+-- two values in the same answer are one
 pub some-same : {X : Type 0} (x y : X) → Some x ≡ Some y → x ≡ y
 some-same x y e = cc
 
 -- ---- "more than the bound count"
 
+-- so are those of two lists of one
 list-same : (x y : ℤ) → x ∷ [] ≡ y ∷ [] → x ≡ y
 list-same x y e = cc
 
+-- an empty list is not one with a literal
 none-some : (y : ℤ) → [] ≡ y ∷ [] → ⊥
 none-some y e = cc
 
+-- nor the other way round
 some-none : (x : ℤ) → x ∷ [] ≡ [] → ⊥
 some-none x e = cc
 
+-- told by whether more groups are there than may count
 more-by : (counts : Bool) (more : ℤ) (limit : Option ℤ) → option_to_list limit ≡ (if counts then neg_ℤ more ∷ [] else []) → (lit : ℤ)
     → ((x : ℤ) → limit ≡ Some x → int_eq (neg_ℤ x) lit ≡ (counts && int_eq more lit)) × (limit ≡ None → false ≡ (counts && int_eq more lit))
 more-by true more None is lit = absurd (none-some (neg_ℤ more) is)
@@ -77,6 +83,7 @@ pub more-some : (l : Level) (limit : Option ℤ) (x : ℤ) → option_to_list li
 more-some l limit x is some lit =
     (more-by (nat_lt l.bound (length l.order)) (at_least l.groups l.bound (length l.order) (l.bound + 1)) limit is lit).0 x some
 
+-- without a limit no literal says it
 pub more-none : (l : Level) (limit : Option ℤ) → option_to_list limit ≡ level_limit l → limit ≡ None → (lit : ℤ) → false ≡ is_more l lit
 more-none l limit is none lit =
     (more-by (nat_lt l.bound (length l.order)) (at_least l.groups l.bound (length l.order) (l.bound + 1)) limit is lit).1 none
@@ -84,15 +91,17 @@ more-none l limit is none lit =
 -- without it only the empty clause may be named
 pub only-none : (clause : List ℤ) → (length clause == 0) ≡ list_all (may_have None) clause
 only-none [] = refl
-only-none (l ∷ ls) = refl
+only-none (l ∷ ls) = ne_eqb (length (l ∷ ls)) 0 (λ e. omega (arith, e))
 
 -- ---- the clauses of the counter
 
+-- what stands at a place is in the list
 In-got : {X : Type 0} (xs : List X) (at : ℕ) (x : X) → slice_get xs at ≡ Some x → In x xs
 In-got [] at x is = absurd (let clash : None ≡ Some x = is in cc)
 In-got (y ∷ ys) zero x is = inl (sym (some-same y x is))
 In-got (y ∷ ys) (suc at) x is = inr (In-got ys at x is)
 
+-- each literal is over the variables
 literals-from : (vars : ℕ) (lits : List ℤ) → ((l : ℤ) → In l lits → IsLiteral vars l) → AreLiterals vars lits
 literals-from vars [] each = tt
 literals-from vars (l ∷ ls) each = (each l (inl refl), literals-from vars ls (λ m i. each m (inr i)))
@@ -106,25 +115,27 @@ got-over l at clause ordered is =
 -- one more is given
 pub behind-next : (first : ℕ) (clauses : List (List ℤ)) (named : List ℕ) (i : ℕ) (clause : List ℤ) (before known : List (ℕ × List ℤ))
     → i < length named → slice_get clauses (get_or named i 0 - first - 1) ≡ Some clause
-    → known ≡ before ++ map (behind first clauses) (take i named)
-    → known ++ (get_or named i 0, clause) ∷ [] ≡ before ++ map (behind first clauses) (take (i + 1) named)
+    → known ≡ before ++ map (clause_behind first clauses) (take i named)
+    → known ++ (get_or named i 0, clause) ∷ [] ≡ before ++ map (clause_behind first clauses) (take (i + 1) named)
 behind-next first clauses named i clause before known lt got is =
     let id : ℕ = get_or named i 0 in
     ap (λ (ks : List (ℕ × List ℤ)). ks ++ (id, clause) ∷ []) is
-    ∙ append_assoc before (map (behind first clauses) (take i named)) ((id, clause) ∷ [])
-    ∙ ap (λ (c : List ℤ). before ++ (map (behind first clauses) (take i named) ++ (id, c) ∷ []))
+    ∙ append_assoc before (map (clause_behind first clauses) (take i named)) ((id, clause) ∷ [])
+    ∙ ap (λ (c : List ℤ). before ++ (map (clause_behind first clauses) (take i named) ++ (id, c) ∷ []))
     (sym (get_or_from_slice_get clauses (id - first - 1) clause [] got))
-    ∙ ap (λ (ks : List (ℕ × List ℤ)). before ++ ks) (sym (map_more (behind first clauses) named i 0 lt))
+    ∙ ap (λ (ks : List (ℕ × List ℤ)). before ++ ks) (sym (map_more (clause_behind first clauses) named i 0 lt))
 
 -- the ids that are left are above it
 pub ahead-now : (low : ℕ) (named : List ℕ) (i : ℕ) → i < length named → AscendsAbove low (drop i named)
     → (low < get_or named i 0) × AscendsAbove (get_or named i 0) (drop (i + 1) named)
 ahead-now low named i lt up = subst (AscendsAbove low) (drop_more named i 0 lt) up
 
+-- they are above the last id then
 pub ahead-next : (known : List (ℕ × List ℤ)) (id : ℕ) (clause : List ℤ) (ids : List ℕ) → AscendsAbove id ids
     → AscendsAbove (last_id (known ++ (id, clause) ∷ [])) ids
 ahead-next known id clause ids up = subst (λ n. AscendsAbove n ids) (sym (last_id-push known id clause)) up
 
+-- an id that is gone over is one of them
 pub named-has : (named : List ℕ) (i : ℕ) → i < length named → has named (get_or named i 0) ≡ true
 named-has named i lt = let id : ℕ = get_or named i 0 in list_any_at (λ h. eqb h id) named i 0 lt (eq-eqb id id refl)
 
@@ -137,16 +148,15 @@ level-ordered p records l accepted of =
 -- all that were given are those of the level's clauses that are kept
 pub kept-given : (records : List Record) (l : Level) (d : Derivation) (first last : ℕ) (named : List ℕ) (given known : List (ℕ × List ℤ))
     → first ≡ length records → last ≡ first + length (level_counter l) → AreNamed first last d named → given ≡ numbered 1 (blocks records)
-    → known ≡ given ++ map (behind first (level_counter l)) named
-    → (ids : List ℕ) × AreNamed (length records) (length (level_clauses l (founds records))) d ids
-    × (known ≡ kept_of (length records) ids (level_clauses l (founds records)))
+    → known ≡ given ++ map (clause_behind first (level_counter l)) named
+    → AreGiven (length records) (level_clauses l (founds records)) d known
 kept-given records l d first last named given known is end names start added = (
   named,
   subst (λ (n : ℕ). AreNamed n (length (level_clauses l (founds records))) d named) is (subst (λ (n : ℕ). AreNamed first n d named) all names),
-  added ∙ ap (λ (ks : List (ℕ × List ℤ)). ks ++ map (behind first (level_counter l)) named) start
-  ∙ sym (kept-behind first (blocks records) (level_counter l) named (is ∙ sym (length-blocks records)) names.ascend
-  (λ id h. subst (λ (n : ℕ). id ≤ n) end (names.up_to id h)))
-  ∙ ap (λ (n : ℕ). kept_of n named (level_clauses l (founds records))) is,
+  added ∙ ap (λ (ks : List (ℕ × List ℤ)). ks ++ map (clause_behind first (level_counter l)) named) start
+      ∙ sym (kept-behind first (blocks records) (level_counter l) named (is ∙ sym (length-blocks records)) names.ascend
+      (λ id h. subst (λ (n : ℕ). id ≤ n) end (names.up_to id h)))
+      ∙ ap (λ (n : ℕ). kept_of n named (level_clauses l (founds records))) is,
 )
   where
     all : last ≡ length (level_clauses l (founds records))

@@ -1,5 +1,5 @@
 -- What a yes shows.
-use Rattle.std.proofs.Common.{◌≡◌, ℕ, List, sym, subst}
+use Rattle.std.proofs.Common.{◌≡◌, ℕ, List, [], sym, subst}
 use Rattle.std.specs.Prelude.{Result, Ok, Err, IfOk}
 use Rattle.std.specs.declared.alloc.AllocError.{AllocError}
 use Rattle.sat_base.specs.Derivation.{Derivation}
@@ -15,21 +15,22 @@ use Rattle.evidence_text.specs.declared.end.End.{End}
 use Rattle.evidence_text.specs.declared.end.End.TheVariants as ends
 use Rattle.gm_audit.specs.declared.answer.Audited.{Audited}
 use Rattle.gm_audit.specs.declared.answer.Audited.TheVariants.{Yes, No}
-use Rattle.gm_audit.specs.Audits.{Closes, without_proof, Shows, AuditYes, TellsRecords, TellsAll}
+use Rattle.gm_audit.specs.Audits.{Closes, without_proof, EndShows, AuditYes, TellsRecords, TellsAll}
 
 -- what closes records shows what its ending says
 closes-shows : (p : Problem) (records : List Record) (ending : End Derivation) → IsProblem p → AllAccepted p records → AreNew [] records
-    → Closes p records ending → Shows p records (without_proof ending)
+    → Closes p records ending → EndShows p records (without_proof ending)
 closes-shows p records ends.Partial ok accepted new closes = tt
 closes-shows p records (ends.Complete d) ok accepted new closes =
     held-exactly_all p records ok accepted new (explored-holds_all p records ok accepted (closing-explores p records d accepted closes))
 closes-shows p records (ends.Level kind most d) ok accepted new closes =
     holds-up_to kind p most records ok accepted (level-of_records kind p most records d accepted closes)
 
+-- and a yes tells the ending of what closes them
 pub shown-from_yes : (p : Problem) (text : List ℕ) (records : List Record) (shown : End (Unit {0})) → IsProblem p → AuditYes p text records shown
-    → Shows p records shown
+    → EndShows p records shown
 shown-from_yes p text records shown ok h =
-    subst (Shows p records) (sym h.is_shown) (closes-shows p records h.ending ok h.accepted h.distinct h.closes)
+    subst (EndShows p records) (sym h.is_shown) (closes-shows p records h.ending ok h.accepted h.distinct h.closes)
 
 tells-all : (p : Problem) (text : List ℕ) (a : Audited) → IsProblem p → TellsRecords p text a → TellsAll p a
 tells-all p text (Yes shown records) ok h = shown-from_yes p text records shown ok h

@@ -17,61 +17,66 @@ use Rattle.sat_base.specs.Members.{In}
 use Rattle.sat_base.specs.Derivation.{Step, Derivation, numbered}
 use Rattle.gm_base.specs.Sets.{has, AscendsAbove}
 use Rattle.gm_base.proofs.SetLemmas.{has-filter, not_has-bound, has-head}
-use Rattle.gm_audit.specs.Inside.{behind, within, is_kept, kept_of, AreNamed}
+use Rattle.gm_audit.specs.Inside.{clause_behind, ids_within, is_given, kept_of, AreNamed}
 
 -- what is gone over: hints, the goal, and the last id
 abbrev pub gone_over : ℕ → ℕ → Derivation → List ℕ
 gone_over first last d =
-    flat_map (λ (s : Step). within first last s.hints) d.steps ++ (within first last (d.goal ∷ []) ++ within first last (last ∷ []))
+    flat_map (λ (s : Step). ids_within first last s.hints) d.steps ++ (ids_within first last (d.goal ∷ []) ++ ids_within first last (last ∷ []))
 
+-- a number is in one of two lists
 has-append : (xs ys : List ℕ) (id : ℕ) → has (xs ++ ys) id ≡ (has xs id || has ys id)
 has-append xs ys id = list_any-append (λ k. eqb k id) xs ys
 
-has-steps : (first last : ℕ) (steps : List Step) (s : Step) (id : ℕ) → In s steps → has (within first last s.hints) id ≡ true
-    → has (flat_map (λ (t : Step). within first last t.hints) steps) id ≡ true
+-- a hint of a step is among those of all steps
+has-steps : (first last : ℕ) (steps : List Step) (s : Step) (id : ℕ) → In s steps → has (ids_within first last s.hints) id ≡ true
+    → has (flat_map (λ (t : Step). ids_within first last t.hints) steps) id ≡ true
 has-steps first last [] s id inside h = absurd inside
 has-steps first last (t ∷ ts) s id inside h =
-    let here : List ℕ = within first last t.hints in
-    let rest : List ℕ = flat_map (λ (u : Step). within first last u.hints) ts in
+    let here : List ℕ = ids_within first last t.hints in
+    let rest : List ℕ = flat_map (λ (u : Step). ids_within first last u.hints) ts in
     has-append here rest id ∙ by inside (λ later. has-steps first last ts s id later h)
   where
-    by : (s ≡ t) ⊎ In s ts → (In s ts → has (flat_map (λ (u : Step). within first last u.hints) ts) id ≡ true)
-        → (has (within first last t.hints) id || has (flat_map (λ (u : Step). within first last u.hints) ts) id) ≡ true
+    by : (s ≡ t) ⊎ In s ts → (In s ts → has (flat_map (λ (u : Step). ids_within first last u.hints) ts) id ≡ true)
+        → (has (ids_within first last t.hints) id || has (flat_map (λ (u : Step). ids_within first last u.hints) ts) id) ≡ true
     by (inl same) rest =
-        or_left (has (within first last t.hints) id) (has (flat_map (λ (u : Step). within first last u.hints) ts) id)
-        (sym (ap (λ (u : Step). has (within first last u.hints) id) same) ∙ h)
+        or_left (has (ids_within first last t.hints) id) (has (flat_map (λ (u : Step). ids_within first last u.hints) ts) id)
+        (sym (ap (λ (u : Step). has (ids_within first last u.hints) id) same) ∙ h)
     by (inr later) rest =
-        or_right (has (within first last t.hints) id) (has (flat_map (λ (u : Step). within first last u.hints) ts) id) (rest later)
+        or_right (has (ids_within first last t.hints) id) (has (flat_map (λ (u : Step). ids_within first last u.hints) ts) id) (rest later)
 
 -- hints one more, and those of one step more
 pub within-next : (first last : ℕ) (ids : List ℕ) (at : ℕ) → at < length ids
-    → within first last (take (at + 1) ids) ≡ within first last (take at ids) ++ within first last (get_or ids at 0 ∷ [])
+    → ids_within first last (take (at + 1) ids) ≡ ids_within first last (take at ids) ++ ids_within first last (get_or ids at 0 ∷ [])
 within-next first last ids at lt =
-    ap (within first last) (take_more ids at 0 lt) ∙ filter-append (λ id. nat_lt first id && nat_le id last) (take at ids) (get_or ids at 0 ∷ [])
+    ap (ids_within first last) (take_more ids at 0 lt) ∙ filter-append (λ id. nat_lt first id && nat_le id last) (take at ids) (get_or ids at 0 ∷ [])
 
+-- those of the steps, with one step more
 pub hints-next : (first last : ℕ) (steps : List Step) (at : ℕ) (s : Step) → slice_get steps at ≡ Some s
-    → flat_map (λ (t : Step). within first last t.hints) (take (at + 1) steps)
-    ≡ flat_map (λ (t : Step). within first last t.hints) (take at steps) ++ within first last s.hints
+    → flat_map (λ (t : Step). ids_within first last t.hints) (take (at + 1) steps)
+    ≡ flat_map (λ (t : Step). ids_within first last t.hints) (take at steps) ++ ids_within first last s.hints
 hints-next first last steps at s is =
-    ap (flat_map (λ (t : Step). within first last t.hints))
+    ap (flat_map (λ (t : Step). ids_within first last t.hints))
     (take_more steps at s (slice_get_within steps at s is) ∙ ap (λ (t : Step). take at steps ++ t ∷ []) (get_or_from_slice_get steps at s s is))
-    ∙ sym (flat_map_more (λ (t : Step). within first last t.hints) [] (take at steps) s)
+    ∙ sym (flat_map_more (λ (t : Step). ids_within first last t.hints) [] (take at steps) s)
 
 -- all of them are in the range
-within-range : (first last : ℕ) (ids : List ℕ) (id : ℕ) → has (within first last ids) id ≡ true → (nat_lt first id && nat_le id last) ≡ true
+within-range : (first last : ℕ) (ids : List ℕ) (id : ℕ) → has (ids_within first last ids) id ≡ true → (nat_lt first id && nat_le id last) ≡ true
 within-range first last ids id h =
     (and_parts (nat_lt first id && nat_le id last) (has ids id) (sym (has-filter (λ i. nat_lt first i && nat_le i last) ids id) ∙ h)).0
 
-hints-range : (first last : ℕ) (steps : List Step) (id : ℕ) → has (flat_map (λ (s : Step). within first last s.hints) steps) id ≡ true
+-- so are the hints of all steps
+hints-range : (first last : ℕ) (steps : List Step) (id : ℕ) → has (flat_map (λ (s : Step). ids_within first last s.hints) steps) id ≡ true
     → (nat_lt first id && nat_le id last) ≡ true
 hints-range first last [] id h = absurd (false≢true h)
 hints-range first last (s ∷ ss) id h =
-    let rest : List ℕ = flat_map (λ (t : Step). within first last t.hints) ss in
-    elim (or_cases (has (within first last s.hints) id) (has rest id) (sym (has-append (within first last s.hints) rest id) ∙ h)) [
+    let rest : List ℕ = flat_map (λ (t : Step). ids_within first last t.hints) ss in
+    elim (or_cases (has (ids_within first last s.hints) id) (has rest id) (sym (has-append (ids_within first last s.hints) rest id) ∙ h)) [
       | inl here ↦ within-range first last s.hints id here
       | inr later ↦ hints-range first last ss id later
     ]
 
+-- and all that is gone over
 gone-range : (first last : ℕ) (d : Derivation) (id : ℕ) → has (gone_over first last d) id ≡ true → (first < id) × (id ≤ last)
 gone-range first last d id h =
     let in_range = by (or_cases (has steps id) (has (goal ++ end) id) (sym (has-append steps (goal ++ end) id) ∙ h)) in
@@ -79,13 +84,13 @@ gone-range first last d id h =
     (ltb-true first id parts.0, leb-true id last parts.1)
   where
     steps : List ℕ
-    steps = flat_map (λ (s : Step). within first last s.hints) d.steps
+    steps = flat_map (λ (s : Step). ids_within first last s.hints) d.steps
 
     goal : List ℕ
-    goal = within first last (d.goal ∷ [])
+    goal = ids_within first last (d.goal ∷ [])
 
     end : List ℕ
-    end = within first last (last ∷ [])
+    end = ids_within first last (last ∷ [])
 
     by_end : (has goal id ≡ true) ⊎ (has end id ≡ true) → (nat_lt first id && nat_le id last) ≡ true
     by_end (inl here) = within-range first last (d.goal ∷ []) id here
@@ -97,9 +102,11 @@ gone-range first last d id h =
 
 -- ---- sorted, each once
 
+-- a number at a place is one of the list
 has-Contains : (xs : List ℕ) (id : ℕ) → Contains xs id → has xs id ≡ true
 has-Contains xs id (k, lt, is) = list_any_at (λ h. eqb h id) xs k id lt (eq-eqb (get_or xs k id) id is)
 
+-- and one of the list stands at a place
 Contains-has : (xs : List ℕ) (id : ℕ) → has xs id ≡ true → Contains xs id
 Contains-has [] id h = absurd (false≢true h)
 Contains-has (x ∷ xs) id h =
@@ -108,6 +115,7 @@ Contains-has (x ∷ xs) id h =
       | inr later ↦ let (k, lt, is) = Contains-has xs id later in (suc k, omega arith, is)
     ]
 
+-- numbers of which each is above those before it ascend
 ascends-pairs : (low : ℕ) (xs : List ℕ) → AllPairs (λ x y. x < y) xs → All (λ g. low < g) xs → AscendsAbove low xs
 ascends-pairs low [] up above = tt
 ascends-pairs low (x ∷ xs) up above = (
@@ -122,11 +130,13 @@ ascends-sorted low numbers sorted all moved up =
     ascends-pairs low (dedup eqb sorted) (AllPairs-from_increasing (dedup eqb sorted) (IsStrictlyIncreasing-dedup sorted up))
     (All-dedup eqb (λ g. low < g) sorted (All-permutation (λ g. low < g) numbers sorted moved all))
 
+-- tests that follow from one another are the same
 same-by : (a b : Bool) → (a ≡ true → b ≡ true) → (b ≡ true → a ≡ true) → a ≡ b
 same-by true b there back = sym (there refl)
 same-by false true there back = back refl
 same-by false false there back = refl
 
+-- and each number of the list is there
 has-sorted : (numbers sorted : List ℕ) (id : ℕ) → IsPermutation numbers sorted → has (dedup eqb sorted) id ≡ has numbers id
 has-sorted numbers sorted id moved =
     same-by (has (dedup eqb sorted) id) (has sorted id)
@@ -137,11 +147,11 @@ has-sorted numbers sorted id moved =
 -- numbers that ascend and are those that were gone over
 pub named-from : (first last : ℕ) (d : Derivation) (named : List ℕ) → AscendsAbove first named
     → ((id : ℕ) → has named id ≡ has (gone_over first last d) id) → ((id : ℕ) → has (gone_over first last d) id ≡ true → id ≤ last)
-    → (first < last → has (within first last (last ∷ [])) last ≡ true) → AreNamed first last d named
+    → (first < last → has (ids_within first last (last ∷ [])) last ≡ true) → AreNamed first last d named
 named-from first last d named up same high at_last =
-    let steps : List ℕ = flat_map (λ (s : Step). within first last s.hints) d.steps in
-    let goal : List ℕ = within first last (d.goal ∷ []) in
-    let end : List ℕ = within first last (last ∷ []) in
+    let steps : List ℕ = flat_map (λ (s : Step). ids_within first last s.hints) d.steps in
+    let goal : List ℕ = ids_within first last (d.goal ∷ []) in
+    let end : List ℕ = ids_within first last (last ∷ []) in
     record {
       ascend = up;
       hints = λ s id inside h.
@@ -177,7 +187,7 @@ named-sorted first last d numbers sorted ids is moved up filtered = named-from f
     high : (id : ℕ) → has (gone_over first last d) id ≡ true → id ≤ last
     high id h = (gone-range first last d id h).1
 
-    at_last : first < last → has (within first last (last ∷ [])) last ≡ true
+    at_last : first < last → has (ids_within first last (last ∷ [])) last ≡ true
     at_last more =
         has-filter (λ i. nat_lt first i && nat_le i last) (last ∷ []) last
         ∙ and_from (nat_lt first last && nat_le last last) (has (last ∷ []) last)
@@ -185,6 +195,7 @@ named-sorted first last d numbers sorted ids is moved up filtered = named-from f
 
 -- ---- the clauses with these ids
 
+-- behind other clauses the ids go on
 numbered-append : (from : ℕ) (xs ys : List (List ℤ)) → numbered from (xs ++ ys) ≡ numbered from xs ++ numbered (from + length xs) ys
 numbered-append from [] ys = let same : from ≡ from + 0 = omega arith in ap (λ (n : ℕ). numbered n ys) same
 numbered-append from (x ∷ xs) ys =
@@ -251,12 +262,13 @@ kept-map keep f low (c ∷ cs) named up same high at =
               (λ k h. let most = top k (or_right (eqb n k) (has ns k) h) in omega arith))
         ]
 
+-- so the clauses in front and those that are named are all that are given
 pub kept-behind : (first : ℕ) (bs cs : List (List ℤ)) (named : List ℕ) → first ≡ length bs → AscendsAbove first named
     → ((id : ℕ) → has named id ≡ true → id ≤ first + length cs)
-    → kept_of first named (bs ++ cs) ≡ numbered 1 bs ++ map (behind first cs) named
+    → kept_of first named (bs ++ cs) ≡ numbered 1 bs ++ map (clause_behind first cs) named
 kept-behind first bs cs named is up high =
-    ap (filter (is_kept first named)) (numbered-append 1 bs cs)
-    ∙ filter-append (is_kept first named) (numbered 1 bs) (numbered (1 + length bs) cs)
+    ap (filter (is_given first named)) (numbered-append 1 bs cs)
+    ∙ filter-append (is_given first named) (numbered 1 bs) (numbered (1 + length bs) cs)
     ∙ ap₂ (λ (xs ys : List (ℕ × List ℤ)). xs ++ ys)
     (kept-front keep 1 bs (λ id lt. or_left (nat_le id first) (has named id) (le-leb id first (omega (arith, is, lt)))))
     (ap (λ (n : ℕ). filter (λ (e : ℕ × List ℤ). keep e.0) (numbered n cs)) from

@@ -266,7 +266,7 @@ pub ended : (p : Problem) (text : List ℕ) (old : Reader) (records : List Recor
 ended p text old records ending got h e is lines = by h.most h.enough h.refusal
   where
     end-at : (got : Piece) (more : Record → Below → Contents) → answer.End ending ≡ piece_answer got
-        → contents_by old.left.at got more ≡ record { records = []; ending = Ok (old.left.at, closing) }
+        → contents_by old.left.at got more ≡ record { records = []; ending = Ok (old.left.at, ending) }
     end-at (Err o) more is = cc
     end-at (Ok (answer.Record q, b)) more is = cc
     end-at (Ok (answer.Offence o, b)) more is = cc
@@ -288,9 +288,9 @@ pub end-stands : (p : Problem) (text : List ℕ) (old : Reader) (records : List 
     → IsReadableEnd old.version p (founds records) ending × (old.left.lines ≡ end_lines ending) × (unended text ≡ [])
 end-stands p text old records ending got small h e is =
     let (b, same) = end-in got is in
-    let (good, rest) =
+    let (good, lines, nothing) =
     piece-stands old.version p old.namings (unended text) old.left.at old.left.lines (answer.End ending) b (omega arith) (piece-is p text old records got h e ∙ same) in
-    (end-of old.version p records ending (subst (λ (n : Namings). IsReadableEndBy old.version p n ending) h.named good), rest)
+    (end-of old.version p records ending (subst (λ (n : Namings). IsReadableEndBy old.version p n ending) h.named good), lines, nothing)
   where
     end-in : (got : Piece) → answer.End ending ≡ piece_answer got → (b : Below) × (got ≡ Ok (answer.End ending, b))
     end-in (Err o) is = cc

@@ -15,8 +15,8 @@ use Rattle.lrat_check.specs.declared.why.Why.TheVariants.{UnknownHint, NotUnit, 
 use Rattle.lrat_check.specs.Refusal.{last_id, hints_refusal, clause_refusal, step_refusal}
 use Rattle.lrat_check.proofs.KnownLemmas.{last_id-push, numbered_next}
 use Rattle.evidence_rec.specs.Refusals.{at_line, steps_refusal}
-use Rattle.gm_audit.specs.Inside.{kept_of, within, AreNamed, behind_steps}
-use Rattle.gm_audit.specs.Refusals.{goal_refusal, derivation_refusal}
+use Rattle.gm_audit.specs.Inside.{kept_of, ids_within, AreNamed, behind_steps}
+use Rattle.gm_audit.specs.Refusals.{goal_within_refusal, derivation_refusal}
 
 abbrev pub Known : Type 0
 Known = List (ℕ × List ℤ)
@@ -28,6 +28,7 @@ pub record AreAlike (keep : ℕ → Bool) (a b : Known) : Type 0 where
   pub clauses : (id : ℕ) → keep id ≡ true → clause_of a id ≡ clause_of b id
   pub last : last_id a ≡ last_id b
 
+-- hints look a clause up by its id alone
 hints-alike : (a b : Known) (falses : List ℤ) (hints : List ℕ) → AllByRecursion (λ h. clause_of a h ≡ clause_of b h) hints
     → hints_refusal a falses hints ≡ hints_refusal b falses hints
 hints-alike a b falses [] all = refl
@@ -53,11 +54,13 @@ hints-alike a b falses (h ∷ h' ∷ hs) all =
     by None rest = refl
     by (Some c) rest = ap (λ (w : Option Why). cond (is_nil (open_lits falses c)) (Some HintsLeft) w) (goes (only_lit (open_lits falses c)) rest)
 
+-- the clauses of hints that are kept are the same
 all-named : (keep : ℕ → Bool) (a b : Known) (hints : List ℕ) → AreAlike keep a b → AllByRecursion (λ h. keep h ≡ true) hints
     → AllByRecursion (λ h. clause_of a h ≡ clause_of b h) hints
 all-named keep a b [] same all = tt
 all-named keep a b (h ∷ hs) same all = (same.clauses h all.0, all-named keep a b hs same all.1)
 
+-- so a step is refused for the same
 step-alike : (keep : ℕ → Bool) (vars : ℕ) (a b : Known) (s : Step) → AreAlike keep a b → AllByRecursion (λ h. keep h ≡ true) s.hints
     → step_refusal vars a s.id s.lits s.hints ≡ step_refusal vars b s.id s.lits s.hints
 step-alike keep vars a b s same all =
@@ -71,7 +74,7 @@ clause_of-push : (known : Known) (at : ℕ) (c : List ℤ) (id : ℕ)
 clause_of-push [] at c id = refl
 clause_of-push (e ∷ es) at c id =
     elim (cases_Bool (eqb e.0 id)) [
-      | inl here ↦ branch true here
+      | inl here ↦ branch true here ∙ sym (found true here)
       | inr other ↦ branch false other ∙ clause_of-push es at c id ∙ sym (found false other)
     ]
   where
@@ -88,6 +91,7 @@ clause_of-push (e ∷ es) at c id =
     branch : (t : Bool) → eqb e.0 id ≡ t → clause_of ((e ∷ es) ++ (at, c) ∷ []) id ≡ option_map lits (cond t (Some e) (rest (es ++ (at, c) ∷ [])))
     branch t is = ap (λ q. option_map lits (cond q (Some e) (rest (es ++ (at, c) ∷ [])))) is
 
+-- with the same clause behind both they stay alike
 alike-push : (keep : ℕ → Bool) (a b : Known) (id : ℕ) (lits : List ℤ) → AreAlike keep a b → AreAlike keep (a ++ (id, lits) ∷ []) (b ++ (id, lits) ∷ [])
 alike-push keep a b id lits same =
     record {
@@ -97,6 +101,7 @@ alike-push keep a b id lits same =
       last = last_id-push a id lits ∙ sym (last_id-push b id lits);
     }
 
+-- so steps are refused for the same, one after another
 pub steps-alike : (keep : ℕ → Bool) (vars : ℕ) (a b : Known) (line : ℕ) (steps : List Step) → AreAlike keep a b
     → AllByRecursion (λ (s : Step). AllByRecursion (λ h. keep h ≡ true) s.hints) steps → steps_refusal vars a line steps ≡ steps_refusal vars b line steps
 steps-alike keep vars a b line [] same all = refl
@@ -140,15 +145,15 @@ last-kept keep (c ∷ ds) h =
     let cs = c ∷ ds in
     let i = length ds in
     let before = numbered 1 (take i cs) in
-    let last : ℕ × List ℤ = (1 + i, get_or cs i []) in
+    let last : ℕ × List ℤ = (i + 1, get_or cs i []) in
     let whole : numbered 1 cs ≡ before ++ last ∷ [] =
     ap (numbered 1) (sym (take_all (i + 1) cs (omega arith))) ∙ numbered_next i 1 cs [] (omega arith) in
-    let id : 1 + i ≡ length cs = omega arith in
-    let one : kept keep (last ∷ []) ≡ last ∷ [] = cond-true (keep (1 + i)) (last ∷ []) [] (ap keep id ∙ h) in
+    let id : i + 1 ≡ length cs = omega arith in
+    let one : kept keep (last ∷ []) ≡ last ∷ [] = cond-true (keep (i + 1)) (last ∷ []) [] (ap keep id ∙ h) in
     ap (λ (ks : Known). last_id (kept keep ks)) whole
     ∙ ap last_id (filter-append (λ (e : ℕ × List ℤ). keep e.0) before (last ∷ []) ∙ ap (λ (ks : Known). kept keep before ++ ks) one)
-    ∙ last_id-push (kept keep before) (1 + i) (get_or cs i [])
-    ∙ sym (ap last_id whole ∙ last_id-push before (1 + i) (get_or cs i []))
+    ∙ last_id-push (kept keep before) (i + 1) (get_or cs i [])
+    ∙ sym (ap last_id whole ∙ last_id-push before (i + 1) (get_or cs i []))
 
 -- where there is no clause with an id, none is kept
 kept-none : (keep : ℕ → Bool) (known : Known) (id : ℕ) → clause_of known id ≡ None → clause_of (kept keep known) id ≡ None
@@ -176,6 +181,7 @@ kept-none keep known id none = by (cases_Bool (keep id))
 
 -- ---- the whole derivation
 
+-- and the clauses of steps behind both
 alike-steps : (keep : ℕ → Bool) (a b : Known) (steps : List Step) → AreAlike keep a b → AreAlike keep (behind_steps a steps) (behind_steps b steps)
 alike-steps keep a b [] same = subst (λ (x : Known). AreAlike keep x (b ++ [])) (sym (append-nil a)) (subst (AreAlike keep a) (sym (append-nil b)) same)
 alike-steps keep a b (s ∷ ss) same =
@@ -184,10 +190,12 @@ alike-steps keep a b (s ∷ ss) same =
     subst (λ (x : Known). AreAlike keep x (b ++ (step ++ rest))) (append_assoc a step rest)
     (subst (AreAlike keep ((a ++ step) ++ rest)) (append_assoc b step rest) (alike-steps keep (a ++ step) (b ++ step) ss (alike-push keep a b s.id s.lits same)))
 
+-- tests that agree on each literal agree on a clause
 list_all-same : (p q : ℤ → Bool) (xs : List ℤ) → ((x : ℤ) → p x ≡ q x) → list_all p xs ≡ list_all q xs
 list_all-same p q [] same = refl
 list_all-same p q (x ∷ xs) same = ap (λ t. t && list_all p xs) (same x) ∙ ap (λ t. q x && t) (list_all-same p q xs same)
 
+-- so a goal is refused for the same
 goal-same : (p q : ℤ → Bool) (o : Option (List ℤ)) → ((x : ℤ) → p x ≡ q x)
     → option_map_or (λ c. if list_all p c then None else Some NotRefuting) o (Some UnknownClause)
     ≡ option_map_or (λ c. if list_all q c then None else Some NotRefuting) o (Some UnknownClause)
@@ -198,11 +206,11 @@ goal-same p q (Some c) same = ap (λ t. cond t None (Some NotRefuting)) (list_al
 pub derivation-alike : (keep : ℕ → Bool) (vars : ℕ) (some : Known) (clauses : List (List ℤ)) (p q : ℤ → Bool) (d : Derivation)
     → AreAlike keep some (numbered 1 clauses) → AllByRecursion (λ (s : Step). AllByRecursion (λ h. keep h ≡ true) s.hints) d.steps → keep d.goal ≡ true
     → ((x : ℤ) → p x ≡ q x)
-    → option_or (steps_refusal vars some 0 d.steps) (at_line (length d.steps) (goal_refusal (behind_steps some d.steps) p d.goal))
+    → option_or (steps_refusal vars some 0 d.steps) (at_line (length d.steps) (goal_within_refusal (behind_steps some d.steps) p d.goal))
     ≡ derivation_refusal vars clauses q d
 derivation-alike keep vars some clauses p q d same hints goal pointwise =
     let all = alike-steps keep some (numbered 1 clauses) d.steps same in
-    ap (λ (w : Option (ℕ × Why)). option_or w (at_line (length d.steps) (goal_refusal (behind_steps some d.steps) p d.goal)))
+    ap (λ (w : Option (ℕ × Why)). option_or w (at_line (length d.steps) (goal_within_refusal (behind_steps some d.steps) p d.goal)))
     (steps-alike keep vars some (numbered 1 clauses) 0 d.steps same hints)
     ∙ ap (λ (w : Option Why). option_or (steps_refusal vars (numbered 1 clauses) 0 d.steps) (at_line (length d.steps) w))
     (ap (λ (o : Option (List ℤ)). option_map_or (λ c. if list_all p c then None else Some NotRefuting) o (Some UnknownClause)) (all.clauses d.goal goal)
@@ -214,6 +222,7 @@ derivation-alike keep vars some clauses p q d same hints goal pointwise =
 abbrev pub keeps : ℕ → ℕ → List ℕ → ℕ → Bool
 keeps first last named id = (nat_le id first || has named id) || nat_lt last id
 
+-- no clause has an id above all
 above-none : (cs : List (List ℤ)) (from id : ℕ) → from + length cs ≤ id → clause_of (numbered from cs) id ≡ None
 above-none [] from id le = refl
 above-none (c ∷ cs) from id le =
@@ -247,7 +256,7 @@ named-alike first cs d named h = record { clauses = same; last = last-kept keep 
 
 -- an id in the range is kept where it is named
 pub within-kept : (first last : ℕ) (named ids : List ℕ) (id : ℕ) → has ids id ≡ true
-    → (has (within first last ids) id ≡ true → has named id ≡ true) → keeps first last named id ≡ true
+    → (has (ids_within first last ids) id ≡ true → has named id ≡ true) → keeps first last named id ≡ true
 within-kept first last named ids id there names =
     elim (cases_lt first id) [
       | inr low ↦
@@ -262,16 +271,18 @@ within-kept first last named ids id there names =
           ]
     ]
 
+-- the clauses of hints are kept if each in the range is named
 hints-kept : (first last : ℕ) (named all hints : List ℕ) → ((id : ℕ) → has hints id ≡ true → has all id ≡ true)
-    → ((id : ℕ) → has (within first last all) id ≡ true → has named id ≡ true) → AllByRecursion (λ h. keeps first last named h ≡ true) hints
+    → ((id : ℕ) → has (ids_within first last all) id ≡ true → has named id ≡ true) → AllByRecursion (λ h. keeps first last named h ≡ true) hints
 hints-kept first last named all [] part names = tt
 hints-kept first last named all (x ∷ xs) part names = (
   within-kept first last named all x (part x (has-head x xs)) (names x),
   hints-kept first last named all xs (λ id inside. part id (or_right (eqb x id) (has xs id) inside)) names,
 )
 
+-- and so are those of all steps
 pub steps-kept : (first last : ℕ) (named : List ℕ) (steps : List Step)
-    → ((s : Step) (id : ℕ) → In s steps → has (within first last s.hints) id ≡ true → has named id ≡ true)
+    → ((s : Step) (id : ℕ) → In s steps → has (ids_within first last s.hints) id ≡ true → has named id ≡ true)
     → AllByRecursion (λ (s : Step). AllByRecursion (λ h. keeps first last named h ≡ true) s.hints) steps
 steps-kept first last named [] names = tt
 steps-kept first last named (s ∷ ss) names = (
@@ -282,7 +293,7 @@ steps-kept first last named (s ∷ ss) names = (
 -- so what is told over the clauses that a derivation names is told over all of them
 pub named-derivation : (first vars : ℕ) (some : Known) (clauses : List (List ℤ)) (p q : ℤ → Bool) (d : Derivation) (named : List ℕ)
     → AreNamed first (length clauses) d named → some ≡ kept_of first named clauses → ((x : ℤ) → p x ≡ q x)
-    → option_or (steps_refusal vars some 0 d.steps) (at_line (length d.steps) (goal_refusal (behind_steps some d.steps) p d.goal))
+    → option_or (steps_refusal vars some 0 d.steps) (at_line (length d.steps) (goal_within_refusal (behind_steps some d.steps) p d.goal))
     ≡ derivation_refusal vars clauses q d
 named-derivation first vars some clauses p q d named h is pointwise =
     let last = length clauses in

@@ -65,19 +65,19 @@ TellsKept kept ending (No line why) = Unit {0}
 
 -- what an ending shows: nothing; that the sets of the records are exactly all minimal conflicts and all minimal corrections; or
 -- that each minimal set of a kind with at most so many groups is among them
-abbrev pub Shows : Problem → List Record → End (Unit {0}) → Type 0
-Shows p records ends.Partial = Unit {0}
-Shows p records (ends.Complete x) = AreExactlyAll p records
-Shows p records (ends.Level kind most x) = HoldsUpTo p records kind most
+abbrev pub EndShows : Problem → List Record → End (Unit {0}) → Type 0
+EndShows p records ends.Partial = Unit {0}
+EndShows p records (ends.Complete x) = AreExactlyAll p records
+EndShows p records (ends.Level kind most x) = HoldsUpTo p records kind most
 
 abbrev pub TellsAll : Problem → Audited → Type 0
-TellsAll p (Yes shown records) = Shows p records shown
+TellsAll p (Yes shown records) = EndShows p records shown
 TellsAll p (No line why) = Unit {0}
 
 -- evidence shows what its ending says, whoever wrote it
 abbrev pub EndingIsShown : Type 0
 EndingIsShown =
-    (p : Problem) (text : List ℕ) (records : List Record) (shown : End (Unit {0})) → IsProblem p → AuditYes p text records shown → Shows p records shown
+    (p : Problem) (text : List ℕ) (records : List Record) (shown : End (Unit {0})) → IsProblem p → AuditYes p text records shown → EndShows p records shown
 
 -- a text is refused for nothing exactly where it is within the limit and shows what it says, with some records
 abbrev pub NoneIsYes : Type 0

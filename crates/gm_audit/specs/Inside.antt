@@ -1,5 +1,5 @@
 -- What an audit keeps from record to record.
-use Rattle.std.specs.Prelude.{◌≡◌, ℕ, ◌-◌, ◌≤◌, ◌<◌, ◌^◌, ◌&&◌, ◌||◌, Bool, true, false, List, [], ◌∷◌, ◌++◌, map, nat_le, nat_lt, ℤ, slice_index_or, Option, Some, None}
+use Rattle.std.specs.Prelude.{◌≡◌, ℕ, ◌-◌, ◌≤◌, ◌<◌, ◌^◌, ◌&&◌, ◌||◌, Bool, true, false, List, [], ◌∷◌, ◌++◌, length, map, nat_le, nat_lt, ℤ, slice_index_or, Option, Some, None}
 use Rattle.std.specs.Ordering.{int_eq}
 use Rattle.sat_base.specs.Members.{In}
 use Rattle.std.specs.List.{filter}
@@ -38,29 +38,33 @@ HasLiterals groups found (ends.Complete d) = Unit {0}
 HasLiterals groups found (ends.Level kind most d) = level_vars (level kind groups most found) < 2 ^ 31
 
 -- a clause is kept that is among the first so many, or whose id is named
-abbrev pub is_kept : ℕ → List ℕ → ℕ × List ℤ → Bool
-is_kept first named clause = nat_le clause.0 first || has named clause.0
+abbrev pub is_given : ℕ → List ℕ → ℕ × List ℤ → Bool
+is_given first named clause = nat_le clause.0 first || has named clause.0
 
 -- of clauses with the ids from 1 on these
 abbrev pub kept_of : ℕ → List ℕ → List (List ℤ) → List (ℕ × List ℤ)
-kept_of first named clauses = filter (is_kept first named) (numbered 1 clauses)
+kept_of first named clauses = filter (is_given first named) (numbered 1 clauses)
 
 -- the id and the clause that has it, of clauses behind so many others
-abbrev pub behind : ℕ → List (List ℤ) → ℕ → ℕ × List ℤ
-behind first clauses id = (id, slice_index_or clauses (id - first - 1) [])
+abbrev pub clause_behind : ℕ → List (List ℤ) → ℕ → ℕ × List ℤ
+clause_behind first clauses id = (id, slice_index_or clauses (id - first - 1) [])
 
 -- the ids above the first so many and up to the last
-abbrev pub within : ℕ → ℕ → List ℕ → List ℕ
-within first last ids = filter (λ id. nat_lt first id && nat_le id last) ids
+abbrev pub ids_within : ℕ → ℕ → List ℕ → List ℕ
+ids_within first last ids = filter (λ id. nat_lt first id && nat_le id last) ids
 
 -- of the ids above the first so many and up to the last these are those that hints or the goal name, and the last one; each once,
 -- and they ascend
 pub record AreNamed (first last : ℕ) (d : Derivation) (named : List ℕ) : Type 0 where
   pub ascend : AscendsAbove first named
-  pub hints : (s : Step) (id : ℕ) → In s d.steps → has (within first last s.hints) id ≡ true → has named id ≡ true
-  pub goal : (id : ℕ) → has (within first last (d.goal ∷ [])) id ≡ true → has named id ≡ true
+  pub hints : (s : Step) (id : ℕ) → In s d.steps → has (ids_within first last s.hints) id ≡ true → has named id ≡ true
+  pub goal : (id : ℕ) → has (ids_within first last (d.goal ∷ [])) id ≡ true → has named id ≡ true
   pub last_is : first < last → has named last ≡ true
   pub up_to : (id : ℕ) → has named id ≡ true → id ≤ last
+
+-- of clauses with the ids from 1 on the first so many were given, and of the others those that a derivation names
+abbrev pub AreGiven : ℕ → List (List ℤ) → Derivation → List (ℕ × List ℤ) → Type 0
+AreGiven first clauses d known = (named : List ℕ) × AreNamed first (length clauses) d named × (known ≡ kept_of first named clauses)
 
 -- clauses, and those of steps behind them
 abbrev pub behind_steps : List (ℕ × List ℤ) → List Step → List (ℕ × List ℤ)

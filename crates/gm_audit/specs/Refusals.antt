@@ -78,29 +78,33 @@ records_refusal p earlier [] = None
 records_refusal p earlier (r ∷ rs) = option_or (placed_refusal p earlier r) (records_refusal p (earlier ++ r.kept ∷ []) rs)
 
 -- a goal has to name a clause that has no other literals
-abbrev pub goal_refusal : List (ℕ × List ℤ) → (ℤ → Bool) → ℕ → Option Why
-goal_refusal known allowed goal = option_map_or (λ c. if list_all allowed c then None else Some NotRefuting) (clause_of known goal) (Some UnknownClause)
+abbrev pub goal_within_refusal : List (ℕ × List ℤ) → (ℤ → Bool) → ℕ → Option Why
+goal_within_refusal known allowed goal = option_map_or (λ c. if list_all allowed c then None else Some NotRefuting) (clause_of known goal) (Some UnknownClause)
 
 -- a derivation has to derive such a clause from these, over so many variables: its first line, counted from 0, that is refused
 abbrev pub derivation_refusal : ℕ → List (List ℤ) → (ℤ → Bool) → Derivation → Option (ℕ × Why)
 derivation_refusal vars clauses allowed d =
     option_or
     (steps_refusal vars (numbered 1 clauses) 0 d.steps)
-    (at_line (length d.steps) (goal_refusal (all_known clauses d.steps) allowed d.goal))
+    (at_line (length d.steps) (goal_within_refusal (all_known clauses d.steps) allowed d.goal))
 
 -- a closing part has to derive the empty clause from the block clauses
 abbrev pub closing_refusal : ℕ → List Found → Derivation → Option (ℕ × Why)
 closing_refusal groups found d = derivation_refusal groups (map block_clause found) (λ l. false) d
 
 -- that of a level has to derive "more than its bound count" from these and from the counter
-abbrev pub level_refusal : Level → List Found → Derivation → Option (ℕ × Why)
-level_refusal l found d = derivation_refusal (level_vars l) (level_clauses l found) (is_more l) d
+abbrev pub refusal_at : Level → List Found → Derivation → Option (ℕ × Why)
+refusal_at l found d = derivation_refusal (level_vars l) (level_clauses l found) (is_more l) d
+
+-- the level at which at most so many groups count
+abbrev pub level_refusal : Kind → ℕ → ℕ → List Found → Derivation → Option (ℕ × Why)
+level_refusal kind groups most found d = refusal_at (level kind groups most found) found d
 
 -- what stands behind these records
 abbrev pub ending_refusal : Problem → List Record → Ending → Option Offence
 ending_refusal p records (Ok (line, ends.Partial)) = None
 ending_refusal p records (Ok (line, ends.Complete d)) = in_text line (closing_refusal p.groups (founds records) d)
-ending_refusal p records (Ok (line, ends.Level kind most d)) = in_text line (level_refusal (level kind p.groups most (founds records)) (founds records) d)
+ending_refusal p records (Ok (line, ends.Level kind most d)) = in_text line (level_refusal kind p.groups most (founds records) d)
 ending_refusal p records (Err o) = Some o
 
 abbrev pub kept_in : List Placed → List Record

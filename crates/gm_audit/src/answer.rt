@@ -10,10 +10,7 @@ use lrat_check::Why;
 #[derive(Drop)]
 pub enum Audited {
     /// Nothing is refused: which ending it has, and its records, in their order.
-    Yes {
-        ending: End<()>,
-        records: Records,
-    },
+    Yes { ending: End<()>, records: Records },
     /// The first refusal: its line, from 1, or 0 where the text is too long.
     No { line: u64, why: Why },
 }

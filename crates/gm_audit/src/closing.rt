@@ -19,8 +19,8 @@ ghost use Rattle.lrat_check.specs.Refusal.{last_id};
 ghost use Rattle.size_counter.specs.Counter.{IsOrder};
 ghost use Rattle.size_counter.specs.Levels.{level, level_counter, level_vars};
 ghost use Rattle.size_levels.specs.Shown.{is_more, level_clauses};
-ghost use Rattle.gm_audit.specs.Inside.{behind, behind_steps, may_have, kept_of, AreNamed, IsLevelOf};
-ghost use Rattle.gm_audit.specs.Refusals.{in_text, goal_refusal, closing_refusal, level_refusal};
+ghost use Rattle.gm_audit.specs.Inside.{clause_behind, behind_steps, may_have, AreGiven, IsLevelOf};
+ghost use Rattle.gm_audit.specs.Refusals.{in_text, goal_within_refusal, closing_refusal, level_refusal};
 
 use crate::named::named_ids;
 use evidence_rec::{Record, Records, Verdict, block_lits, steps_verdict};
@@ -59,7 +59,7 @@ pub fn level_offence(
 ) -> Result<Option<Offence>, AllocError>
     requires accepted { AllAccepted problem.now records.now }
     requires literals { level_vars (level kind problem.now.groups most (founds records.now)) < 2 ^ 31 }
-    ensures { IfOk result (λ refusal. refusal ≡ in_text line (level_refusal (level kind problem.now.groups most (founds records.now)) (founds records.now) proof.now)) }
+    ensures { IfOk result (λ refusal. refusal ≡ in_text line (level_refusal kind problem.now.groups most (founds records.now) proof.now)) }
 {
     let level = level_of(alloc, kind, problem.groups(), most, records.as_slice())?;
     let mut checker = level_checker(alloc, problem, records, &level, proof)?;
@@ -86,7 +86,7 @@ fn proof_verdict(
 ) -> Result<Verdict, AllocError>
     ensures { IfOk result (λ verdict. refusal_by verdict
         ≡ option_or (steps_refusal checker.old.vars checker.old.known 0 proof.now.steps)
-        (at_line (length proof.now.steps) (goal_refusal (behind_steps checker.old.known proof.now.steps) (may_have more) proof.now.goal))) }
+        (at_line (length proof.now.steps) (goal_within_refusal (behind_steps checker.old.known proof.now.steps) (may_have more) proof.now.goal))) }
 {
     // This also tells that no clause is but the given ones.
     let _inputs = checker.inputs();
@@ -114,7 +114,7 @@ pub fn offence_of(line: u64, verdict: Verdict) -> Result<Option<Offence>, AllocE
 
 // Why a goal is refused: it has to name a clause with no other literal than this one.
 fn goal_refusal(checker: &Checker, more: Option<Lit>, goal: u64) -> Option<Why>
-    ensures { result ≡ goal_refusal checker.now.known (may_have more) goal }
+    ensures { result ≡ goal_within_refusal checker.now.known (may_have more) goal }
 {
     let Some(clause) = checker.clause(goal) else {
         return Some(Why::UnknownClause);
@@ -175,8 +175,7 @@ fn level_checker(
     requires level { IsLevelOf problem.now (founds records.now) level.now }
     requires literals { level_vars level.now < 2 ^ 31 }
     ensures vars { IfOk result (λ checker. checker.vars ≡ level_vars level.now) }
-    ensures known { IfOk result (λ checker. (named : List ℕ) × AreNamed (length records.now) (length (level_clauses level.now (founds records.now))) proof.now named
-        × (checker.known ≡ kept_of (length records.now) named (level_clauses level.now (founds records.now)))) }
+    ensures known { IfOk result (λ checker. AreGiven (length records.now) (level_clauses level.now (founds records.now)) proof.now checker.known) }
 {
     let vars = level.vars().unwrap();
     let mut checker = block_checker(alloc, problem, vars, records)?;
@@ -201,7 +200,7 @@ fn add_named(
     requires last { last_id checker.old.known ≡ first }
     requires ascend { AscendsAbove first named.now }
     requires within { (id : ℕ) → has named.now id ≡ true → id ≤ first + length (level_counter level.now) }
-    ensures added { OnOk result (checker.new.known ≡ checker.old.known ++ map (behind first (level_counter level.now)) named.now) }
+    ensures added { OnOk result (checker.new.known ≡ checker.old.known ++ map (clause_behind first (level_counter level.now)) named.now) }
     ensures vars { checker.new.vars ≡ checker.old.vars }
 {
     for id in named {

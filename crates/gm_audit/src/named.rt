@@ -1,7 +1,7 @@
 //! The clauses that a derivation names, of those with ids in a range.
 ghost use Rattle.std.specs.Prelude.{◌≡◌, ◌∷◌, ◌++◌, [], IfOk, OnOk};
 ghost use Rattle.sat_base.specs.Hints.{ids_of};
-ghost use Rattle.gm_audit.specs.Inside.{within, AreNamed};
+ghost use Rattle.gm_audit.specs.Inside.{ids_within, AreNamed};
 
 use gm_base::{Derivation, Hints};
 use std::alloc::{AllocError, Global};
@@ -33,7 +33,7 @@ fn push_hints(
     first: u64,
     last: u64,
 ) -> Result<(), AllocError>
-    ensures { OnOk result (named.new.items ≡ named.old.items ++ within first last (ids_of hints.entry)) }
+    ensures { OnOk result (named.new.items ≡ named.old.items ++ ids_within first last (ids_of hints.entry)) }
 {
     for at in 0..hints.len() {
         push_within(named, hints.at(at), first, last)?;
@@ -43,7 +43,7 @@ fn push_hints(
 
 // An id, where it is in the range.
 fn push_within(named: &mut Vec<u64>, id: u64, first: u64, last: u64) -> Result<(), AllocError>
-    ensures { OnOk result (named.new.items ≡ named.old.items ++ within first last (id ∷ [])) }
+    ensures { OnOk result (named.new.items ≡ named.old.items ++ ids_within first last (id ∷ [])) }
 {
     if first < id && id <= last {
         named.push(id)?;

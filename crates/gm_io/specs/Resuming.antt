@@ -5,7 +5,7 @@ use Rattle.evidence_rec.specs.declared.record.Record.{Record}
 use Rattle.evidence_rec.specs.Records.{AllAccepted}
 use Rattle.evidence_rec.specs.Held.{AreNew}
 use Rattle.evidence_text.specs.declared.end.End.{End}
-use Rattle.gm_audit.specs.Audits.{AuditYes, Shows}
+use Rattle.gm_audit.specs.Audits.{AuditYes, EndShows}
 use Rattle.gm_audit.specs.Refusals.{first_refusal}
 use Rattle.gm_io.specs.Input.{OfFile}
 
@@ -16,7 +16,7 @@ pub record AreShown (p : Problem) (held : Option (Option (List ℕ))) (end : End
   pub is_held : OfFile held (λ t. t ≡ text)
   pub unrefused : first_refusal p text ≡ None
   pub shown : AuditYes p text records end
-  pub all : Shows p records end
+  pub all : EndShows p records end
 
 -- a listing goes on from the records of the evidence that is named, or from none
 abbrev pub GoesOnFrom : Problem → Option (List ℕ) → (List ℕ → Option (Option (List ℕ))) → End (Unit {0}) → List Record → Type 0

@@ -6,7 +6,7 @@ use Rattle.gm_base.specs.Sets.{AscendsAbove}
 use Rattle.gm_base.proofs.SetLemmas.{AscendsAbove-at}
 use Rattle.lrat_check.specs.Refusal.{last_id}
 use Rattle.size_counter.specs.Levels.{level_counter, level_vars}
-use Rattle.gm_audit.specs.Inside.{behind}
+use Rattle.gm_audit.specs.Inside.{clause_behind}
 use Rattle.gm_audit.proofs.ClosingLemmas.{named-has, got-over, behind-next, ahead-now, ahead-next}
 use Rattle.gm_audit.proofs.closing.add_named.Goals as goal
 
@@ -73,5 +73,5 @@ loop-id-preserved c =
 pub returns-clause-added : goal.returns-clause-added
 returns-clause-added c =
     c.loop-id.invariant.known
-    ∙ ap (λ (ids : List ℕ). c.args.checker.now.known ++ map (behind c.args.first (level_counter c.args.level.now)) ids)
+    ∙ ap (λ (ids : List ℕ). c.args.checker.now.known ++ map (clause_behind c.args.first (level_counter c.args.level.now)) ids)
     (take_all c.loop-id.id-index c.args.named.now (omega (arith, c.loop-id-test.false)))

@@ -4,7 +4,7 @@ use Rattle.gm_base.specs.Sets.{has, AscendsAbove}
 use Rattle.lrat_check.specs.Refusal.{last_id}
 use Rattle.lrat_check.proofs.KnownLemmas.{last_id-numbered}
 use Rattle.size_counter.specs.Levels.{Level, level_counter, level_vars}
-use Rattle.gm_audit.specs.Inside.{behind}
+use Rattle.gm_audit.specs.Inside.{clause_behind}
 use Rattle.gm_audit.proofs.BlocksLemmas.{blocks, length-blocks}
 use Rattle.gm_audit.proofs.ClosingLemmas.{level-has_groups, named-vars, named-some, some-same, level-ordered, kept-given}
 use Rattle.gm_audit.proofs.closing.level_checker.Goals as goal
@@ -66,4 +66,4 @@ returns-clause-known c =
     kept-given c.args.records.now l c.args.proof.now first c.in_ok-last.last c.in_ok-named.named.items c.in_ok-checker.checker.known
     c.add_named.new.checker.known c.len-first.ensures end c.in_ok-named.ensures c.in_ok-checker.ensures.known
     (c.in_ok-add_named.ensures.added
-    ∙ ap (λ (ids : List ℕ). c.in_ok-checker.checker.known ++ map (behind first (level_counter l)) ids) c.as_slice.ensures.value)
+    ∙ ap (λ (ids : List ℕ). c.in_ok-checker.checker.known ++ map (clause_behind first (level_counter l)) ids) c.as_slice.ensures.value)

@@ -11,7 +11,7 @@ use Rattle.size_levels.specs.Sizes.{AreSetsOf}
 use Rattle.size_levels.specs.Shown.{is_more, level_clauses}
 use Rattle.size_levels.proofs.LevelLemmas.{accepted-within}
 use Rattle.gm_audit.specs.Inside.{behind_steps, may_have}
-use Rattle.gm_audit.specs.Refusals.{in_text, goal_refusal, level_refusal}
+use Rattle.gm_audit.specs.Refusals.{in_text, goal_within_refusal, refusal_at}
 use Rattle.gm_audit.proofs.SomeLemmas.{named-derivation}
 use Rattle.gm_audit.proofs.closing.level_offence.Goals as goal
 
@@ -54,9 +54,9 @@ returns c =
     let some = c.in_ok-checker.ensures.known in
     let is = c.in_ok-level.ensures
     ∙ ap₂ (λ (n : ℕ) (qs : List Record). level c.args.kind n c.args.most (founds qs)) c.groups.ensures.count c.as_slice.ensures in
-    let goal_why : Option (ℕ × Why) = at_line (length d.steps) (goal_refusal (behind_steps known d.steps) (may_have c.more_of.result) d.goal) in
+    let goal_why : Option (ℕ × Why) = at_line (length d.steps) (goal_within_refusal (behind_steps known d.steps) (may_have c.more_of.result) d.goal) in
     let verdict = c.in_ok-verdict.ensures
     ∙ ap (λ (vars : ℕ). option_or (steps_refusal vars known 0 d.steps) goal_why) c.in_ok-checker.ensures.vars
     ∙ named-derivation (length rs) (level_vars l) known (level_clauses l (founds rs)) (may_have c.more_of.result) (is_more l) d some.0 some.1 some.2 c.more_of.ensures
-    ∙ ap (λ (x : Level). level_refusal x (founds rs) d) is in
+    ∙ ap (λ (x : Level). refusal_at x (founds rs) d) is in
     subst (λ (why : Option (ℕ × Why)). IfOk c.offence_of.result (λ refusal. refusal ≡ in_text c.args.line why)) verdict c.offence_of.ensures
