@@ -47,11 +47,13 @@ Ascends-minimal : (p : Problem) (kind : Kind) → Ascends (minimal_sets p kind)
 Ascends-minimal p Conflict = Ascends-conflicts p
 Ascends-minimal p Correction = Ascends-corrections p
 
+-- the sets of a kind that distinct accepted records have are the minimal ones that they hold
 same-of_kind : (p : Problem) (kind : Kind) (records : List Record) → IsProblem p → AllAccepted p records → AreNew [] records
     → SameSets (sets_of_kind records kind) (filter (is_held records kind) (minimal_sets p kind))
 same-of_kind p Conflict records ok accepted new = SameSets-held p Conflict records ok accepted new
 same-of_kind p Correction records ok accepted new = SameSets-held p Correction records ok accepted new
 
+-- with each minimal set of a kind with few groups held, the text of the records' sets is that of the minimal ones
 pub least_report-from : (p : Problem) (kind : Kind) (most : ℕ) (records : List Record) (text : List ℕ) → IsProblem p → AllAccepted p records → AreNew [] records
     → HoldsUpTo p records kind most → IsLeastReportOf p.groups most kind (sets_of_kind records kind) text
     → text ≡ least_text p.groups most kind (minimal_sets p kind)

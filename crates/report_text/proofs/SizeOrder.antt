@@ -18,6 +18,7 @@ abbrev Rises : List (List ℕ) → Type 0
 Rises [] = Unit {0}
 Rises (x ∷ xs) = AreAbove (length x) xs × Rises xs
 
+-- what is above a size is above each lesser one
 above-lower : (low high : ℕ) (xs : List (List ℕ)) → low ≤ high → AreAbove high xs → AreAbove low xs
 above-lower low high [] le above = tt
 above-lower low high (x ∷ xs) le above = let first = above.0 in (omega arith, above-lower low high xs le above.1)
@@ -83,10 +84,12 @@ by_size-alike (suc most) xs ys same = ap₂ (λ (a b : List (List ℕ)). a ++ b)
 abbrev size_of : Bor (List ℕ) → ℕ
 size_of x = length x.now
 
+-- as far as each of the lent sets says so
 above-from : (low : ℕ) (xs : List (Bor (List ℕ))) → ((j : ℕ) (d : Bor (List ℕ)) → j < length xs → low ≤ size_of (get_or xs j d)) → AreAbove low (lists_of xs)
 above-from low [] h = tt
 above-from low (x ∷ xs) h = (h 0 x (omega arith), above-from low xs (λ j d lt. h (suc j) d (omega arith)))
 
+-- sizes that do not fall from place to place rise
 rises-from : (xs : List (Bor (List ℕ))) → IsNonDecreasingBy size_of xs → Rises (lists_of xs)
 rises-from [] up = tt
 rises-from (x ∷ xs) up =
@@ -123,6 +126,7 @@ same-by {X} test xs ys h = by (filter test xs) (filter test ys) refl refl
     by [] (y ∷ news) p q = h y (first-passes test ys y news q)
     by (x ∷ olds) news p q = h x (first-passes test xs x olds p)
 
+-- the order of numbers says less just where the test does
 less-is : (a b : ℕ) → is_lt (nat_cmp a b) ≡ ltb a b
 less-is a b = by (ltb a b) (eqb a b)
   where

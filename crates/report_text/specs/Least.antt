@@ -8,15 +8,15 @@ use Rattle.report_text.specs.Report.{set_line}
 use Rattle.size_levels.specs.Sizes.{by_size}
 
 -- the letter before a set of this kind
-abbrev pub letter_of : Kind → List ℕ
-letter_of Conflict = codes "u"
-letter_of Correction = codes "m"
+abbrev pub kind_letter : Kind → List ℕ
+kind_letter Conflict = codes "u"
+kind_letter Correction = codes "m"
 
 -- the number of groups, a word with a number that says how far the list goes, a line for each set, and how many they are
 abbrev pub sized_text : ℕ → List ℕ → ℕ → Kind → List (List ℕ) → List ℕ
 sized_text groups word size kind sets =
     codes "p least " ++ decimal groups ++ codes "\ns " ++ word ++ codes " " ++ decimal size ++ codes "\n"
-    ++ flat_map (set_line (letter_of kind)) sets
+    ++ flat_map (set_line (kind_letter kind)) sets
     ++ codes "e " ++ decimal (length sets) ++ codes "\n"
 
 -- those with at most so many groups, smaller ones first, and those of one size in the order given

@@ -2,7 +2,7 @@
 ghost use Rattle.std.specs.Prelude.{◌≡◌, ◌++◌, codes, OnOk, IfOk, length};
 ghost use Rattle.std.specs.Fmt.{decimal};
 ghost use Rattle.gm_base.specs.Lent.{lists_of};
-ghost use Rattle.report_text.specs.Least.{letter_of, sized_text};
+ghost use Rattle.report_text.specs.Least.{kind_letter, sized_text};
 ghost use Rattle.report_text.specs.LeastReports.{IsLeastReportOf, IsPartialReportOf};
 
 use crate::order::in_order_of_size;
@@ -12,8 +12,8 @@ use std::alloc::{AllocError, Global};
 use token_text::put_number;
 
 /// The letter before a set of this kind.
-fn letter_of(kind: Kind) -> &'static str
-    ensures { result.now ≡ letter_of kind }
+fn kind_letter(kind: Kind) -> &'static str
+    ensures { result.now ≡ kind_letter kind }
 {
     match kind {
         Kind::Conflict => "u",
@@ -56,7 +56,7 @@ fn sized_text(
 {
     let mut out = Vec::new(alloc);
     push_limit(&mut out, groups, word, size)?;
-    push_sets(&mut out, letter_of(kind), sets)?;
+    push_sets(&mut out, kind_letter(kind), sets)?;
     push_count(&mut out, sets.len())?;
     Ok(out)
 }
