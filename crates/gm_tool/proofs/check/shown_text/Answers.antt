@@ -20,8 +20,8 @@ returns-in-Complete c =
     c.report_of-in-Complete.ensures
 
 -- no set of the kind with few groups is missing
-pub returns : goal.returns
-returns c =
+pub returns-in-Level : goal.returns-in-Level
+returns-in-Level c =
     IfOk-weaker _ _ _
     (λ (text : Vec ℕ Global) made. shown-level c.args.problem.now c.requires.0 c.args.records.now c.args.end c.groups-groups.ensures.well_formed c.requires.1 c.groups-groups.result
     c.groups-groups.ensures.count c.as_slice-records.result.now c.as_slice-records.ensures text.items c.in-Level.kind c.in-Level.most c.in-Level.is made)
