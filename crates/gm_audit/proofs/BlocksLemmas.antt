@@ -1,7 +1,7 @@
 -- The block clauses of records, one after another, and what closes them.
-use Rattle.std.proofs.Common.{◌≡◌, ℕ, zero, suc, ◌+◌, ◌<◌, ◌≤◌, true, false, List, [], ◌∷◌, ◌++◌, map, length, take, Option, Some, None, refl, sym, ◌∙◌, ap, subst, arith}
+use Rattle.std.proofs.Common.{◌≡◌, ℕ, ◌+◌, ◌<◌, ◌≤◌, true, false, List, [], ◌∷◌, ◌++◌, map, length, take, Option, Some, None, refl, sym, ◌∙◌, ap, subst, arith}
 use Rattle.std.specs.Prelude.{ℤ, Bool, cond, slice_get, if◌then◌else◌}
-use Rattle.std.specs.List.{list_all, AllByRecursion}
+use Rattle.std.specs.List.{list_all}
 use Rattle.std.specs.Option.{option_map_or}
 use Rattle.std.proofs.lemmas.Bool.{false≢true, and_parts, and_from}
 use Rattle.std.proofs.lemmas.List.{take_all, length-map, get_or-map}
@@ -10,7 +10,7 @@ use Rattle.sat_base.specs.Derivation.{Derivation, numbered, clause_of, all_known
 use Rattle.gm_base.specs.Sets.{IsSubset, all_groups}
 use Rattle.gm_base.proofs.SetLemmas.{all_groups-has, has-all_groups}
 use Rattle.gm_base.specs.Problem.{Problem}
-use Rattle.gm_base.specs.Explored.{Found, block_clause}
+use Rattle.gm_base.specs.Explored.{block_clause}
 use Rattle.lrat_check.specs.declared.why.Why.{Why}
 use Rattle.lrat_check.specs.declared.why.Why.TheVariants.{UnknownClause, NotRefuting}
 use Rattle.lrat_check.proofs.KnownLemmas.{length-numbered, numbered_next, last_id-numbered}

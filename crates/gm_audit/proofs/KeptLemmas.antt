@@ -1,6 +1,6 @@
 -- What an audit keeps with one more record.
-use Rattle.std.proofs.Common.{◌≡◌, ℕ, Bool, true, false, List, [], ◌∷◌, ◌++◌, Option, Some, None, refl, sym, ◌∙◌, ap, subst, append_assoc, append-nil}
-use Rattle.gm_base.specs.Sets.{has, IsSubset, all_groups}
+use Rattle.std.proofs.Common.{◌≡◌, ℕ, false, List, [], ◌∷◌, ◌++◌, Option, Some, None, refl, sym, ◌∙◌, ap, subst, append_assoc, append-nil}
+use Rattle.gm_base.specs.Sets.{IsSubset, all_groups}
 use Rattle.gm_base.specs.declared.kind.Kind.{Kind}
 use Rattle.gm_base.specs.Problem.{Problem}
 use Rattle.lrat_check.specs.declared.why.Why.{Why}

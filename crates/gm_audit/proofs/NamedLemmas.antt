@@ -1,5 +1,5 @@
 -- The ids that a derivation names, put in order, and the clauses that have them.
-use Rattle.std.proofs.Common.{◌≡◌, ℕ, zero, suc, ◌+◌, ◌-◌, ◌<◌, ◌≤◌, Bool, true, false, ◌&&◌, ◌||◌, eqb, nat_cmp, List, [], ◌∷◌, ◌++◌, length, map, take, get_or, Some, sym, refl, ◌∙◌, ap, ap₂, subst, ◌⊎◌, inl, inr, arith}
+use Rattle.std.proofs.Common.{◌≡◌, ℕ, suc, ◌+◌, ◌-◌, ◌<◌, ◌≤◌, Bool, true, false, ◌&&◌, ◌||◌, eqb, nat_cmp, List, [], ◌∷◌, ◌++◌, length, map, take, get_or, Some, sym, refl, ◌∙◌, ap, ap₂, subst, ◌⊎◌, inl, inr, arith}
 use Rattle.std.specs.Prelude.{ℤ, All, Contains, nat_lt, nat_le, slice_get}
 use Rattle.std.specs.List.{AllPairs, dedup, filter, flat_map}
 use Rattle.std.specs.List.Retain.{IsFiltered, DiffersFromLast}

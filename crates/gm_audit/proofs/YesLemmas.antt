@@ -1,12 +1,10 @@
 -- Nothing is refused exactly where a text shows what it says.
 use Rattle.std.proofs.Common.{◌≡◌, ◌↔◌, ◌⊎◌, ℕ, zero, suc, ◌+◌, ◌^◌, ◌<◌, ◌≤◌, Bool, true, false, List, [], ◌∷◌, ◌++◌, map, length, Option, Some, None, refl, sym, ◌∙◌, ap, subst, inl, inr, arith, cond, append_assoc, append-nil, length-append}
-use Rattle.std.specs.Prelude.{nat_lt, if◌then◌else◌, Result, Ok, Err}
+use Rattle.std.specs.Prelude.{nat_lt, Result, Ok, Err}
 use Rattle.std.specs.List.{AllByRecursion, flat_map}
 use Rattle.std.specs.Option.{option_or}
 use Rattle.std.proofs.lemmas.Bool.{cases_Bool, le-ltb, ltb-false}
-use Rattle.std.proofs.lemmas.List.Elements.{All-from_recursion}
-use Rattle.sat_base.specs.Derivation.{Derivation, HasIds, max_id}
-use Rattle.gm_base.specs.Sets.{IsGroupSet}
+use Rattle.sat_base.specs.Derivation.{Derivation, max_id}
 use Rattle.gm_base.specs.Problem.{Problem}
 use Rattle.gm_base.specs.Explored.{Found, block_clause}
 use Rattle.gm_base.specs.declared.kind.Kind.{Kind}
@@ -14,15 +12,14 @@ use Rattle.gm_base.specs.declared.kind.Kind.TheVariants as kinds
 use Rattle.lrat_check.specs.declared.why.Why.{Why}
 use Rattle.lrat_check.specs.declared.why.Why.TheVariants.{Truncated, TooLong, RepeatedSet}
 use Rattle.evidence_rec.specs.declared.record.Record.{Record}
-use Rattle.evidence_rec.specs.declared.record.Record.TheVariants.{Conflict, Correction}
-use Rattle.evidence_rec.specs.Records.{kind_of, set_of, found_of, founds, IsShaped, IsAccepted, AllAcceptedBehind, AllAccepted}
+use Rattle.evidence_rec.specs.Records.{kind_of, set_of, founds, IsAccepted, AllAcceptedBehind, AllAccepted}
 use Rattle.evidence_rec.specs.Refusals.{record_refusal}
 use Rattle.evidence_rec.specs.Held.{is_held, AreNew}
 use Rattle.evidence_rec.specs.Shorten.{shorten}
 use Rattle.evidence_rec.proofs.ShortenLemmas.{founds-shorten, length-shorten, new-shorten, accepted-shorten}
 use Rattle.evidence_rec.proofs.VerdictLemmas.{none-parts, accepts-from_none, none-from_accepts}
 use Rattle.evidence_text.specs.declared.version.Version.{Version}
-use Rattle.size_counter.specs.Levels.{Level, level, level_by, level_vars}
+use Rattle.size_counter.specs.Levels.{Level, level, level_vars}
 use Rattle.size_levels.specs.Shown.{level_clauses, is_more, shows_level}
 use Rattle.evidence_rec.specs.Seeding.{shows_all_explored}
 use Rattle.evidence_text.specs.declared.end.End.{End}
@@ -34,12 +31,12 @@ use Rattle.evidence_text.specs.declared.answer.Answer.TheVariants as answer
 use Rattle.evidence_text.specs.Text.{Line, head_line, record_lines, end_lines, evidence_text}
 use Rattle.evidence_text.specs.Lines.{lines_of, unended}
 use Rattle.evidence_text.specs.Reading.{Below, head_at, piece_at, offence}
-use Rattle.evidence_text.specs.Namings.{Namings, no_namings, naming_for, namings_of, also_record, also_records}
+use Rattle.evidence_text.specs.Namings.{Namings, no_namings, also_record, also_records}
 use Rattle.evidence_text.specs.Readable.{IsSmall, MayRefer, IsReadable, max_var, IsReadableLevel, IsReadableEndBy, IsReadableEnd, HasRecordIds}
 use Rattle.evidence_text.specs.Laws.{ReadsAll, IsRead, CanHold}
 use Rattle.evidence_text.proofs.StandsLemmas.{piece-stands, head-stands}
 use Rattle.evidence_text.proofs.AcceptedLemmas.{records-readable, closing-readable, level-readable, proof-wider, ids-shorten}
-use Rattle.evidence_text.proofs.NamingLemmas.{end-behind, end-of}
+use Rattle.evidence_text.proofs.NamingLemmas.{end-of}
 use Rattle.evidence_text.proofs.WholeLemmas.{text-is_read, texts-differ}
 use Rattle.gm_audit.specs.Refusals.{Contents, with_record, contents_by, contents_at, in_text, placed_refusal, records_refusal, ending_refusal, kept_in, contents_refusal, text_refusal, max_bytes, first_refusal}
 use Rattle.gm_audit.specs.Audits.{Closes, without_proof, AuditYes, CanClose}

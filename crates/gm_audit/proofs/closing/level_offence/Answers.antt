@@ -5,7 +5,6 @@ use Rattle.lrat_check.specs.declared.why.Why.{Why}
 use Rattle.evidence_rec.specs.declared.record.Record.{Record}
 use Rattle.evidence_rec.specs.Records.{founds}
 use Rattle.evidence_rec.specs.Refusals.{at_line, steps_refusal}
-use Rattle.evidence_rec.specs.Verdicts.{refusal_by}
 use Rattle.size_counter.specs.Levels.{Level, level, level_vars}
 use Rattle.size_levels.specs.Sizes.{AreSetsOf}
 use Rattle.size_levels.specs.Shown.{is_more, level_clauses}

@@ -1,4 +1,4 @@
-use Rattle.std.proofs.Common.{◌∙◌, ◌++◌, ◌∷◌, [], List, ℕ, take, get_or, ap, sym, arith, append_assoc}
+use Rattle.std.proofs.Common.{◌∙◌, ◌++◌, ◌∷◌, [], List, ℕ, take, ap, sym, arith, append_assoc}
 use Rattle.std.proofs.lemmas.List.{take_all}
 use Rattle.sat_base.specs.Hints.{ids_of}
 use Rattle.gm_audit.specs.Inside.{ids_within}

@@ -1,4 +1,4 @@
-use Rattle.std.proofs.Common.{ℕ, Vec, Global, List, sym, subst}
+use Rattle.std.proofs.Common.{ℕ, Vec, Global, sym, subst}
 use Rattle.std.specs.Prelude.{IfOk}
 use Rattle.gm_base.specs.declared.kind.Kind.TheVariants.{Conflict, Correction}
 use Rattle.report_text.specs.LeastReports.{IsLeastReportOf}

@@ -1,4 +1,4 @@
-use Rattle.std.proofs.Common.{◌≡◌, ◌∙◌, List, Option, Ok, ap, ap₂, sym, subst}
+use Rattle.std.proofs.Common.{◌≡◌, List, Option, Ok, ap, ap₂, sym, subst}
 use Rattle.std.specs.Prelude.{IfOk}
 use Rattle.sat_base.specs.Derivation.{Derivation}
 use Rattle.evidence_rec.specs.declared.record.Record.{Record}
