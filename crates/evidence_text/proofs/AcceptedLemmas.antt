@@ -262,21 +262,25 @@ proof-wider vars more d le ok = record {
     wider : (l : ℤ) → IsLiteral vars l → IsLiteral more l
     wider l is = let high = is.in_range in record { not_zero = is.not_zero; in_range = omega arith }
 
+-- a derivation over a level's variables names only these, and each of them has a literal
 pub level-readable : (groups most : ℕ) (l : Level) (inputs : List (List ℤ)) (d : Derivation) (allowed : ℤ → Bool) → most ≤ groups → level_vars l < 2 ^ 31
     → derives_within (level_vars l) inputs d allowed ≡ true → HasIds d → IsReadableLevel Three groups most l d
 level-readable groups most l inputs d allowed le few derives ids =
     (le, few, proof-wider (level_vars l) max_var d (omega arith) (derivation-readable (level_vars l) inputs d allowed derives ids))
 
+-- records that are accepted can be written, so a text can hold them with any end that can be read behind them
 pub accepted-held : (version : Version) (p : Problem) (rs : List Record) (ending : End Derivation) → MayRefer version → IsSmall p → length rs ≤ max_id
     → AllAccepted p rs → AllByRecursion HasRecordIds rs → IsReadableEnd version p (founds rs) ending → CanHold version p rs ending
 accepted-held version p rs ending may small few all ids ok =
     record { small = small; records = records-readable version p rs may few all ids; ending = ok }
 
+-- what closes records that are accepted can be written behind them
 pub end-readable : (p : Problem) (rs : List Record) (closing : Option Derivation)
     → IfSome closing (λ d. (shows_all_explored p.groups (founds rs) d ≡ true) × HasIds d) → IsReadableEnd Two p (founds rs) (closed_by closing)
 end-readable p rs None h = tt
 end-readable p rs (Some d) h = closing-readable p (founds rs) d h.0 h.1
 
+-- so their text is read back
 pub accepted-read : (p : Problem) (rs : List Record) (closing : Option Derivation) → IsSmall p → length rs ≤ max_id → AllAccepted p rs
     → AllByRecursion HasRecordIds rs → IfSome closing (λ d. (shows_all_explored p.groups (founds rs) d ≡ true) × HasIds d)
     → IsRead Two p (evidence_text Two p rs (closed_by closing)) rs (closed_by closing)

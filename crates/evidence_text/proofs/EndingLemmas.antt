@@ -40,6 +40,7 @@ IsSaid version groups n (ends.Level kind most x) = IsSaidLevel version groups mo
 
 -- ---- what is read
 
+-- where the test passes, literals can name the variables
 literals-ok : (l : Level) (u : Unit {0}) → has_literals l ≡ Ok u → level_vars l < 2 ^ 31
 literals-ok l u h =
     elim (cond-cases (ltb (level_vars l) (2 ^ 31)) (Ok tt) (Err BadNumber) (Ok u) h) [
@@ -47,6 +48,7 @@ literals-ok l u h =
       | inr many ↦ cc (many.1)
     ]
 
+-- what is read as a level's words is such a level, and these are its words
 level-ok : (kind : Kind) (groups : ℕ) (n : Namings) (ws : List Word) (says : End (Unit {0})) → groups < 2 ^ 64 → level_words_at kind groups n ws ≡ Ok says
     → (codes "e" ∷ kind_word kind ∷ ws ≡ said_line says) × IsSaid Three groups n says
 unfolding level_words_at
@@ -61,6 +63,7 @@ level-ok kind groups n ws says small h =
       subst (IsSaid Three groups n) same (hi, literals-ok l u b),
     )
 
+-- what is read as the words of a whole list is its one word
 complete_words-ok : (ws : List Word) (says : End (Unit {0})) → complete_words_at ws ≡ Ok says
     → (codes "e" ∷ ws ≡ said_line says) × ((version : Version) (groups : ℕ) (n : Namings) → IsSaid version groups n says)
 unfolding complete_words_at
@@ -78,6 +81,7 @@ word_or-ok : {X : Type 0} (r : Result (List Word) Why) (f : List Word → Result
 word_or-ok (Ok rest) f other x h = inl (rest, refl, h)
 word_or-ok (Err why) f other x h = inr h
 
+-- what is read behind the `e` of a closing part is what writes it
 pub last_words-ok : (version : Version) (groups : ℕ) (n : Namings) (ws : List Word) (says : End (Unit {0})) → groups < 2 ^ 64
     → last_words_at version groups n ws ≡ Ok says → (codes "e" ∷ ws ≡ said_line says) × IsSaid version groups n says
 unfolding last_words_at
@@ -108,12 +112,14 @@ closing-lines version groups n d (ends.Complete x) ls said =
 closing-lines version groups n d (ends.Level kind most x) ls said =
     sym (append_assoc (map step_line d.steps) (exhaustion_line d.goal ∷ level_line kind most ∷ []) ls)
 
+-- a proof over the variables of version 3, with a number of groups that there are, is that of a level
 level-readable : (version : Version) (groups most : ℕ) (l : Level) (d : Derivation) → IsReadableProof (closing_vars version groups) d
     → IsSaidLevel version groups most l → IsReadableLevel version groups most l d
 level-readable One groups most l d good said = absurd said
 level-readable Two groups most l d good said = absurd said
 level-readable Three groups most l d good said = (said.0, said.1, good)
 
+-- a closing part that is read, and what its last line says, are an end that can be written
 pub said-readable : (version : Version) (p : Problem) (n : Namings) (d : Derivation) (says : End (Unit {0})) → IsReadableProof (closing_vars version p.groups) d
     → IsSaid version p.groups n says → IsReadableEndBy version p n (end_map (λ x. d) says)
 said-readable version p n d ends.Partial good said = absurd said
@@ -122,9 +128,11 @@ said-readable version p n d (ends.Level kind most x) good said = level-readable 
 
 -- ---- what is written is read back
 
+-- where literals can name the variables, the test passes
 literals-back : (l : Level) → level_vars l < 2 ^ 31 → has_literals l ≡ Ok tt
 literals-back l few = ap (λ t. cond t (Ok tt) (Err BadNumber)) (lt-ltb (level_vars l) (2 ^ 31) few)
 
+-- the words of a level are read back
 level-back : (kind : Kind) (groups most : ℕ) (n : Namings) → groups < 2 ^ 64 → most ≤ groups → level_vars (level_by groups most (naming_for kind n)) < 2 ^ 31
     → level_words_at kind groups n (decimal most ∷ []) ≡ Ok (ends.Level kind most tt)
 unfolding level_words_at
@@ -132,10 +140,12 @@ level-back kind groups most n small le few =
     bind-back _ _ (most, []) _ (number-back 0 groups most [] (omega arith) (omega arith) le)
     (bind-back _ _ tt _ (literals-back (level_by groups most (naming_for kind n)) few) refl)
 
+-- so is the word of a whole list
 complete-back : complete_words_at (codes "complete" ∷ []) ≡ Ok (ends.Complete tt)
 unfolding complete_words_at
 complete-back = bind-back _ _ tt _ (last_word-back (codes "complete")) refl
 
+-- what an end says is read back in each version that can say it
 pub last_words-back : (version : Version) (groups : ℕ) (n : Namings) (says : End (Unit {0})) → groups < 2 ^ 64 → IsSaid version groups n says
     → last_words_at version groups n (behind (said_line says)) ≡ Ok says
 unfolding last_words_at
@@ -162,6 +172,7 @@ level-said One groups most l d ok = absurd ok
 level-said Two groups most l d ok = absurd ok
 level-said Three groups most l d ok = ((ok.0, ok.1), ok.2)
 
+-- the variables of a closing part are fewer than 2 ^ 64 in each version
 pub vars-small : (version : Version) (groups : ℕ) → groups < 2 ^ 64 → closing_vars version groups < 2 ^ 64
 vars-small One groups small = small
 vars-small Two groups small = small

@@ -153,6 +153,7 @@ correction-back version p set w rs at ls small (ok, len, count, each) =
     (refutations-back version (p.vars + p.groups) set (at + 1) rs ls small (few_groups p set small ok) count each)
     (ap (λ (n : ℕ). Ok (record_of.Correction set w rs, below n ls)) next))
 
+-- a record is read back, before any lines
 pub record-back : (version : Version) (p : Problem) (n : Namings) (r : Record) (rest : List ℕ) (at : ℕ) (ls : List Line) → p.vars + p.groups < 2 ^ 64 → IsReadable version p r
     → piece_at version p n rest at (record_lines r ++ ls) ≡ Ok (answer.Record r, below (at + length (record_lines r)) ls)
 unfolding piece_at
@@ -173,6 +174,7 @@ record-back version p n (record_of.Correction set w rs) rest at ls small ok =
 
 -- ---- the end
 
+-- the last line is read back, with what it says
 last_line-back : (version : Version) (groups : ℕ) (n : Namings) (says : End (Unit {0})) (at : ℕ) (ls : List Line) → groups < 2 ^ 64
     → IsSaid version groups n says → last_line_at version groups n at (said_line says ∷ ls) ≡ Ok (says, below (at + 1) ls)
 unfolding last_line_at
@@ -182,6 +184,7 @@ last_line-back version groups n (ends.Complete x) at ls small said =
 last_line-back version groups n (ends.Level kind most x) at ls small said =
     bind-back _ _ (ends.Level kind most x) _ (ap (λ r. at_line at r) (last_words-back version groups n (ends.Level kind most x) small said)) refl
 
+-- a closing part is read back, with its last line
 closing-back : (version : Version) (p : Problem) (n : Namings) (d : Derivation) (says : End (Unit {0})) (at : ℕ) → p.vars + p.groups < 2 ^ 64
     → IsReadableProof (closing_vars version p.groups) d → IsSaid version p.groups n says
     → closing_at version p n at (closing_lines d (said_line says)) ≡ Ok (end_map (λ x. d) says, below (at + length (closing_lines d (said_line says))) [])
@@ -205,6 +208,7 @@ unfolding piece_at
 closing-first version p n [] id at ls = refl
 closing-first version p n (s ∷ ss) id at ls = refl
 
+-- an end is read back, with nothing behind it
 pub end-back : (version : Version) (p : Problem) (n : Namings) (ending : End Derivation) (at : ℕ) → p.vars + p.groups < 2 ^ 64
     → IsReadableEndBy version p n ending → piece_at version p n [] at (end_lines ending) ≡ Ok (answer.End ending, below (at + length (end_lines ending)) [])
 unfolding piece_at

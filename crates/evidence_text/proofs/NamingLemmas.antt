@@ -37,6 +37,7 @@ also-one Correction set found =
     (also-same (names_of Correction found) Correction set (distinct-first_named (flat_map (λ (f : Found). against Correction f.kind f.set) found)) refl
     ∙ sym (names_of-grows Correction found (record { kind = Correction; set = set })))
 
+-- record by record the same groups are named as by all at once
 also-all : (rs : List Record) (found : List Found) → also_records Three rs (namings_of found) ≡ namings_of (found ++ founds rs)
 also-all [] found = ap namings_of (sym (append-nil found))
 also-all (r ∷ rs) found =
@@ -53,6 +54,7 @@ pub also_records-push : (version : Version) (rs : List Record) (r : Record) (n :
 also_records-push version [] r n = refl
 also_records-push version (q ∷ qs) r n = also_records-push version qs r (also_record version q n)
 
+-- behind these records the reader's level is that of all of them
 level-behind : (version : Version) (p : Problem) (rs : List Record) (kind : Kind) (most : ℕ) (d : Derivation)
     → IsReadableLevel version p.groups most (level_by p.groups most (naming_for kind (namings_of (founds rs)))) d
     → IsReadableLevel version p.groups most (level_by p.groups most (naming_for kind (also_records version rs no_namings))) d
@@ -61,6 +63,7 @@ level-behind Two p rs kind most d ok = absurd ok
 level-behind Three p rs kind most d ok =
     subst (λ (n : Namings). IsReadableLevel Three p.groups most (level_by p.groups most (naming_for kind n)) d) (sym (namings-behind rs)) ok
 
+-- so from the first record on
 level-of : (version : Version) (p : Problem) (rs : List Record) (kind : Kind) (most : ℕ) (d : Derivation)
     → IsReadableLevel version p.groups most (level_by p.groups most (naming_for kind (also_records version rs no_namings))) d
     → IsReadableLevel version p.groups most (level_by p.groups most (naming_for kind (namings_of (founds rs)))) d
@@ -76,6 +79,7 @@ end-behind version p rs ends.Partial ok = tt
 end-behind version p rs (ends.Complete d) ok = ok
 end-behind version p rs (ends.Level kind most d) ok = level-behind version p rs kind most d ok
 
+-- so an end that can be read there can be read behind the records
 pub end-of : (version : Version) (p : Problem) (rs : List Record) (ending : End Derivation)
     → IsReadableEndBy version p (also_records version rs no_namings) ending → IsReadableEnd version p (founds rs) ending
 end-of version p rs ends.Partial ok = tt
@@ -84,12 +88,14 @@ end-of version p rs (ends.Level kind most d) ok = level-of version p rs kind mos
 
 -- ---- groups of the problem
 
+-- a set that is against a kind names only groups of its own
 against-in : (kind other : Kind) (set : List ℕ) (g : ℕ) → has (against kind other set) g ≡ true → has set g ≡ true
 against-in Conflict Conflict set g h = absurd (false≢true h)
 against-in Conflict Correction set g h = h
 against-in Correction Conflict set g h = h
 against-in Correction Correction set g h = absurd (false≢true h)
 
+-- with a set of the problem's groups no other group is named
 named-within : (groups : ℕ) (n : Naming) (kind : Kind) (set : List ℕ) → IsSubset n.named (all_groups groups) → IsSubset set (all_groups groups)
     → IsSubset (also n kind set).named (all_groups groups)
 named-within groups n kind set named within g h =
@@ -101,6 +107,7 @@ named-within groups n kind set named within g h =
       | inr new ↦ within g (against-in n.kind kind set g new)
     ]
 
+-- that stays so for both kinds
 set-within : (groups : ℕ) (kind : Kind) (set : List ℕ) (n : Namings) → AreWithin groups n → IsSubset set (all_groups groups) → AreWithin groups (also_set kind set n)
 set-within groups Conflict set n ok within =
     record { conflicts = ok.conflicts; corrections = named-within groups n.for_corrections Conflict set ok.corrections within }
@@ -114,5 +121,6 @@ record-within groups One r n ok within = ok
 record-within groups Two r n ok within = ok
 record-within groups Three r n ok within = set-within groups (kind_of r) (set_of r) n ok within
 
+-- nothing is named at first
 pub none-within : (groups : ℕ) → AreWithin groups no_namings
 none-within groups = record { conflicts = λ g h. absurd (false≢true h); corrections = λ g h. absurd (false≢true h) }

@@ -35,7 +35,16 @@ impl<'a> Model for EvidenceReader<'a> {
 
     ghost Value = { Reader };
 
-    ghost view = { λ r. record { problem = r.problem.now; version = r.version; namings = r.namings; left = left_of r.lines; rest = rest_of r.lines; line = r.line; begun = r.begun; offence = r.offence } };
+    ghost view = { λ r. record {
+      problem = r.problem.now;
+      version = r.version;
+      namings = r.namings;
+      left = left_of r.lines;
+      rest = rest_of r.lines;
+      line = r.line;
+      begun = r.begun;
+      offence = r.offence;
+    } };
 
     ghost use Rattle.evidence_text.specs.Namings.{AreWithin};
 

@@ -212,7 +212,7 @@ pub(crate) fn read_closing(
     namings: &Namings,
 ) -> Result<End<Derivation>, Stop>
     requires { AreWithin problem.now.groups namings.now }
-    ensures closing { Gives (λ ending. ending) result (left_of lines.new) (closing_at version problem.now namings.now (left_of lines.old).at (left_of lines.old).lines) }
+    ensures closing { Gives (λ e. e) result (left_of lines.new) (closing_at version problem.now namings.now (left_of lines.old).at (left_of lines.old).lines) }
     ensures rest { OnOk result (rest_of lines.new ≡ rest_of lines.old) }
 {
     let groups = problem.groups();

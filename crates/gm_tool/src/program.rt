@@ -35,8 +35,9 @@ use std::thread::Threads;
 /// lexicographic order. Status 3 says that as many clauses were learnt as `--conflicts` allows, and status 4 that as many
 /// sets were recorded as `--limit` allows; `out` got a report of these sets, each of which is minimal. With these three the
 /// file of `--evidence`, where it is asked for, got the evidence of the sets first. Status 0 of `check` says that file and
-/// evidence are accepted, and that `out` got the report of what the evidence shows: of its sets, of all where it is complete, or of all
-/// of one kind with few groups where it shows that none of these is missing. A listing may go on from such evidence: then its sets come first, `--limit` counts them, and the report with
+/// evidence are accepted, and that `out` got the report of what the evidence shows: of its sets, of all where it is complete, or
+/// of all of one kind with few groups where it shows that none of these is missing. A listing may go on from such evidence: then
+/// its sets come first, `--limit` counts them, and the report with
 /// status 0 is the same. Status 0 of `drill` says that `out` got one line, with the numbers of groups, of all minimal conflicts and of
 /// all minimal corrections of the case. Status 0 of `export` says that file and evidence are accepted, and that two files got
 /// the clauses of the conflict with the number in the report's order, and a refutation of them. Status 0 of `roles` says that `out`

@@ -12,6 +12,10 @@ abbrev pub kind_letter : Kind → List ℕ
 kind_letter Conflict = codes "u"
 kind_letter Correction = codes "m"
 
+-- the lines before the sets: the number of groups, and a word with a number
+abbrev pub sized_head : ℕ → List ℕ → ℕ → List ℕ
+sized_head groups word size = codes "p least " ++ decimal groups ++ codes "\ns " ++ word ++ codes " " ++ decimal size ++ codes "\n"
+
 -- the number of groups, a word with a number that says how far the list goes, a line for each set, and how many they are
 abbrev pub sized_text : ℕ → List ℕ → ℕ → Kind → List (List ℕ) → List ℕ
 sized_text groups word size kind sets =

@@ -2,7 +2,7 @@
 ghost use Rattle.std.specs.Prelude.{◌≡◌, ◌++◌, codes, OnOk, IfOk, length};
 ghost use Rattle.std.specs.Fmt.{decimal};
 ghost use Rattle.gm_base.specs.Lent.{lists_of};
-ghost use Rattle.report_text.specs.Least.{kind_letter, sized_text};
+ghost use Rattle.report_text.specs.Least.{kind_letter, sized_head, sized_text};
 ghost use Rattle.report_text.specs.LeastReports.{IsLeastReportOf, IsPartialReportOf};
 
 use crate::order::in_order_of_size;
@@ -23,7 +23,7 @@ fn kind_letter(kind: Kind) -> &'static str
 
 /// The lines before the sets: the number of groups, and how far the list goes.
 fn push_limit(out: &mut Vec<u8>, groups: u32, word: &str, size: usize) -> Result<(), AllocError>
-    ensures { OnOk result (out.new.items ≡ out.old.items ++ (codes "p least " ++ decimal groups ++ codes "\ns " ++ word.now ++ codes " " ++ decimal size ++ codes "\n")) }
+    ensures { OnOk result (out.new.items ≡ out.old.items ++ sized_head groups word.now size) }
 {
     push_text(out, "p least ")?;
     put_number(out, i128::from(groups))?;
