@@ -43,10 +43,7 @@ fn carry_evidence(
     requires { Extends problem.now longer.now }
 {
     match audit(alloc, problem, evidence)? {
-        Audited::Yes {
-            ending: _,
-            records,
-        } => carry_records(problem, &records, longer, alloc, out),
+        Audited::Yes { ending: _, records } => carry_records(problem, &records, longer, alloc, out),
         Audited::No { line: _, why: _ } => show("the evidence is refused", out),
     }
 }

@@ -129,10 +129,7 @@ fn is_told_again(
     }
 }
 
-fn write_closing(
-    end: &End<Derivation>,
-    out: &mut Vec<u8>,
-) -> Result<Option<Outcome>, AllocError> {
+fn write_closing(end: &End<Derivation>, out: &mut Vec<u8>) -> Result<Option<Outcome>, AllocError> {
     let end = match end {
         End::Partial => End::Partial,
         End::Complete(proof) => End::Complete(proof),

@@ -196,10 +196,7 @@ fn show_counts(end: End<()>, records: &Records, out: &mut String) -> Result<bool
     }
     let conflicts = count_of(records, Kind::Conflict);
     let corrections = count_of(records, Kind::Correction);
-    known(writeln!(
-        out,
-        ", {conflicts} conflicts, {corrections} corrections"
-    ))
+    known(writeln!(out, ", {conflicts} conflicts, {corrections} corrections"))
 }
 
 fn count_of(records: &Records, kind: Kind) -> usize {
