@@ -14,9 +14,9 @@ use Rattle.evidence_text.specs.declared.end.End.{End}
 use Rattle.evidence_text.specs.declared.end.End.TheVariants as ends
 use Rattle.evidence_text.specs.declared.version.Version.{Version}
 use Rattle.evidence_text.specs.declared.version.Version.TheVariants.{One, Two, Three}
-use Rattle.evidence_text.specs.Text.{Word, Line, step_line, exhaustion_line, end_line, kind_word, level_line, end_map, closing_lines, end_lines}
+use Rattle.evidence_text.specs.Text.{Word, Line, step_line, exhaustion_line, end_line, kind_word, level_line, end_map, end_lines}
 use Rattle.evidence_text.specs.Namings.{Namings, naming_for}
-use Rattle.evidence_text.specs.Reading.{◌>>=◌, behind, word_at, number_at, word_or, has_literals, last_word_at, level_words_at, complete_words_at, last_words_at}
+use Rattle.evidence_text.specs.Reading.{behind, word_at, number_at, word_or, has_literals, last_word_at, level_words_at, complete_words_at, last_words_at}
 use Rattle.evidence_text.specs.Readable.{closing_vars, IsReadableProof, IsReadableLevel, IsReadableEndBy}
 use Rattle.evidence_text.proofs.WordsLemmas.{bind-ok, cond-cases, ok-is, number-ok, word-ok, line_end-ok, last_word-ok}
 use Rattle.evidence_text.proofs.WordsBackLemmas.{bind-back, number-back, word-back, last_word-back}

@@ -1,5 +1,5 @@
 -- Lines of which a piece of evidence can be read are just those that write it.
-use Rattle.std.proofs.Common.{◌≡◌, ℕ, ◌+◌, ◌^◌, ◌<◌, ◌≤◌, ◌-◌, ◌&&◌, Bool, true, cond, eqb, List, [], ◌∷◌, ◌++◌, map, length, Option, Some, None, refl, sym, ◌∙◌, ap, ap₂, subst, inl, inr, arith, append_assoc}
+use Rattle.std.proofs.Common.{◌≡◌, ℕ, ◌+◌, ◌^◌, ◌<◌, ◌≤◌, ◌-◌, ◌&&◌, Bool, true, cond, eqb, List, [], ◌∷◌, ◌++◌, map, length, refl, sym, ◌∙◌, ap, ap₂, subst, inl, inr, arith, append_assoc}
 use Rattle.std.specs.Prelude.{codes, Result, Ok, Err}
 use Rattle.std.specs.List.{AllByRecursion}
 use Rattle.std.specs.Fmt.{decimal}
@@ -21,7 +21,7 @@ use Rattle.evidence_text.specs.declared.version.Version.{Version}
 use Rattle.evidence_text.specs.declared.version.Version.TheVariants.{One, Two, Three}
 use Rattle.evidence_text.specs.declared.end.End.{End}
 use Rattle.evidence_text.specs.declared.end.End.TheVariants as ends
-use Rattle.evidence_text.specs.Text.{Word, Line, version_number, head_line, set_line, step_line, goal_line, witness_line, exhaustion_line, end_line, refutation_lines, refutations_lines, witnesses_lines, record_lines, end_map, end_lines}
+use Rattle.evidence_text.specs.Text.{Word, Line, version_number, head_line, set_line, step_line, goal_line, witness_line, exhaustion_line, refutation_lines, refutations_lines, witnesses_lines, record_lines, end_map, end_lines}
 use Rattle.evidence_text.specs.Namings.{Namings}
 use Rattle.evidence_text.specs.Reading.{Below, below, at_line, behind, is_letter, goal_letter, version_of, with_step, word_at, number_at, counts_at, set_at, step_at, witness_at, goal_at, last_word_at, proof_at, witness_line_at, witnesses_at, steps_at, reference_or_steps_at, refutation_at, refutations_at, conflict_at, correction_at, last_words_at, last_line_at, closing_at, is_nothing, nothing_behind, piece_at, counts_of, same_counts, head_words_at, head_at}
 use Rattle.evidence_text.specs.Readable.{IsId, MayRefer, IsReference, IsReadableProof, IsReadableRefutation, IsSetUpTo, IsReadable, closing_vars, IsReadableEndBy}

@@ -19,7 +19,7 @@ use Rattle.evidence_text.specs.declared.answer.Answer.TheVariants as answer
 use Rattle.evidence_text.specs.declared.version.Version.{Version}
 use Rattle.evidence_text.specs.declared.version.Version.TheVariants.{One, Two, Three}
 use Rattle.evidence_text.specs.Lines.{lines_of, unended}
-use Rattle.evidence_text.specs.Namings.{Namings, namings_of}
+use Rattle.evidence_text.specs.Namings.{namings_of}
 use Rattle.evidence_text.specs.Reading.{Below, below, offence, counts_at, head_words_at, head_at, step_at, goal_at, last_word_at, level_words_at, complete_words_at, last_words_at, proof_at, reference_or_steps_at, refutation_at, refutations_at, last_line_at, closing_at, piece_at}
 
 -- ---- heads

@@ -1,4 +1,3 @@
-use Rattle.gm_words.specs.Requests.{text_of}
 use Rattle.gm_io.proofs.ReadingLemmas.{reading-offence, reads-problem}
 use Rattle.gm_io.proofs.beginning.read_named.Goals as goal
 
