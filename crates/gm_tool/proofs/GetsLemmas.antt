@@ -283,7 +283,7 @@ module _ (Gets Has : List ℕ → Type 0) (f : (line : List ℕ) → Gets line �
     judged = judged-gets a.file a.focus None old.files new.files finish.status h.judged;
     unwritten = h.unwritten;
     accepted = h.accepted;
-    end = h.end;
+    complete = h.complete;
   }
   done-gets (Some (carrying c)) old new finish h = record {
     statuses = h.statuses;
