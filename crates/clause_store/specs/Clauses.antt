@@ -1,6 +1,6 @@
 -- What a clause store is to its callers: its clauses in the order in which they came, what they watch, the lists of those
 -- that watch a literal, and how much it can take with no more memory.
-use Rattle.std.specs.Prelude.{ℕ, ◌-◌, ◌≤◌, ◌<◌, List, [], false, ℤ, Option, length, slice_index_or}
+use Rattle.std.specs.Prelude.{ℕ, ◌+◌, ◌*◌, ◌-◌, ◌≤◌, ◌<◌, List, [], false, ℤ, Option, length, slice_index_or}
 use Rattle.sat_base.specs.Database.{StoredClause}
 
 pub record Clauses : Type 0 where
@@ -20,6 +20,8 @@ pub record Clauses : Type 0 where
   pub room : ℕ
   -- how many more literals fit
   pub literal_room : ℕ
+  -- how many rows the tables by literal have room for
+  pub row_room : ℕ
 
 abbrev pub no_clause : StoredClause
 no_clause = record { lits = []; live = false }
@@ -37,3 +39,7 @@ pub record IsId (db : List StoredClause) (id : ℕ) : Type 0 where
 pub record HasRoomFor (store : Clauses) (count literals : ℕ) : Type 0 where
   pub clauses_fit : count ≤ store.room
   pub literals_fit : literals ≤ store.literal_room
+
+-- the tables can be made long enough for so many variables with no more memory
+abbrev pub HasRowsFor : Clauses → ℕ → Type 0
+HasRowsFor store vars = 2 * vars + 2 ≤ store.row_room

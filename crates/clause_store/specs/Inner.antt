@@ -53,6 +53,7 @@ store_of a =
       false_id = a.false_id;
       room = min (vec_capacity a.records) most - vec_len a.records;
       literal_room = min (vec_capacity a.lits - vec_len a.lits) most_literals;
+      row_room = min (vec_capacity a.heads) (min (vec_capacity a.tails) (vec_capacity a.parks));
     }
 
 pub record IsLaidOut (a : Inside) : Type 0 where

@@ -3,7 +3,8 @@
 --
 -- A watch is a place of a clause, 0 or 1. That of clause `id` by `place` has the number `2 * id + place`: so its clause
 -- is half of its number, and two watches differ where clause or place does.
-use Rattle.std.specs.Prelude.{◌≡◌, ℕ, zero, suc, ◌+◌, ◌*◌, ◌/◌, ◌%◌, ◌≤◌, [], ◌∷◌, ℤ, pos, negsuc, Option, Some, None, length, slice_index_or}
+use Rattle.std.specs.Prelude.{◌≡◌, ℕ, zero, suc, ◌+◌, ◌*◌, ◌/◌, ◌%◌, ◌<◌, ◌≤◌, [], ◌∷◌, ℤ, pos, negsuc, Option, Some, None, length, slice_index_or}
+use Rattle.sat_base.specs.Literals.{var_of}
 use Rattle.clause_store.specs.Clauses.{Clauses}
 
 -- what a clause watches, if it is watched
@@ -58,3 +59,15 @@ pub record KeepsLinks (old new : Clauses) : Type 0 where
   pub tails : new.tails ≡ old.tails
   pub parks : new.parks ≡ old.parks
   pub false_id : new.false_id ≡ old.false_id
+
+-- the lists of each literal begin and end alike in both
+pub record KeepsLists (old new : Clauses) : Type 0 where
+  pub heads : (lit : ℤ) → head_of new lit ≡ head_of old lit
+  pub tails : (lit : ℤ) → tail_of new lit ≡ tail_of old lit
+  pub parks : (lit : ℤ) → park_of new lit ≡ park_of old lit
+
+-- a literal of a variable above this one has no list
+pub record HasNoneAbove (vars : ℕ) (store : Clauses) : Type 0 where
+  pub heads : (lit : ℤ) → vars < var_of lit → head_of store lit ≡ 0
+  pub tails : (lit : ℤ) → vars < var_of lit → tail_of store lit ≡ 0
+  pub parks : (lit : ℤ) → vars < var_of lit → park_of store lit ≡ 0

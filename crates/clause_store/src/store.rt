@@ -21,11 +21,11 @@ ghost use Rattle.std.specs.Prelude.{◌≡◌, ℕ, ℤ, ◌+◌, ◌-◌, ◌<�
 ghost use Rattle.sat_base.specs.Literals.{AreLiterals};
 ghost use Rattle.sat_base.specs.Database.{AreOver};
 ghost use Rattle.sat_base.specs.Forgotten.{forgotten};
-ghost use Rattle.clause_store.specs.Clauses.{clause_at, IsId, HasRoomFor};
+ghost use Rattle.clause_store.specs.Clauses.{clause_at, IsId, HasRoomFor, HasRowsFor};
 ghost use Rattle.clause_store.specs.Inner.{most};
 ghost use Rattle.clause_store.specs.Shapes.{literals_in, is_live, is_watched, most_literals};
 ghost use Rattle.clause_store.specs.Thirds.{mix_of};
-ghost use Rattle.clause_store.specs.Links.{watched_at, next_of, head_of, tail_of, park_of, KeepsLinks};
+ghost use Rattle.clause_store.specs.Links.{watched_at, next_of, head_of, tail_of, park_of, KeepsLinks, KeepsLists, HasNoneAbove};
 
 use crate::shape::{MOST_LITERALS, Shape};
 use crate::thirds::mix;
@@ -84,6 +84,26 @@ fn no_clauses(alloc: Global, rows: usize) -> Result<Vec<u32>, AllocError>
     ensures { IfOk result (λ table. table.items ≡ replicate rows 0) }
 {
     vec![in alloc; 0u32; rows]
+}
+
+// Makes room for so many rows of a table.
+fn reserve_rows(table: &mut Vec<u32>, rows: usize) -> Result<(), AllocError>
+    ensures ok { OnOk result (rows ≤ vec_capacity table.new) }
+    ensures items { table.new.items ≡ table.old.items }
+    ensures capacity { vec_capacity table.old ≤ vec_capacity table.new }
+{
+    table.reserve(rows.saturating_sub(table.len()))
+}
+
+// Has a table have so many rows. Those that come have no clause.
+fn add_rows(table: &mut Vec<u32>, rows: usize)
+    requires more { length table.old.items ≤ rows }
+    requires room { rows ≤ vec_capacity table.old }
+    ensures { table.new.items ≡ table.old.items ++ replicate (rows - length table.old.items) 0 }
+{
+    for _ in table.len()..rows {
+        table.push_reserved(0);
+    }
 }
 
 impl Store {
@@ -149,6 +169,34 @@ impl Store {
         reserve_words(&mut self.words, self.vars, count as usize)?;
         self.records.reserve(count as usize)?;
         self.lits.reserve(literals as usize)
+    }
+
+    /// Makes room for the lists of so many variables.
+    pub fn reserve_vars(&mut self, vars: u32) -> Result<(), AllocError>
+        requires { vars < 2 ^ 31 }
+        ensures ok { OnOk result (HasRowsFor self.new vars) }
+        ensures rest { self.new ≡ record self.old { row_room = self.new.row_room } }
+    {
+        let rows = 2 * vars as usize + 2;
+        reserve_rows(&mut self.heads, rows)?;
+        reserve_rows(&mut self.tails, rows)?;
+        reserve_rows(&mut self.parks, rows)
+    }
+
+    /// Has clauses be over the variables 1 to `vars` from now on, which are more. The clauses and their lists stay.
+    pub fn widen(&mut self, vars: u32)
+        requires more { self.old.vars ≤ vars }
+        requires small { vars < 2 ^ 31 }
+        requires room { HasRowsFor self.old vars }
+        ensures lists { KeepsLists self.old self.new }
+        ensures none { HasNoneAbove self.old.vars self.new }
+        ensures rest { self.new ≡ record self.old { vars = vars; heads = self.new.heads; tails = self.new.tails; parks = self.new.parks; row_room = self.new.row_room } }
+    {
+        let rows = 2 * vars as usize + 2;
+        add_rows(&mut self.heads, rows);
+        add_rows(&mut self.tails, rows);
+        add_rows(&mut self.parks, rows);
+        self.vars = vars;
     }
 
     /// Adds a clause, and gives its id. Where there is room for it, it can't fail.
