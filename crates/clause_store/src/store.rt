@@ -101,9 +101,7 @@ fn add_rows(table: &mut Vec<u32>, rows: usize)
     requires room { rows ≤ vec_capacity table.old }
     ensures { table.new.items ≡ table.old.items ++ replicate (rows - length table.old.items) 0 }
 {
-    for _ in table.len()..rows {
-        table.push_reserved(0);
-    }
+    table.resize(rows, 0).unwrap();
 }
 
 impl Store {
