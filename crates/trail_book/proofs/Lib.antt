@@ -6,3 +6,4 @@ pub mod OrderLemmas
 pub mod HeapLemmas
 pub mod WaitLemmas
 pub mod SetLemmas
+pub mod WideLemmas

@@ -1,7 +1,7 @@
 -- A binary heap, the greatest item first (Williams 1964), of numbered items that have a rank. All items stand in one list.
 -- The heap admits the first ones, of these it holds the first, of these the first are in order, and the others wait to be
 -- put in order.
-use Rattle.std.specs.Prelude.{◌≡◌, ◌≢◌, ◌↔◌, ℕ, ◌+◌, ◌*◌, ◌<◌, ◌≤◌, ◌^◌, List, length, slice_index}
+use Rattle.std.specs.Prelude.{◌≡◌, ◌≢◌, ◌↔◌, ℕ, ◌+◌, ◌*◌, ◌<◌, ◌≤◌, ◌^◌, List, length, min, vec_capacity, slice_index}
 use Rattle.trail_book.specs.declared.heap.Heap.TheInside.{Inside}
 
 pub record Heap : Type 0 where
@@ -12,6 +12,8 @@ pub record Heap : Type 0 where
   pub count : ℕ
   -- how many of those are in order
   pub sorted : ℕ
+  -- how many items its lists have room for
+  pub room : ℕ
 
 -- the heap holds an item
 abbrev pub Holds : Heap → ℕ → Type 0
@@ -67,7 +69,14 @@ pub record IsRaised (old new : ℕ → ℕ) (item : ℕ) : Type 0 where
 
 -- what callers see of the tables
 abbrev pub heap_of : Inside → Heap
-heap_of inside = record { items = inside.items.items; admitted = inside.admitted; count = inside.count; sorted = inside.sorted }
+heap_of inside =
+    record {
+      items = inside.items.items;
+      admitted = inside.admitted;
+      count = inside.count;
+      sorted = inside.sorted;
+      room = min (vec_capacity inside.items) (vec_capacity inside.places);
+    }
 
 -- each item stands at its place, and at no other
 pub record ArePlaces (items places : List ℕ) : Type 0 where

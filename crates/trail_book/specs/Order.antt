@@ -1,7 +1,7 @@
 -- The order of decisions. A variable of greater activity comes first (VSIDS: Moskewicz and others 2001; with an increment
 -- that grows: Eén and Sörensson 2003), and of variables of equal activity the first on a circle over the variables.
 -- Variables are named by their index in the tables, from 0.
-use Rattle.std.specs.Prelude.{◌≡◌, ◌⊎◌, ℤ, pos, ℕ, ◌+◌, ◌-◌, ◌*◌, ◌/◌, ◌%◌, ◌^◌, ◌<◌, ◌≤◌, List, length, map, replicate, nat_lt, if◌then◌else◌, slice_index, slice_set}
+use Rattle.std.specs.Prelude.{◌≡◌, ◌⊎◌, ℤ, pos, ℕ, ◌+◌, ◌-◌, ◌*◌, ◌/◌, ◌%◌, ◌^◌, ◌<◌, ◌≤◌, List, ◌++◌, length, map, replicate, nat_lt, if◌then◌else◌, slice_index, slice_set}
 use Rattle.sat_base.specs.Literals.{var_of}
 
 -- the literal is its variable, and not the negation
@@ -56,3 +56,7 @@ grown ranking = record ranking { increment = ranking.increment + ranking.increme
 abbrev pub turned : ℕ → Ranking → Ranking
 turned turn ranking =
     record ranking { start = if nat_lt 0 (length ranking.activities) then turn % length ranking.activities else 0 }
+
+-- so many variables, of which those that come have no activity
+abbrev pub with_vars : ℕ → Ranking → Ranking
+with_vars vars ranking = record ranking { activities = ranking.activities ++ replicate (vars - length ranking.activities) 0 }

@@ -1,9 +1,9 @@
 -- The trail: the literals that are true, the newest first, each with what made it true (MiniSat: Eén and Sörensson 2003).
-use Rattle.std.specs.Prelude.{◌≡◌, ℕ, ◌+◌, ◌-◌, ◌<◌, Bool, true, false, List, [], ◌∷◌, length, map, drop, replicate, ℤ, pos, zero, suc, Option, Some, None, ◌==◌, nat_le, if◌then◌else◌, slice_index_or}
+use Rattle.std.specs.Prelude.{◌≡◌, ℕ, ◌+◌, ◌-◌, ◌<◌, Bool, true, false, List, [], ◌∷◌, ◌++◌, length, map, drop, replicate, ℤ, pos, zero, suc, Option, Some, None, ◌==◌, nat_le, if◌then◌else◌, slice_index_or}
 use Rattle.sat_base.specs.Literals.{var_of, IsLiteral}
 use Rattle.sat_base.specs.Units.{IsUnset}
 use Rattle.trail_book.specs.declared.entry.Entry.{Entry}
-use Rattle.trail_book.specs.Order.{Ranking, unranked, ComesFirst}
+use Rattle.trail_book.specs.Order.{Ranking, unranked, with_vars, ComesFirst}
 
 -- what a trail is to its callers
 pub record Trail : Type 0 where
@@ -31,6 +31,16 @@ untouched_trail vars = record { vars = vars; entries = []; done = 0; ranking = u
 -- no literal was ever true, and every variable is touched
 abbrev pub new_trail : ℕ → Trail
 new_trail vars = record (untouched_trail vars) { touched = replicate vars true }
+
+-- a trail of so many variables, of which those that come have no value and are not touched
+abbrev pub widened : ℕ → Trail → Trail
+widened vars trail =
+    record trail {
+      vars = vars;
+      ranking = with_vars vars trail.ranking;
+      held = trail.held ++ positive_from (trail.vars + 1) (vars - trail.vars);
+      touched = trail.touched ++ replicate (vars - trail.vars) false;
+    }
 
 -- the variable of the literal is touched
 abbrev pub IsTouched : List Bool → ℤ → Type 0

@@ -10,11 +10,12 @@
 //!
 //! What is taken in waits behind the first `sorted`, which are in order, until order is asked for. Then either each moves up
 //! or, where many came, the whole is ordered from its last inner place to the top, which takes linear time (Floyd 1964).
-ghost use Rattle.std.specs.Prelude.{◌≡◌, ◌≢◌, ◌⊎◌, ℕ, ◌+◌, ◌*◌, ◌<◌, ◌≤◌, ◌^◌, length, true, false, IfOk, IfSome, IfNone, slice_index};
+ghost use Rattle.std.specs.Prelude.{◌≡◌, ◌≢◌, ◌⊎◌, ℕ, ◌+◌, ◌*◌, ◌<◌, ◌≤◌, ◌^◌, length, true, false, vec_capacity, IfOk, OnOk, IfSome, IfNone, slice_index};
 ghost use Rattle.trail_book.specs.Order.{Ranking, rank};
 ghost use Rattle.trail_book.specs.Heap.{Holds, Admits, AdmitsSame, IsBelow, key, AreOrdered, IsHeap, MayRise, Keeps, IsSwapped, IsRaised};
 
 use crate::order::Ranking;
+use crate::tables::reserve_to;
 use std::alloc::{AllocError, Global};
 use std::marker::Model;
 
@@ -60,6 +61,32 @@ impl Heap {
             count: 0,
             sorted: 0,
         })
+    }
+
+    /// Makes room for so many items.
+    pub fn reserve(&mut self, size: u32) -> Result<(), AllocError>
+        ensures ok { OnOk result (size ≤ self.new.room) }
+        ensures rest { self.new ≡ record self.old { room = self.new.room } }
+    {
+        reserve_to(&mut self.items, size as usize)?;
+        reserve_to(&mut self.places, size as usize)
+    }
+
+    /// Has so many items from now on, which are more, and admits none of those that come. All that it admits are taken in, and
+    /// none counts as being in order.
+    pub fn widen(&mut self, size: u32)
+        requires more { length self.old.items ≤ size }
+        requires small { size < 2 ^ 31 }
+        requires room { size ≤ self.old.room }
+        ensures size { length self.new.items ≡ size }
+        ensures sorted { self.new.sorted ≡ 0 }
+        ensures holds { (item : ℕ) → Admits self.old item → Holds self.new item }
+        ensures admits { AdmitsSame self.old self.new }
+    {
+        add_numbers(&mut self.items, size);
+        add_numbers(&mut self.places, size);
+        self.count = self.admitted;
+        self.sorted = 0;
     }
 
     /// The first item, which is that of greatest rank where all are in order.
@@ -361,4 +388,17 @@ fn numbers(alloc: Global, size: u32) -> Result<Vec<u32>, AllocError>
         numbers.push(number)?;
     }
     Ok(numbers)
+}
+
+// Adds the numbers from the length of a list on, up to another length, for which there is room.
+fn add_numbers(numbers: &mut Vec<u32>, size: u32)
+    requires more { length numbers.old.items ≤ size }
+    requires room { size ≤ vec_capacity numbers.old }
+    ensures len { length numbers.new.items ≡ size }
+    ensures stay { (place : ℕ) → place < length numbers.old.items → slice_index numbers.new.items place ≡ slice_index numbers.old.items place }
+    ensures come { (place : ℕ) → length numbers.old.items ≤ place → place < size → slice_index numbers.new.items place ≡ place }
+{
+    for number in numbers.len() as u32..size {
+        numbers.push_reserved(number);
+    }
 }

@@ -27,6 +27,7 @@ mod entry;
 mod heap;
 mod order;
 mod slot;
+mod tables;
 mod trail;
 mod value;
 mod words;

@@ -4,8 +4,8 @@
 //! activity, and the increment grows with each conflict, so that the later conflicts count more. Before one of them
 //! would pass the greatest `u64`, all are halved, 32 times in one walk. Variables are named by their index in the tables
 //! by variable, from 0.
-ghost use Rattle.std.specs.Prelude.{◌≡◌, ◌+◌, ◌/◌, ◌<◌, ◌≤◌, ◌^◌, length, true, false, IfOk};
-ghost use Rattle.trail_book.specs.Order.{activity_of, position_of, rank, unranked, bumped, halved, grown, turned};
+ghost use Rattle.std.specs.Prelude.{◌≡◌, ◌+◌, ◌/◌, ◌<◌, ◌≤◌, ◌^◌, length, true, false, IfOk, OnOk, OnErr};
+ghost use Rattle.trail_book.specs.Order.{activity_of, position_of, rank, unranked, bumped, halved, grown, turned, with_vars};
 
 use std::alloc::{AllocError, Global};
 use std::marker::Model;
@@ -46,6 +46,16 @@ impl Ranking {
             increment: FIRST_INCREMENT,
             start: 0,
         })
+    }
+
+    /// Ranks so many variables from now on, which are more. Those that come have no activity.
+    pub fn widen(&mut self, vars: u32) -> Result<(), AllocError>
+        requires more { length self.old.activities ≤ vars }
+        requires small { vars < 2 ^ 31 }
+        ensures ok { OnOk result (self.new ≡ with_vars vars self.old) }
+        ensures err { OnErr result (self.new ≡ self.old) }
+    {
+        self.activities.resize(vars as usize, 0)
     }
 
     pub fn activity(&self, index: u32) -> u64

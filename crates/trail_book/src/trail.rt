@@ -3,8 +3,8 @@
 //! Its literals stand in a table of slots, the oldest first. Two tables by variable lead to them: the value of the
 //! variable, and the place of its slot. So no reader searches. The place is left as it is when a value is taken back,
 //! since it counts only while there is a value. A slot has its level, so the level of the last slot is the current one,
-//! and backtracking takes slots from the end while theirs is too high. Room for one slot a variable is taken at the
-//! start, and no variable stands twice, so nothing that comes later can want memory.
+//! and backtracking takes slots from the end while theirs is too high. Room for one slot a variable is taken with
+//! the variable, and no variable stands twice, so nothing that comes later can want memory.
 //!
 //! Decisions are made on touched variables alone: on all of them, unless the trail began untouched. Each touched variable
 //! without value waits in a heap, the first in the order of decisions at its top. A variable that gets a value stays there
@@ -12,11 +12,14 @@
 //! order. Only a decision asks for order, and what has a value by then is let go before. A variable that is not touched
 //! costs a decision nothing: the heap does not admit it.
 //!
+//! A trail can get more variables. Then room is made in all tables before one of them gets longer, and the heap is put in
+//! order anew, since the circle is longer.
+//!
 //! Where there are at most 64 variables, the true literals are kept as a set besides, in two words.
 //!
 //! What was last true is noted where a value is taken back, and not where it comes: for a variable with a value that is
 //! the literal on the trail.
-ghost use Rattle.std.specs.Prelude.{◌≡◌, ℕ, ◌+◌, ◌-◌, ◌<◌, ◌≤◌, ◌^◌, ◌∷◌, [], length, map, drop, ℤ, pos, true, false, IfOk, Some, None, IfSome, IfNone, neg_ℤ, min, slice_index_or, slice_set};
+ghost use Rattle.std.specs.Prelude.{◌≡◌, ℕ, ◌+◌, ◌-◌, ◌<◌, ◌≤◌, ◌^◌, ◌∷◌, [], length, map, drop, ℤ, pos, true, false, IfOk, OnOk, OnErr, Some, None, IfSome, IfNone, neg_ℤ, min, slice_index_or, slice_set};
 ghost use Rattle.sat_base.specs.Literals.{var_of, IsLiteral};
 ghost use Rattle.sat_base.specs.Members.{In};
 ghost use Rattle.sat_base.specs.Units.{IsUnset, HasValue, IsValue};
@@ -24,12 +27,13 @@ ghost use Rattle.lit_words.specs.Words.{AreWordsOf};
 ghost use Rattle.trail_book.specs.declared.entry.Entry.{Entry};
 ghost use Rattle.trail_book.specs.Slots.{entry_of};
 ghost use Rattle.trail_book.specs.Order.{IsPositive, activity_of, bumped, halved, grown, turned};
-ghost use Rattle.trail_book.specs.Trail.{trues, top, keep, oldest, IsTrail, IsPlace, with_unit, positive_from, new_trail, untouched_trail, IsTouched, AreAllTouched, IsFirst, IsReordered};
+ghost use Rattle.trail_book.specs.Trail.{trues, top, keep, oldest, IsTrail, IsPlace, with_unit, positive_from, new_trail, untouched_trail, widened, IsTouched, AreAllTouched, IsFirst, IsReordered};
 
 use crate::entry::Entry;
 use crate::heap::Heap;
 use crate::order::Ranking;
 use crate::slot::{Slot, id};
+use crate::tables::{add_positive, fill_to, reserve_to};
 use crate::value::Value;
 use crate::words::{FEW, note_true, note_unset};
 use lit_words::LitWords;
@@ -72,7 +76,7 @@ impl Model for Trail {
 }
 
 impl Trail {
-    /// No literal is true, and decisions are made on every variable. All memory that the trail will ever need is taken here.
+    /// No literal is true, and decisions are made on every variable. All memory that these variables will ever need is taken here.
     pub fn new(alloc: Global, vars: u32) -> Result<Trail, AllocError>
         requires { vars < 2 ^ 31 }
         ensures trail { IfOk result (λ trail. trail ≡ new_trail vars) }
@@ -102,6 +106,31 @@ impl Trail {
             words: LitWords::new(),
             done: 0,
         })
+    }
+
+    /// Has more variables from now on, up to this one. Those that come have no value, and none of them is touched.
+    pub fn widen(&mut self, vars: u32) -> Result<(), AllocError>
+        requires more { self.old.vars ≤ vars }
+        requires small { vars < 2 ^ 31 }
+        ensures ok { OnOk result (self.new ≡ widened vars self.old) }
+        ensures err { OnErr result (self.new ≡ self.old) }
+    {
+        let len = vars as usize;
+        reserve_to(&mut self.slots, len)?;
+        reserve_to(&mut self.values, len)?;
+        reserve_to(&mut self.places, len)?;
+        reserve_to(&mut self.held, len)?;
+        reserve_to(&mut self.touched, len)?;
+        self.heap.reserve(vars)?;
+        self.ranking.widen(vars)?;
+        // From here on nothing wants memory.
+        self.heap.widen(vars);
+        fill_to(&mut self.values, len, Value::Unset);
+        fill_to(&mut self.places, len, 0);
+        add_positive(&mut self.held, vars);
+        fill_to(&mut self.touched, len, false);
+        self.vars = vars;
+        Ok(())
     }
 
     pub fn vars(&self) -> u32
