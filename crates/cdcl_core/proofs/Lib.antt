@@ -12,3 +12,4 @@ mod ResumeLemmas
 pub mod ForgetLemmas
 pub mod ActivityLemmas
 pub mod RestartLemmas
+pub mod WideLemmas

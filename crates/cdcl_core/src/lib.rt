@@ -13,6 +13,8 @@
 //! Clauses stay, and so do the learnt ones and the trail: a later search goes on from there. One call costs what it searches
 //! and, where it ends with a model, a value for each variable.
 //!
+//! A solver can get more variables, by `Solver::widen`, and goes on from where it stands.
+//!
 //! Where several solvers are given the same clauses, `Solver::beside` has the log of each read them in one list.
 //!
 //! Start with [`Solver`], whose contracts are in the words of `specs/Answers.antt`. The loop is in `search.rt`, where
@@ -40,6 +42,7 @@ mod solver;
 mod steps;
 mod units;
 mod usage;
+mod widening;
 
 pub use solved::Solved;
 pub use solver::Solver;

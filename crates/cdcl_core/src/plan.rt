@@ -42,7 +42,7 @@ pub struct Plan {
 }
 
 impl Plan {
-    /// A plan without literals. It takes all its memory here.
+    /// A plan without literals. It takes all the memory for these variables here.
     pub fn new(alloc: Global, vars: u32) -> Result<Plan, AllocError> {
         Ok(Plan {
             lits: vec![in alloc; Lit::new(1); vars as usize]?,
@@ -52,6 +52,14 @@ impl Plan {
             count: 0,
             interval: FIRST_INTERVAL,
         })
+    }
+
+    /// Has room for the literals of so many variables.
+    pub fn widen(&mut self, vars: u32) -> Result<(), AllocError> {
+        if self.lits.len() < vars as usize {
+            self.lits.resize(vars as usize, Lit::new(1))?;
+        }
+        Ok(())
     }
 
     /// Begins with the first literal again. Where choices are positive only, nothing but what is put in front begins it.

@@ -4,7 +4,7 @@
 //! added clause takes back as much of it as it asks for, and a search that assumes nothing goes on from there. Where a
 //! search wanted memory, the log is honest still, but the rest may be amid a step: the solver is broken then, and takes no
 //! further clause or search.
-ghost use Rattle.std.specs.Prelude.{◌≡◌, ◌⊎◌, ℤ, ◌<◌, ◌^◌, ◌++◌, ◌∷◌, [], true, false, IfOk, OnOk, OnErr, IsErr};
+ghost use Rattle.std.specs.Prelude.{◌≡◌, ◌⊎◌, ℤ, ◌<◌, ◌≤◌, ◌^◌, ◌++◌, ◌∷◌, [], true, false, IfOk, OnOk, OnErr, IsErr};
 ghost use Rattle.sat_base.specs.Literals.{AreLiterals, IsLiteral};
 ghost use Rattle.sat_base.specs.Members.{In};
 ghost use Rattle.trail_book.specs.Trail.{IsTouched};
@@ -109,6 +109,20 @@ impl Solver {
         ensures small { result < 2 ^ 31 }
     {
         self.search.trail.vars()
+    }
+
+    /// Lets literals be over the variables 1 to `vars` from now on, which are more. All clauses stay, those that were learnt too, and
+    /// so does the trail. After want of memory in a search there are no more.
+    pub fn widen(&mut self, vars: u32) -> Result<(), AllocError>
+        requires more { self.old.vars ≤ vars }
+        requires small { vars < 2 ^ 31 }
+        ensures ok { OnOk result (self.new ≡ record self.old { vars = vars }) }
+        ensures err { OnErr result (self.new ≡ self.old) }
+    {
+        if self.broken {
+            return Err(AllocError);
+        }
+        self.search.widen(vars)
     }
 
     /// Adds a clause, at the cost of the clause and of the values that it takes back. After want of memory in a search it

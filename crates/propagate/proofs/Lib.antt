@@ -17,3 +17,4 @@ pub mod EnterLemmas
 pub mod NewLemmas
 pub mod RebuildLemmas
 pub mod UnparkedLemmas
+pub mod WideLemmas

@@ -14,7 +14,8 @@
 //! Each clause watches two of its literals, so that only clauses that may have become unit or falsified are looked at.
 //! What has to hold of the watches for that is one fact of the store and the trail, `IsKept`, which [`propagate`] needs
 //! and keeps. A new clause comes to it by [`enter`], at whatever level, or by [`watch`]; a decision behind a fixpoint keeps
-//! it, and so does going back by [`back_to`]. Where clauses were forgotten the lists are built anew by [`rebuild`].
+//! it, and so does going back by [`back_to`]. Where clauses were forgotten the lists are built anew by [`rebuild`], and
+//! [`widen`] lets more variables come.
 //!
 //! [`propagate_parking`] does the same, and takes watches of satisfied clauses out of the lists until they are needed again.
 //! Nothing else parks: who never calls it, and begins with nothing parked, has nothing parked (`IsUnparked`), and may go
@@ -32,9 +33,11 @@ mod propagated;
 mod propagation;
 mod relisting;
 mod visit;
+mod widening;
 
 pub use entrance::{enter, level_of, watch};
 pub use parking::back_to;
 pub use propagated::Propagated;
 pub use propagation::{propagate, propagate_parking};
 pub use relisting::rebuild;
+pub use widening::widen;
