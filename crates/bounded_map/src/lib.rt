@@ -17,8 +17,8 @@
 //! and nothing that was learnt is lost.
 //!
 //! Start with `specs/Beside.antt`, which says what the variables behind those of the groups mean, and with `map.rt`, whose head
-//! says why the answers are right. `counter.rt` has the rows of the counter, `row.rt` the clauses of one, `sure.rt` what is
-//! known of groups, and `level.rt` asks once more for what others can check.
+//! says why the answers are right. `counter.rt` has the rows of the counter, `row.rt` the clauses of
+//! one, and `level.rt` asks once more for what others can check.
 //!
 //! Not said here: that a seed is within the bound, which of the sets it is, how many units it costs, and that memory suffices.
 #![tactic(auto)]
@@ -28,7 +28,6 @@ mod level;
 mod map;
 mod row;
 mod sets;
-mod sure;
 
 pub use level::{AskedLevel, LevelAnswer};
 pub use map::BoundedMap;

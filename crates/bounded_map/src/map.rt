@@ -94,7 +94,8 @@ impl BoundedMap {
         // What there is no memory for is left out.
         self.counter.note(self.kind, set.as_slice(), side);
         if let Some(most) = self.bound {
-            self.counter.grow(alloc, &mut self.solver, self.kind, self.groups, most);
+            self.counter
+                .grow(alloc, &mut self.solver, self.kind, self.groups, most);
         }
         Ok(())
     }
@@ -108,18 +109,14 @@ impl BoundedMap {
         ensures models { HasModelsWithin self.new }
     {
         self.bound = Some(most);
-        self.counter.grow(alloc, &mut self.solver, self.kind, self.groups, most);
+        self.counter
+            .grow(alloc, &mut self.solver, self.kind, self.groups, most);
         Ok(())
     }
 
     /// Finds a set that no block explores; it looks for one within the bound. `turn` turns the order in which groups are
     /// decided.
-    pub fn seed(
-        &mut self,
-        alloc: Global,
-        turn: u64,
-        purse: &mut Purse,
-    ) -> Result<Seed, AllocError>
+    pub fn seed(&mut self, alloc: Global, turn: u64, purse: &mut Purse) -> Result<Seed, AllocError>
         ensures answer { IfOk result (λ answer. TellsSeed self.new purse.new.left answer) }
         ensures exhausted { IfOk result (λ answer. self.new.exhausted ≡ (self.old.exhausted || is_empty answer)) }
         ensures err { OnErr result (self.new.exhausted ≡ self.old.exhausted) }
@@ -171,7 +168,14 @@ impl BoundedMap {
             groups: self.groups,
             most,
         };
-        ask(alloc, &level, self.solver.log(), self.sides.as_slice(), turn, purse)
+        ask(
+            alloc,
+            &level,
+            self.solver.log(),
+            self.sides.as_slice(),
+            turn,
+            purse,
+        )
     }
 
     /// The log of all that was derived.

@@ -1,0 +1,2 @@
+pub mod TrueLemmas
+pub mod BlockLemmas

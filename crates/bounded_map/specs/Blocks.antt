@@ -1,0 +1,11 @@
+-- The blocks behind block clauses (MARCO: Liffiton, Previti, Malik and Marques-Silva 2016).
+use Rattle.std.specs.Prelude.{List, [], ◌∷◌, map, ℤ}
+use Rattle.gm_base.specs.declared.kind.Side.{Side}
+use Rattle.sat_base.specs.Literals.{var_of}
+use Rattle.gm_base.specs.Explored.{Found, block_of}
+
+-- the blocks behind clauses, each with its side: the set of a block is the groups that its clause names
+abbrev pub blocks_of : List (List ℤ) → List Side → List Found
+blocks_of [] sides = []
+blocks_of (clause ∷ clauses) [] = []
+blocks_of (clause ∷ clauses) (side ∷ sides) = block_of side (map var_of clause) ∷ blocks_of clauses sides

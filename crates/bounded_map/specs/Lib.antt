@@ -1,0 +1,5 @@
+pub mod State
+pub mod Beside
+pub mod Counting
+pub mod Blocks
+pub mod Inside
