@@ -1,5 +1,6 @@
 pub mod State
 pub mod Beside
+pub mod Rows
 pub mod Counting
 pub mod Blocks
 pub mod Inside

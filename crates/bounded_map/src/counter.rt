@@ -7,12 +7,12 @@
 //!
 //! A sure group has no row, and takes one off the bound. Where no more groups are counted than may, nothing is said. Rows come
 //! as long as all their variables are few enough. What wants memory, or too many variables, is left out.
-ghost use Rattle.std.specs.Prelude.{◌≡◌, ◌<◌, ◌≤◌, ◌^◌, ℕ, Some};
+ghost use Rattle.std.specs.Prelude.{◌≡◌, ◌+◌, ◌-◌, ◌<◌, ◌≤◌, ◌^◌, ◌++◌, ◌∷◌, [], ℕ, Some, None, Option, List, length};
 ghost use Rattle.gm_base.specs.Sets.{IsSubset, all_groups};
 ghost use Rattle.gm_base.specs.Explored.{Found, block_of};
-ghost use Rattle.bounded_map.specs.Counting.{IsCounting, KnowsGroups, AddsBeside};
+ghost use Rattle.bounded_map.specs.Counting.{IsCounting, AreNoted, AddsBeside, NotesOne, NotesAll};
 
-use crate::row::{add_cells, add_limit};
+use crate::row::{Row, add_limit, add_vars};
 use cdcl_core::Solver;
 use gm_base::{Kind, Side};
 use std::alloc::{AllocError, Global};
@@ -42,7 +42,11 @@ pub struct Counter {
 
 impl Counter {
     /// Nothing is counted.
-    pub fn new(alloc: Global) -> Counter {
+    pub fn new(alloc: Global) -> Counter
+        ensures rows { result.rows.items ≡ [] }
+        ensures waiting { result.waiting.items ≡ [] }
+        ensures sure { result.sure.items ≡ [] }
+    {
         Counter {
             rows: Vec::new(alloc),
             waiting: Vec::new(alloc),
@@ -54,8 +58,11 @@ impl Counter {
         }
     }
 
-    /// Notes the groups that a block names first, if it is of the other kind.
-    pub fn note(&mut self, kind: Kind, set: &[u32], side: Side) {
+    /// Notes the groups that a block names first, if it is of the other kind. Those for which there is no memory are left out.
+    pub fn note(&mut self, kind: Kind, set: &[u32], side: Side)
+        ensures noted { (groups : ℕ) (found : List Found) → IsSubset set.now (all_groups groups) → AreNoted kind groups found self.old → AreNoted kind groups (found ++ block_of side set.now ∷ []) self.new }
+        ensures rest { self.new ≡ record self.old { waiting = self.new.waiting; sure = self.new.sure; known = self.new.known } }
+    {
         match (kind, side) {
             (Kind::Conflict, Side::Down) => self.note_all(set),
             (Kind::Correction, Side::Up) => self.note_all(set),
@@ -64,7 +71,10 @@ impl Counter {
         }
     }
 
-    fn note_all(&mut self, set: &[u32]) {
+    fn note_all(&mut self, set: &[u32])
+        ensures noted { NotesAll set.now self.old self.new }
+        ensures rest { self.new ≡ record self.old { waiting = self.new.waiting; sure = self.new.sure; known = self.new.known } }
+    {
         let alone = set.len() == 1;
         for group in set {
             if self.note_one(*group, alone).is_err() {
@@ -74,54 +84,84 @@ impl Counter {
     }
 
     // Notes a group that was not known.
-    fn note_one(&mut self, group: u32, alone: bool) -> Result<(), AllocError> {
-        if self.known.insert(group)? {
-            let list = if alone {
-                &mut self.sure
-            } else {
-                &mut self.waiting
-            };
-            list.push(group)?;
+    fn note_one(&mut self, group: u32, alone: bool) -> Result<(), AllocError>
+        ensures noted { NotesOne group alone self.old self.new }
+        ensures rest { self.new ≡ record self.old { waiting = self.new.waiting; sure = self.new.sure; known = self.new.known } }
+    {
+        if !self.known.insert(group)? {
+            return Ok(());
+        }
+        if alone {
+            self.sure.push(group)?;
+        } else {
+            self.waiting.push(group)?;
         }
         Ok(())
     }
 
     /// Has rows come for those that wait, and the limit be said, as far as there is memory.
-    pub fn grow(&mut self, alloc: Global, solver: &mut Solver, kind: Kind, groups: u32, most: u32) {
+    pub fn grow(&mut self, alloc: Global, solver: &mut Solver, kind: Kind, groups: u32, most: u32)
+        requires { (found : List Found) × IsCounting kind groups (Some most) found solver.old self.old }
+        ensures counting { (found : List Found) → IsCounting kind groups (Some most) found solver.old self.old → IsCounting kind groups (Some most) found solver.new self.new }
+        ensures beside { AddsBeside groups solver.old solver.new }
+    {
         self.unsettle(most);
-        let allowed = most.saturating_sub(self.sure.len() as u32);
+        let allowed = (most as usize).saturating_sub(self.sure.len()) as u32;
         self.begin(allowed);
-        for _ in 0..self.waiting.len() {
-            if !self.has_room() || self.add_row(alloc, solver, kind).is_err() {
-                break;
-            }
-        }
-        self.limit(alloc, solver, allowed);
+        self.add_rows(alloc, solver, kind, groups);
+        self.limit(alloc, solver, kind, groups, most, allowed);
     }
 
     // Where more are sure than may count, some of them wait for rows.
-    fn unsettle(&mut self, most: u32) {
-        while self.sure.len() > most as usize {
+    fn unsettle(&mut self, most: u32)
+        ensures noted { (kind : Kind) (groups : ℕ) (found : List Found) → AreNoted kind groups found self.old → AreNoted kind groups found self.new }
+        ensures rest { self.new ≡ record self.old { waiting = self.new.waiting; sure = self.new.sure } }
+    {
+        for _ in most as usize..self.sure.len() {
+            if self.waiting.reserve(1).is_err() {
+                return;
+            }
             if let Some(group) = self.sure.pop() {
-                if self.waiting.push(group).is_err() {
-                    return;
-                }
+                self.waiting.push_reserved(group);
             }
         }
     }
 
-    // Tells how many variables a row has, where more groups are there than may count, and their rows are few enough.
-    fn begin(&mut self, allowed: u32) {
-        let counted = self.waiting.len() as u64;
+    // Tells how many variables a row has, where more groups wait than may count, and their rows are few enough. Until then there
+    // is no row.
+    fn begin(&mut self, allowed: u32)
+        ensures rows { 0 < length self.old.rows.items → self.new ≡ self.old }
+        ensures rest { self.new ≡ record self.old { columns = self.new.columns } }
+    {
+        if self.rows.len() > 0 {
+            return;
+        }
+        let waiting = self.waiting.len() as u64;
         let columns = allowed as u64 + 1;
-        if self.columns == 0 && columns <= counted && counted.saturating_mul(columns) <= MOST {
-            self.columns = columns as u32;
+        self.columns = if columns <= waiting && waiting.saturating_mul(columns) <= MOST {
+            columns as u32
+        } else {
+            0
+        };
+    }
+
+    // Has the rows come of those that wait, as long as they are few enough and there is memory.
+    fn add_rows(&mut self, alloc: Global, solver: &mut Solver, kind: Kind, groups: u32)
+        requires { (bound : Option ℕ) × (found : List Found) × IsCounting kind groups bound found solver.old self.old }
+        ensures counting { (bound : Option ℕ) (found : List Found) → IsCounting kind groups bound found solver.old self.old → IsCounting kind groups bound found solver.new self.new }
+        ensures beside { AddsBeside groups solver.old solver.new }
+        ensures sure { self.new.sure.items ≡ self.old.sure.items }
+    {
+        for _ in 0..self.waiting.len() {
+            if !self.has_room() || self.add_row(alloc, solver, kind, groups).is_err() {
+                return;
+            }
         }
     }
 
     // Whether one row more is few enough.
     fn has_room(&self) -> bool {
-        let rows = self.rows.len() as u64 + 1;
+        let rows = (self.rows.len() as u64).saturating_add(1);
         self.columns > 0 && rows.saturating_mul(self.columns as u64) <= MOST
     }
 
@@ -131,40 +171,51 @@ impl Counter {
         alloc: Global,
         solver: &mut Solver,
         kind: Kind,
-    ) -> Result<(), AllocError> {
+        groups: u32,
+    ) -> Result<(), AllocError>
+        requires { (bound : Option ℕ) × (found : List Found) × IsCounting kind groups bound found solver.old self.old }
+        ensures counting { (bound : Option ℕ) (found : List Found) → IsCounting kind groups bound found solver.old self.old → IsCounting kind groups bound found solver.new self.new }
+        ensures beside { AddsBeside groups solver.old solver.new }
+        ensures sure { self.new.sure.items ≡ self.old.sure.items }
+    {
+        self.rows.reserve(1)?;
         let Some(group) = self.waiting.last().copied() else {
             return Ok(());
         };
-        self.rows.reserve(1)?;
-        let vars = solver.vars();
-        if self.columns >= (1 << 31) - vars {
-            return Err(AllocError);
-        }
-        solver.widen(vars + self.columns)?;
-        let width = self.columns.min(self.rows.len() as u32 + 1);
-        add_cells(
-            alloc,
-            solver,
-            kind,
-            group,
-            self.rows.len() as u32,
-            self.last,
-            vars + 1,
-            width,
-        )?;
+        let next = add_vars(solver, self.columns)?;
+        let row = Row {
+            rows: self.rows.len(),
+            last: self.last,
+            next,
+            width: (self.rows.len() + 1).min(self.columns as usize) as u32,
+        };
+        row.add_cells(alloc, solver, kind, group)?;
         self.waiting.pop();
         self.rows.push_reserved(group);
-        self.last = vars + 1;
+        self.last = next;
         Ok(())
     }
 
-    // Says that no more of the groups are counted than are allowed.
-    fn limit(&mut self, alloc: Global, solver: &mut Solver, allowed: u32) {
+    // Says that no more of the groups with a row are counted than are allowed.
+    fn limit(
+        &mut self,
+        alloc: Global,
+        solver: &mut Solver,
+        kind: Kind,
+        groups: u32,
+        most: u32,
+        allowed: u32,
+    )
+        requires allowed { allowed ≡ most - length self.old.sure.items }
+        requires counting { (found : List Found) × IsCounting kind groups (Some most) found solver.old self.old }
+        ensures counting { (found : List Found) → IsCounting kind groups (Some most) found solver.old self.old → IsCounting kind groups (Some most) found solver.new self.new }
+        ensures beside { AddsBeside groups solver.old solver.new }
+    {
         let rows = self.rows.len();
-        if allowed >= self.columns
-            || rows <= allowed as usize
-            || self.limited == Some((rows, allowed))
-        {
+        if allowed >= self.columns || rows <= allowed as usize {
+            return;
+        }
+        if self.limited == Some((rows, allowed)) {
             return;
         }
         if add_limit(alloc, solver, self.last + allowed).is_ok() {
