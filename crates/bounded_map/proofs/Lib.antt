@@ -1,2 +1,4 @@
 pub mod TrueLemmas
 pub mod BlockLemmas
+pub mod OccursLemmas
+pub mod BesideLemmas
