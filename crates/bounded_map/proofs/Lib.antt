@@ -2,3 +2,5 @@ pub mod TrueLemmas
 pub mod BlockLemmas
 pub mod OccursLemmas
 pub mod BesideLemmas
+pub mod RowLemmas
+pub mod CountingLemmas

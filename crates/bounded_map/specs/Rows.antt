@@ -39,8 +39,16 @@ IsOfColumn kind group row column clause =
 abbrev pub IsCell : Kind → ℕ → Row → List ℤ → Type 0
 IsCell kind group row clause = (column : ℕ) × (column < row.width) × IsOfColumn kind group row column clause
 
--- clauses of the row were given to a solver
-pub record AddsCells (kind : Kind) (group : ℕ) (row : Row) (old new : Solver) : Type 0 where
+-- a solver was given more clauses, each of which is so
+pub record Adds (P : List ℤ → Type 0) (old new : Solver) : Type 0 where
   pub inputs : List (List ℤ)
   pub is : new ≡ record old { log = old.log ++ map Input inputs }
-  pub cells : (c : List ℤ) → In c inputs → IsCell kind group row c
+  pub each : (c : List ℤ) → In c inputs → P c
+
+-- clauses of a column
+abbrev pub AddsColumn : Kind → ℕ → Row → ℕ → Solver → Solver → Type 0
+AddsColumn kind group row column old new = Adds (IsOfColumn kind group row column) old new
+
+-- clauses of the row
+abbrev pub AddsCells : Kind → ℕ → Row → Solver → Solver → Type 0
+AddsCells kind group row old new = Adds (IsCell kind group row) old new

@@ -3,11 +3,12 @@
 //! Where fewer than so many are counted up to this row, fewer are up to the one before. And where the row's group is counted, one
 //! less is. So each clause here is true wherever the variables mean that of the groups up to their row fewer than so many are
 //! counted.
-ghost use Rattle.std.specs.Prelude.{◌≡◌, ◌+◌, ◌<◌, ◌≤◌, ◌^◌, ◌++◌, ◌∷◌, [], pos, neg_ℤ, IfOk, OnOk, OnErr};
+ghost use Rattle.std.specs.Prelude.{◌≡◌, ◌+◌, ◌<◌, ◌≤◌, ◌^◌, ◌++◌, ◌∷◌, [], ℕ, pos, IfOk, OnOk, OnErr};
 ghost use Rattle.sat_base.specs.Literals.{IsLiteral};
+ghost use Rattle.gm_base.specs.declared.kind.Kind.{Kind};
 ghost use Rattle.lrat_steps.specs.Log.{Input};
 ghost use Rattle.size_counter.specs.Counter.{counted};
-ghost use Rattle.bounded_map.specs.Rows.{AddsCells, AreOver};
+ghost use Rattle.bounded_map.specs.Rows.{AddsCells, AddsColumn, AreOver};
 
 use cdcl_core::Solver;
 use gm_base::{Kind, Lit};
@@ -64,74 +65,71 @@ impl Row {
         requires over { AreOver solver.old.vars self.now }
         ensures { AddsCells kind group self.now solver.old solver.new }
     {
-        let _vars = solver.vars(); // So each variable's number is that of a literal.
-        let counted = counted_lit(kind, group);
         for column in 0..self.width {
-            if (column as usize) < self.rows {
-                add_carried(alloc, solver, self.last + column, self.next + column)?;
-            }
-            if column == 0 {
-                add_first(alloc, solver, counted, self.next)?;
-            } else {
-                add_raised(
-                    alloc,
-                    solver,
-                    counted,
-                    self.last + (column - 1),
-                    self.next + column,
-                )?;
-            }
+            self.add_column(alloc, solver, kind, group, column)?;
         }
         Ok(())
     }
-}
 
-// Fewer up to this row are fewer up to the one before.
-fn add_carried(alloc: Global, solver: &mut Solver, before: u32, now: u32) -> Result<(), AllocError>
-    requires before { IsLiteral solver.old.vars (pos before) }
-    requires now { IsLiteral solver.old.vars (pos now) }
-    ensures ok { OnOk result (solver.new ≡ record solver.old { log = solver.old.log ++ Input (pos before ∷ neg_ℤ (pos now) ∷ []) ∷ [] }) }
-    ensures err { OnErr result (solver.new ≡ solver.old) }
-{
-    let _vars = solver.vars(); // So each variable's number is that of a literal.
-    let fewer_before = Lit::new(before as i32);
-    let fewer_now = Lit::new(now as i32);
-    solver.add(alloc, &[fewer_before, fewer_now.negated()])
-}
+    // Adds the clauses of a column.
+    fn add_column(
+        &self,
+        alloc: Global,
+        solver: &mut Solver,
+        kind: Kind,
+        group: u32,
+        column: u32,
+    ) -> Result<(), AllocError>
+        requires group { IsLiteral solver.old.vars (pos group) }
+        requires over { AreOver solver.old.vars self.now }
+        requires column { column < self.now.width }
+        ensures { AddsColumn kind group self.now column solver.old solver.new }
+    {
+        self.carry(alloc, solver, column)?;
+        self.raise(alloc, solver, kind, group, column)
+    }
 
-// Where the group is counted, it is not so that none is.
-fn add_first(alloc: Global, solver: &mut Solver, counted: Lit, now: u32) -> Result<(), AllocError>
-    requires counted { IsLiteral solver.old.vars (neg_ℤ counted) }
-    requires now { IsLiteral solver.old.vars (pos now) }
-    ensures ok { OnOk result (solver.new ≡ record solver.old { log = solver.old.log ++ Input (neg_ℤ counted ∷ neg_ℤ (pos now) ∷ []) ∷ [] }) }
-    ensures err { OnErr result (solver.new ≡ solver.old) }
-{
-    let _vars = solver.vars(); // So each variable's number is that of a literal.
-    let fewer_now = Lit::new(now as i32);
-    solver.add(alloc, &[counted.negated(), fewer_now.negated()])
-}
+    // Fewer up to this row are fewer up to the one before.
+    fn carry(&self, alloc: Global, solver: &mut Solver, column: u32) -> Result<(), AllocError>
+        requires over { AreOver solver.old.vars self.now }
+        requires column { column < self.now.width }
+        ensures { (kind : Kind) (group : ℕ) → AddsColumn kind group self.now column solver.old solver.new }
+    {
+        if column as usize >= self.rows {
+            return Ok(());
+        }
+        let _vars = solver.vars(); // So each variable's number is that of a literal.
+        let before = Lit::new((self.last + column) as i32);
+        let now = Lit::new((self.next + column) as i32);
+        solver.add(alloc, &[before, now.negated()])?;
+        Ok(())
+    }
 
-// Where the group is counted, one less is up to the row before.
-fn add_raised(
-    alloc: Global,
-    solver: &mut Solver,
-    counted: Lit,
-    before: u32,
-    now: u32,
-) -> Result<(), AllocError>
-    requires counted { IsLiteral solver.old.vars (neg_ℤ counted) }
-    requires before { IsLiteral solver.old.vars (pos before) }
-    requires now { IsLiteral solver.old.vars (pos now) }
-    ensures ok { OnOk result (solver.new ≡ record solver.old { log = solver.old.log ++ Input (neg_ℤ counted ∷ pos before ∷ neg_ℤ (pos now) ∷ []) ∷ [] }) }
-    ensures err { OnErr result (solver.new ≡ solver.old) }
-{
-    let _vars = solver.vars(); // So each variable's number is that of a literal.
-    let fewer_before = Lit::new(before as i32);
-    let fewer_now = Lit::new(now as i32);
-    solver.add(
-        alloc,
-        &[counted.negated(), fewer_before, fewer_now.negated()],
-    )
+    // Where the group is counted, one less is up to the row before; and none is no number of groups.
+    fn raise(
+        &self,
+        alloc: Global,
+        solver: &mut Solver,
+        kind: Kind,
+        group: u32,
+        column: u32,
+    ) -> Result<(), AllocError>
+        requires group { IsLiteral solver.old.vars (pos group) }
+        requires over { AreOver solver.old.vars self.now }
+        requires column { column < self.now.width }
+        ensures { AddsColumn kind group self.now column solver.old solver.new }
+    {
+        let _vars = solver.vars(); // So each variable's number is that of a literal.
+        let counted = counted_lit(kind, group);
+        let now = Lit::new((self.next + column) as i32);
+        if column == 0 {
+            solver.add(alloc, &[counted.negated(), now.negated()])?;
+            return Ok(());
+        }
+        let before = Lit::new((self.last + (column - 1)) as i32);
+        solver.add(alloc, &[counted.negated(), before, now.negated()])?;
+        Ok(())
+    }
 }
 
 /// Adds the limit, by the variable that says that fewer than so many are counted.

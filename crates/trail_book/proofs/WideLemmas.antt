@@ -1,6 +1,6 @@
 -- Tables that have more variables than before.
 use Rattle.std.proofs.Common.{◌≡◌, ℕ, zero, suc, ◌+◌, ◌-◌, ◌<◌, ◌≤◌, List, [], ◌∷◌, ◌++◌, length, replicate, set, get_or, refl, sym, ◌∙◌, ap, subst, inl, inr, arith, length-set}
-use Rattle.std.specs.Prelude.{ℤ, pos, negsuc, neg_ℤ, Bool, true, false, slice_index, slice_index_or}
+use Rattle.std.specs.Prelude.{ℤ, pos, negsuc, neg_ℤ, Bool, true, false, slice_index_or}
 use Rattle.std.proofs.lemmas.Bool.{cases_lt}
 use Rattle.std.proofs.lemmas.List.{get_or_append_left, get_or-append_right, set-append_left}
 use Rattle.sat_base.specs.Literals.{var_of, IsLiteral}
@@ -13,7 +13,7 @@ use Rattle.trail_book.specs.declared.value.Value.TheVariants.{Unset}
 use Rattle.trail_book.specs.Trail.{trues, IsTrail, positive_from}
 use Rattle.trail_book.specs.Slots.{entries_of, AreKept}
 use Rattle.trail_book.specs.Values.{truth_of, AreValues}
-use Rattle.trail_book.specs.Heap.{Heap, Admits, AdmitsSame, ArePlaces}
+use Rattle.trail_book.specs.Heap.{Heap, AdmitsSame}
 use Rattle.trail_book.specs.Tables.{AreOfVars, AreAdmitted, holding}
 use Rattle.trail_book.proofs.WaitLemmas.{held_new}
 
@@ -109,47 +109,3 @@ pub admitted_wider : (n : ℕ) (touched : List Bool) (old new : Heap) → Admits
 admitted_wider n touched old new same may = λ i.
     let is = extended touched n i false in
     (λ has. is ∙ (may i).0 ((same i).0 has), λ t. (same i).1 ((may i).1 (sym is ∙ t)))
-
--- numbers that come stand at their own places
-module _ (items places more later : List ℕ) (size : ℕ) (t : ArePlaces items places) (le : length items ≤ size)
-    (long : length more ≡ size) (same_long : length later ≡ size)
-    (stay : (place : ℕ) → place < length items → slice_index more place ≡ slice_index items place)
-    (come : (place : ℕ) → length items ≤ place → place < size → slice_index more place ≡ place)
-    (stay_there : (item : ℕ) → item < length places → slice_index later item ≡ slice_index places item)
-    (come_there : (item : ℕ) → length places ≤ item → item < size → slice_index later item ≡ item) where
-  pub places_wider : ArePlaces more later
-  places_wider = record {
-    same = same_long ∙ sym long;
-    item = λ p h. elim (cases_lt p (length items)) [
-      | inl old ↦ let low = t.item p old in let is = stay p old in omega (arith, low, is, le, long)
-      | inr new ↦ let is = come p new (omega (arith, h, long)) in omega (arith, is, h)
-    ];
-    place_of = λ p h. elim (cases_lt p (length items)) [
-      | inl old ↦
-          let low = t.item p old in
-          ap (slice_index later) (stay p old) ∙ stay_there (slice_index items p) (omega (arith, low, t.same)) ∙ t.place_of p old
-      | inr new ↦
-          let within : p < size = omega (arith, h, long) in
-          ap (slice_index later) (come p new within) ∙ come_there p (omega (arith, new, t.same)) within
-    ];
-    place = λ i h. elim (cases_lt i (length items)) [
-      | inl old ↦ let low = t.place i old in let is = stay_there i (omega (arith, old, t.same)) in omega (arith, low, is, le, long)
-      | inr new ↦ let is = come_there i (omega (arith, new, t.same)) (omega (arith, h, long)) in omega (arith, is, h)
-    ];
-    item_at = λ i h. elim (cases_lt i (length items)) [
-      | inl old ↦
-          let low = t.place i old in
-          ap (slice_index more) (stay_there i (omega (arith, old, t.same))) ∙ stay (slice_index places i) low ∙ t.item_at i old
-      | inr new ↦
-          let within : i < size = omega (arith, h, long) in
-          ap (slice_index more) (come_there i (omega (arith, new, t.same)) within) ∙ come i new within
-    ];
-  }
-
--- the heap admits the same, where what it admits stands among the items that were there
-pub admits_wider : (old new : Heap) → new.admitted ≡ old.admitted → old.admitted ≤ length old.items
-    → ((place : ℕ) → place < length old.items → slice_index new.items place ≡ slice_index old.items place) → AdmitsSame old new
-admits_wider old new may le stay = λ item. (
-  λ h. let low = h.1 in (h.0, omega (arith, low, may), sym (stay h.0 (omega (arith, low, may, le))) ∙ h.2),
-  λ h. let low = h.1 in (h.0, omega (arith, low, may), stay h.0 (omega (arith, low, le)) ∙ h.2),
-)
