@@ -283,9 +283,9 @@ row_came groups vars columns fewers rows is = λ column h.
       omega (arith, is),
       omega (arith, is, sum, long, h),
       get_or-append_right fewers (fewers_from rows 0 columns) (vars + 1 + column - 1 - groups) nothing (omega (arith, is))
-      ∙ ap (λ i. slice_index_or (fewers_from rows 0 columns) i nothing) at
-      ∙ fewers_at rows 0 columns column h
-      ∙ ap (λ n. of rows n) (omega arith),
+          ∙ ap (λ i. slice_index_or (fewers_from rows 0 columns) i nothing) at
+          ∙ fewers_at rows 0 columns column h
+          ∙ ap (λ n. of rows n) (omega arith),
     )
   where
     of : List ℕ → ℕ → Fewer

@@ -278,11 +278,11 @@ beside_join groups a b c x y = record {
 
 -- ---- the limit
 
-pub counting_limit : (kind : Kind) (groups most allowed : ℕ) (found : List Found) (old new : Solver) (c c' : Counter) → AreWithin groups found
+pub counting_limit : (kind : Kind) (groups most allowed : ℕ) (found : List Found) (old new : Solver) (c c' : Counter)
     → allowed ≡ most - length c.sure.items → allowed < c.columns → 0 < length c.rows.items
     → new ≡ record old { log = old.log ++ Input (pos (c.last + allowed) ∷ []) ∷ [] }
     → c' ≡ record c { limited = c'.limited } → IsCounting kind groups (Some most) found old c → IsCounting kind groups (Some most) found new c'
-counting_limit kind groups most allowed found old new c c' within is low some solver_is c_is k =
+counting_limit kind groups most allowed found old new c c' is low some solver_is c_is k =
     let row = k.row some allowed low in
     let a = row.0 in
     let b = row.1 in
@@ -292,7 +292,7 @@ counting_limit kind groups most allowed found old new c c' within is low some so
     let sound : IsSound kind groups (Some most) found k.fewers clause =
     sound_limit kind groups (Some most) found k.fewers (c.last + allowed) allowed c.rows.items row
     (λ assign len out few.
-    let fits = few_rows kind groups most found c.rows.items c.sure.items assign within
+    let fits = few_rows kind groups most found c.rows.items c.sure.items assign k.sets
     (λ g. let one = k.noted.once g in omega (arith, one))
     (λ g i. k.noted.within g (let one = has_occurs c.rows.items g i in omega (arith, one)))
     k.noted.alone len out few in
@@ -302,6 +302,7 @@ counting_limit kind groups most allowed found old new c c' within is low some so
     (subst (λ (s : Solver). IsCounting kind groups (Some most) found s (record c { limited = c'.limited })) (sym solver_is)
     (record {
       small = k.small;
+      sets = k.sets;
       fewers = k.fewers;
       beside =
           subst (λ (cs : List (List ℤ)). IsBeside kind groups (Some most) found old.vars cs k.fewers) (sym (inputs-push_input old.log clause))

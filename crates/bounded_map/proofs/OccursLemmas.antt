@@ -42,11 +42,11 @@ pub distinct_from : (xs : List ℕ) → ((g : ℕ) → occurs g xs ≤ 1) → Ar
 distinct_from [] once = tt
 distinct_from (x ∷ xs) once = (
   false_from_ne_true (has xs x)
-  (λ i.
-  let more = has_occurs xs x i in
-  let here = cond-true (eqb x x) 1 0 (eq-eqb x x refl) in
-  let most = once x in
-  absurd (omega (arith, more, here, most))),
+      (λ i.
+      let more = has_occurs xs x i in
+      let here = cond-true (eqb x x) 1 0 (eq-eqb x x refl) in
+      let most = once x in
+      absurd (omega (arith, more, here, most))),
   distinct_from xs (λ g. let most = once g in omega (arith, most)),
 )
 

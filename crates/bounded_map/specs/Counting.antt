@@ -8,6 +8,7 @@ use Rattle.gm_base.specs.Sets.{has, IsSubset, all_groups}
 use Rattle.gm_base.specs.Explored.{Found}
 use Rattle.lrat_steps.specs.Log.{LogStep, Input, inputs_of}
 use Rattle.cdcl_core.specs.Solver.{Solver}
+use Rattle.size_levels.specs.Sizes.{AreSetsOf}
 use Rattle.size_counter.specs.Names.{alone_in, names_of}
 use Rattle.bounded_map.specs.declared.counter.Counter.{Counter}
 use Rattle.bounded_map.specs.State.{is_wide}
@@ -33,6 +34,7 @@ pub record AreNoted (kind : Kind) (groups : ℕ) (found : List Found) (c : Count
 -- what the variables of a map mean, the last row among them, with a bound or without
 pub record IsCounting (kind : Kind) (groups : ℕ) (bound : Option ℕ) (found : List Found) (solver : Solver) (c : Counter) : Type 0 where
   pub small : solver.vars < 2 ^ 31
+  pub sets : AreSetsOf groups found
   pub fewers : List Fewer
   pub beside : IsBeside kind groups bound found solver.vars (inputs_of solver.log) fewers
   pub row : 0 < length c.rows.items → IsRow groups fewers c.rows.items c.last c.columns

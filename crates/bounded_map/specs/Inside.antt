@@ -6,6 +6,7 @@ use Rattle.gm_base.specs.Sets.{IsSubset, all_groups}
 use Rattle.gm_base.specs.Explored.{Found, block_clause}
 use Rattle.lrat_steps.specs.Log.{LogStep, inputs_of}
 use Rattle.cdcl_core.specs.Answers.{IsRefuted}
+use Rattle.size_counter.specs.Names.{names_of}
 use Rattle.bounded_map.specs.State.{MapState, narrow, IsHonestBeside}
 use Rattle.bounded_map.specs.Blocks.{blocks_of}
 use Rattle.bounded_map.specs.Counting.{IsCounting}
@@ -44,5 +45,6 @@ pub record IsMap (a : Inside) : Type 0 where
   pub within : (f : Found) → In f (found_in a) → IsSubset f.set (all_groups a.groups)
   pub honest : IsHonestBeside a.groups (found_in a) a.solver.log
   pub counting : IsCounting a.kind a.groups a.bound (found_in a) a.solver a.counter
+  pub names : IfSome a.names (λ n. n ≡ names_of a.kind (found_in a))
   pub plain : IsPlain a.bound a.groups a.solver.vars
   pub empty : IfSome a.empty (λ id. IsRefuted a.solver.log [] id)

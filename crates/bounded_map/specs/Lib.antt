@@ -3,4 +3,5 @@ pub mod Beside
 pub mod Rows
 pub mod Counting
 pub mod Blocks
+pub mod Asking
 pub mod Inside

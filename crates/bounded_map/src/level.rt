@@ -4,13 +4,18 @@
 //! clauses, in the order in which they came, and behind them those of a counter that they can make themselves from the blocks
 //! (`size_counter`). It is searched for in a solver of its own, with the limit assumed. There is one, since each set within the
 //! bound is explored; what was learnt for it is paid.
-ghost use Rattle.std.specs.Prelude.{◌≡◌, ◌<◌, ◌^◌, IfOk, OnErr};
-ghost use Rattle.gm_base.specs.Explored.{Found};
+ghost use Rattle.std.specs.Prelude.{◌≡◌, ◌+◌, ◌<◌, ◌≤◌, ◌^◌, ◌++◌, List, ℤ, length, map, IfOk, OnOk, OnErr};
+ghost use Rattle.lrat_steps.specs.Log.{Input, inputs_of, steps_of, step_at};
+ghost use Rattle.cdcl_core.specs.Answers.{IsHonestlyPaid};
+ghost use Rattle.size_counter.specs.Levels.{level_counter, level_vars};
+ghost use Rattle.bounded_map.specs.State.{is_wide, narrow};
+ghost use Rattle.bounded_map.specs.Asking.{IsClosed, AreAllOver, Answers, IsAnswered};
+ghost use Rattle.bounded_map.specs.Blocks.{is_block_step};
 
 use cdcl_core::{Solved, Solver};
-use gm_base::{Derivation, Kind, Lit, Purse, Side};
+use gm_base::{Derivation, Lit, Purse};
 use lrat_steps::{Log, StepKind};
-use size_counter::{Level as Counted, Naming};
+use size_counter::Level;
 use std::alloc::{AllocError, Global};
 
 /// What asking for a level comes to.
@@ -29,32 +34,29 @@ pub struct AskedLevel {
     pub log: Log,
 }
 
-/// Of which kind sets are looked for, in how many groups, and how many may count.
-pub struct Level {
-    pub kind: Kind,
-    pub groups: u32,
-    pub most: u32,
-}
-
-/// Asks for the level of the blocks in a map's log.
+/// Asks whether the clauses in a map's log that are over the groups alone, those of the level's counter and its limit can hold
+/// together. They cannot; without memory nothing is paid.
 pub fn ask(
     alloc: Global,
     level: &Level,
     log: &Log,
-    sides: &[Side],
     turn: u64,
     purse: &mut Purse,
-) -> Result<AskedLevel, AllocError> {
-    let counted = counted_level(alloc, level, log, sides)?;
-    let Some(vars) = counted.vars() else {
+) -> Result<AskedLevel, AllocError>
+    requires over { AreAllOver level.now.groups (narrow level.now.groups (inputs_of log.now)) }
+    requires closed { IsClosed level.now (narrow level.now.groups (inputs_of log.now)) }
+    ensures asked { IfOk result (IsAnswered level.now (narrow level.now.groups (inputs_of log.now)) purse.old.left purse.new.left) }
+    ensures err { OnErr result (purse.new.left ≡ purse.old.left) }
+{
+    let Some(vars) = level.vars() else {
         return Err(AllocError);
     };
     let mut solver = Solver::new(alloc, vars)?;
-    add_blocks(alloc, &mut solver, level.groups, log)?;
-    add_counter(alloc, &mut solver, &counted)?;
+    add_blocks(alloc, &mut solver, level.groups(), log)?;
+    add_counter(alloc, &mut solver, level)?;
     // The purse stays as it is until all that wants memory is there.
     let mut left = Purse { left: purse.left };
-    let answer = search(alloc, &mut solver, counted.limit(), turn, &mut left)?;
+    let answer = search(alloc, &mut solver, level, turn, &mut left)?;
     purse.left = left.left;
     Ok(AskedLevel {
         answer,
@@ -62,49 +64,19 @@ pub fn ask(
     })
 }
 
-// The level of the blocks: which groups are counted, in which order, and how many of them may count.
-fn counted_level(
-    alloc: Global,
-    level: &Level,
-    log: &Log,
-    sides: &[Side],
-) -> Result<Counted, AllocError> {
-    let mut naming = Naming::new(alloc, level.kind);
-    let mut at = 0;
-    for id in 1..log.len() + 1 {
-        if is_block(log, id, level.groups) && at < sides.len() {
-            let groups = groups_of(alloc, log.lits(id))?;
-            naming.add(kind_of(sides[at]), groups.as_slice())?;
-            at += 1;
-        }
-    }
-    naming.level(alloc, level.groups, level.most)
-}
-
-// The kind of a block's set.
-fn kind_of(side: Side) -> Kind {
-    match side {
-        Side::Up => Kind::Conflict,
-        Side::Down => Kind::Correction,
-    }
-}
-
-// The groups that a block's clause names.
-fn groups_of(alloc: Global, lits: &[Lit]) -> Result<Vec<u32>, AllocError> {
-    let mut groups = Vec::with_capacity(alloc, lits.len())?;
-    for lit in lits {
-        groups.push(lit.var())?;
-    }
-    Ok(groups)
-}
-
 // Whether a step is the clause of a block: one that was given, over the groups alone.
-fn is_block(log: &Log, id: u64, groups: u32) -> bool {
+fn is_block(log: &Log, id: u64, groups: u32) -> bool
+    requires from_one { 0 < id }
+    requires within { id ≤ length (steps_of log.now) }
+    ensures { result ≡ is_block_step groups (step_at log.now id) }
+{
     log.kind(id) == StepKind::Input && !is_wide(log.lits(id), groups)
 }
 
 // Whether a clause has a variable behind those of the groups.
-fn is_wide(lits: &[Lit], groups: u32) -> bool {
+fn is_wide(lits: &[Lit], groups: u32) -> bool
+    ensures { result ≡ is_wide groups lits.now }
+{
     for lit in lits {
         if lit.var() > groups {
             return true;
@@ -114,12 +86,11 @@ fn is_wide(lits: &[Lit], groups: u32) -> bool {
 }
 
 // Gives the solver the clauses of the blocks, in their order.
-fn add_blocks(
-    alloc: Global,
-    solver: &mut Solver,
-    groups: u32,
-    log: &Log,
-) -> Result<(), AllocError> {
+fn add_blocks(alloc: Global, solver: &mut Solver, groups: u32, log: &Log) -> Result<(), AllocError>
+    requires over { AreAllOver groups (narrow groups (inputs_of log.now)) }
+    requires vars { groups ≤ solver.old.vars }
+    ensures { OnOk result (solver.new ≡ record solver.old { log = solver.old.log ++ map Input (narrow groups (inputs_of log.now)) }) }
+{
     for id in 1..log.len() + 1 {
         if is_block(log, id, groups) {
             solver.add(alloc, log.lits(id))?;
@@ -129,9 +100,13 @@ fn add_blocks(
 }
 
 // Gives the solver the clauses of the counter.
-fn add_counter(alloc: Global, solver: &mut Solver, counted: &Counted) -> Result<(), AllocError> {
-    for at in 0..counted.len() {
-        let clause = counted.clause(alloc, at)?;
+fn add_counter(alloc: Global, solver: &mut Solver, level: &Level) -> Result<(), AllocError>
+    requires { solver.old.vars ≡ level_vars level.now }
+    ensures { OnOk result (solver.new ≡ record solver.old { log = solver.old.log ++ map Input (level_counter level.now) }) }
+{
+    let _vars = solver.vars(); // So each variable's number is that of a literal.
+    for at in 0..level.len() {
+        let clause = level.clause(alloc, at)?;
         solver.add(alloc, &clause)?;
     }
     Ok(())
@@ -141,11 +116,17 @@ fn add_counter(alloc: Global, solver: &mut Solver, counted: &Counted) -> Result<
 fn search(
     alloc: Global,
     solver: &mut Solver,
-    limit: Option<Lit>,
+    level: &Level,
     turn: u64,
     purse: &mut Purse,
-) -> Result<LevelAnswer, AllocError> {
-    let solved = match limit {
+) -> Result<LevelAnswer, AllocError>
+    requires vars { solver.old.vars ≡ level_vars level.now }
+    requires inputs { (blocks : List (List ℤ)) × (inputs_of solver.old.log ≡ blocks ++ level_counter level.now) × AreAllOver level.now.groups blocks × IsClosed level.now blocks }
+    ensures answer { (blocks : List (List ℤ)) → inputs_of solver.old.log ≡ blocks ++ level_counter level.now → IfOk result (Answers level.now blocks solver.new.log purse.new.left) }
+    ensures paid { IsHonestlyPaid solver.old.log solver.new.log purse.old.left purse.new.left }
+{
+    let _vars = solver.vars(); // So each variable's number is that of a literal.
+    let solved = match level.limit() {
         Some(lit) => solver.solve(alloc, &[lit], turn, purse)?,
         None => solver.solve(alloc, &[], turn, purse)?,
     };

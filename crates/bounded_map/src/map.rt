@@ -14,21 +14,25 @@
 //! (`level.rt`).
 //!
 //! Groups are decided as it counts least, those of conflicts out and those of corrections in, and the counter's variables last.
-ghost use Rattle.std.specs.Prelude.{◌≡◌, ◌≢◌, ◌<◌, ◌≤◌, ◌^◌, ◌||◌, true, Some, None, IfOk, IfSome, OnOk, OnErr};
+ghost use Rattle.std.specs.Prelude.{◌≡◌, ◌≢◌, ◌<◌, ◌≤◌, ◌^◌, ◌||◌, ◌++◌, ◌∷◌, [], List, true, Some, None, IfOk, IfSome, OnOk, OnErr};
 ghost use Rattle.gm_base.specs.Sets.{IsSubset, all_groups};
-ghost use Rattle.gm_base.specs.Explored.{block_of};
+ghost use Rattle.gm_base.specs.Explored.{Found, block_of};
+ghost use Rattle.gm_base.specs.declared.kind.Kind.{Kind};
+ghost use Rattle.size_counter.specs.Names.{names_of};
 ghost use Rattle.evidence_rec.specs.Seeding.{is_empty};
 ghost use Rattle.bounded_map.specs.State.{MapState, new_map, IsBlockedBeside, IsBounded, HasMapLog, HasModelsWithin, TellsSeed, IsSearched, LevelIsAsked, shows_all_explored};
 
 use crate::counter::Counter;
-use crate::level::{AskedLevel, Level, ask};
+use crate::level::{AskedLevel, ask};
 use crate::sets::set_of;
 use cdcl_core::{Solved, Solver};
 use evidence_rec::{Seed, block_lits};
 use gm_base::{Derivation, GroupSet, Kind, Purse, Side};
 use lrat_steps::Log;
+use size_counter::Naming;
 use std::alloc::{AllocError, Global};
 use std::marker::Model;
+use std::mem;
 
 /// Finds sets of groups that nothing explores, and looks for those at which few count.
 #[derive(Drop)]
@@ -39,6 +43,8 @@ pub struct BoundedMap {
     bound: Option<u32>,
     // One for each block.
     sides: Vec<Side>,
+    // What their sets name, unless memory was wanting.
+    names: Option<Naming>,
     counter: Counter,
     // The id of the step with the empty clause, once a seed found no set.
     empty: Option<u64>,
@@ -72,6 +78,7 @@ impl BoundedMap {
             kind,
             bound: None,
             sides: Vec::new(alloc),
+            names: Some(Naming::new(alloc, kind)),
             counter: Counter::new(alloc),
             empty: None,
         })
@@ -92,6 +99,7 @@ impl BoundedMap {
         self.solver.add(alloc, &clause)?;
         self.sides.push_reserved(side);
         // What there is no memory for is left out.
+        self.names = named(mem::replace(&mut self.names, None), set, side);
         self.counter.note(self.kind, set.as_slice(), side);
         if let Some(most) = self.bound {
             self.counter
@@ -163,19 +171,11 @@ impl BoundedMap {
         let Some(most) = self.bound else {
             unreachable!();
         };
-        let level = Level {
-            kind: self.kind,
-            groups: self.groups,
-            most,
+        let Some(names) = &self.names else {
+            return Err(AllocError);
         };
-        ask(
-            alloc,
-            &level,
-            self.solver.log(),
-            self.sides.as_slice(),
-            turn,
-            purse,
-        )
+        let level = names.level(alloc, self.groups, most)?;
+        ask(alloc, &level, self.solver.log(), turn, purse)
     }
 
     /// The log of all that was derived.
@@ -184,5 +184,20 @@ impl BoundedMap {
         ensures honest { HasMapLog self }
     {
         self.solver.into_log()
+    }
+}
+
+// What sets name with that of a block, if there is memory for it.
+fn named(names: Option<Naming>, set: &GroupSet, side: Side) -> Option<Naming>
+    ensures { (kind : Kind) (found : List Found) → IfSome names (λ old. old ≡ names_of kind found) → IfSome result (λ new. new ≡ names_of kind (found ++ block_of side set.now ∷ [])) }
+{
+    let mut names = names?;
+    let kind = match side {
+        Side::Up => Kind::Conflict,
+        Side::Down => Kind::Correction,
+    };
+    match names.add(kind, set.as_slice()) {
+        Ok(()) => Some(names),
+        Err(_) => None,
     }
 }
