@@ -4,3 +4,4 @@ pub mod OccursLemmas
 pub mod BesideLemmas
 pub mod RowLemmas
 pub mod CountingLemmas
+pub mod NoteLemmas

@@ -1,5 +1,5 @@
 -- What a counter keeps beside the clauses of a map.
-use Rattle.std.specs.Prelude.{◌≡◌, ◌⊎◌, false, ℕ, ◌+◌, ◌<◌, ◌≤◌, ◌^◌, Bool, true, List, [], ◌∷◌, ◌++◌, length, map, Option, Some, None, ℤ, if◌then◌else◌, ◌==◌}
+use Rattle.std.specs.Prelude.{◌≡◌, ℕ, ◌+◌, ◌<◌, ◌≤◌, ◌^◌, Bool, true, List, [], ◌∷◌, ◌++◌, length, map, Option, Some, None, ℤ, if◌then◌else◌, ◌==◌}
 use Rattle.std.specs.List.{list_all}
 use Rattle.std.specs.Ordering.{nat_cmp}
 use Rattle.std.specs.BTreeSet.{contains}
@@ -9,7 +9,7 @@ use Rattle.gm_base.specs.Explored.{Found}
 use Rattle.lrat_steps.specs.Log.{LogStep, Input, inputs_of}
 use Rattle.cdcl_core.specs.Solver.{Solver}
 use Rattle.size_levels.specs.Sizes.{AreSetsOf}
-use Rattle.size_counter.specs.Names.{alone_in, names_of}
+use Rattle.size_counter.specs.Names.{names_of}
 use Rattle.bounded_map.specs.declared.counter.Counter.{Counter}
 use Rattle.bounded_map.specs.State.{is_wide}
 use Rattle.bounded_map.specs.Beside.{Fewer, IsBeside, IsRow}
@@ -45,18 +45,3 @@ pub record AddsBeside (groups : ℕ) (old new : Solver) : Type 0 where
   pub inputs : List (List ℤ)
   pub is : new ≡ record old { vars = new.vars; log = old.log ++ map Input inputs }
   pub wide : list_all (is_wide groups) inputs ≡ true
-
--- a group was noted, or left out: it was known, or memory was wanting
-pub record NotesOne (group : ℕ) (alone : Bool) (old new : Counter) : Type 0 where
-  pub known : (g : ℕ) → contains nat_cmp old.known g ≡ true → contains nat_cmp new.known g ≡ true
-  pub sure : (g : ℕ) → has new.sure.items g ≡ true → has old.sure.items g ≡ true ⊎ ((alone ≡ true) × (g ≡ group))
-  pub once : (g : ℕ) → (noted new g ≡ noted old g) ⊎ ((g ≡ group) × (contains nat_cmp old.known g ≡ false) × (noted new g ≡ noted old g + 1) × (contains nat_cmp new.known g ≡ true))
-
--- the same of each group of a set
-pub record NotesAll (set : List ℕ) (old new : Counter) : Type 0 where
-  pub known : (g : ℕ) → contains nat_cmp old.known g ≡ true → contains nat_cmp new.known g ≡ true
-  pub sure : (g : ℕ) → has new.sure.items g ≡ true → has old.sure.items g ≡ true ⊎ has (alone_in set) g ≡ true
-  pub once :
-      ((g : ℕ) → 0 < noted old g → contains nat_cmp old.known g ≡ true)
-      → (g : ℕ)
-      → (0 < noted new g → contains nat_cmp new.known g ≡ true) × ((noted new g ≡ noted old g) ⊎ (has set g ≡ true × (noted old g ≡ 0) × (noted new g ≡ 1)))

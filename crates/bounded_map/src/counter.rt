@@ -7,10 +7,14 @@
 //!
 //! A sure group has no row, and takes one off the bound. Where no more groups are counted than may, nothing is said. Rows come
 //! as long as all their variables are few enough. What wants memory, or too many variables, is left out.
-ghost use Rattle.std.specs.Prelude.{◌≡◌, ◌+◌, ◌-◌, ◌<◌, ◌≤◌, ◌^◌, ◌++◌, ◌∷◌, [], ℕ, Some, None, Option, List, length};
-ghost use Rattle.gm_base.specs.Sets.{IsSubset, all_groups};
+ghost use Rattle.std.specs.Prelude.{◌≡◌, ◌⊎◌, ◌+◌, ◌-◌, ◌<◌, ◌≤◌, ◌^◌, ◌++◌, ◌∷◌, [], ℕ, true, false, Some, Option, List, length};
+ghost use Rattle.gm_base.specs.Sets.{has, IsSubset, all_groups};
 ghost use Rattle.gm_base.specs.Explored.{Found, block_of};
-ghost use Rattle.bounded_map.specs.Counting.{IsCounting, AreNoted, AddsBeside, NotesOne, NotesAll};
+ghost use Rattle.bounded_map.specs.Counting.{IsCounting, AreNoted, AddsBeside};
+ghost use Rattle.gm_base.specs.declared.kind.Kind.{Kind};
+ghost use Rattle.size_counter.specs.Names.{alone_in, names_of};
+ghost use Rattle.std.specs.Ordering.{nat_cmp};
+ghost use Rattle.std.specs.BTreeSet.{contains};
 
 use crate::row::{Row, add_limit, add_vars};
 use cdcl_core::Solver;
@@ -72,31 +76,28 @@ impl Counter {
     }
 
     fn note_all(&mut self, set: &[u32])
-        ensures noted { NotesAll set.now self.old self.new }
+        ensures noted { (kind : Kind) (groups : ℕ) (found : List Found) → IsSubset set.now (all_groups groups) → ((g : ℕ) → has (alone_in set.now) g ≡ true → has (names_of kind found).alone g ≡ true) → AreNoted kind groups found self.old → AreNoted kind groups found self.new }
         ensures rest { self.new ≡ record self.old { waiting = self.new.waiting; sure = self.new.sure; known = self.new.known } }
     {
         let alone = set.len() == 1;
         for group in set {
-            if self.note_one(*group, alone).is_err() {
-                return;
-            }
+            self.note_one(*group, alone);
         }
     }
 
     // Notes a group that was not known.
-    fn note_one(&mut self, group: u32, alone: bool) -> Result<(), AllocError>
-        ensures noted { NotesOne group alone self.old self.new }
+    fn note_one(&mut self, group: u32, alone: bool)
+        ensures noted { (kind : Kind) (groups : ℕ) (found : List Found) → has (all_groups groups) group ≡ true → (alone ≡ true → has (names_of kind found).alone group ≡ true) → AreNoted kind groups found self.old → AreNoted kind groups found self.new }
         ensures rest { self.new ≡ record self.old { waiting = self.new.waiting; sure = self.new.sure; known = self.new.known } }
     {
-        if !self.known.insert(group)? {
-            return Ok(());
+        if !know(&mut self.known, group) {
+            return;
         }
         if alone {
-            self.sure.push(group)?;
+            put(&mut self.sure, group);
         } else {
-            self.waiting.push(group)?;
+            put(&mut self.waiting, group);
         }
-        Ok(())
     }
 
     /// Has rows come for those that wait, and the limit be said, as far as there is memory.
@@ -221,5 +222,25 @@ impl Counter {
         if add_limit(alloc, solver, self.last + allowed).is_ok() {
             self.limited = Some((rows, allowed));
         }
+    }
+}
+
+// Has a number be known, and tells whether it was not and there was memory for it.
+fn know(known: &mut BTreeSet<u32>, number: u32) -> bool
+    ensures stay { (other : ℕ) → contains nat_cmp known.old other ≡ true → contains nat_cmp known.new other ≡ true }
+    ensures came { result ≡ true → (contains nat_cmp known.old number ≡ false) × (contains nat_cmp known.new number ≡ true) }
+{
+    match known.insert(number) {
+        Ok(came) => came,
+        Err(_) => false,
+    }
+}
+
+// Puts a number behind the others, if there is memory for it.
+fn put(numbers: &mut Vec<u32>, number: u32)
+    ensures { (numbers.new.items ≡ numbers.old.items) ⊎ (numbers.new.items ≡ numbers.old.items ++ number ∷ []) }
+{
+    if numbers.reserve(1).is_ok() {
+        numbers.push_reserved(number);
     }
 }
