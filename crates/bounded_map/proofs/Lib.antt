@@ -5,3 +5,4 @@ pub mod BesideLemmas
 pub mod RowLemmas
 pub mod CountingLemmas
 pub mod NoteLemmas
+pub mod MapLemmas
