@@ -224,7 +224,7 @@ beside_more kind groups bound found vars clauses more fewers over sound b = reco
   sound = λ c i. elim (In-append_cases c clauses more i) [ inl old ↦ b.sound c old | inr new ↦ sound c new ];
 }
 
-literals_more : (vars more : ℕ) (c : List ℤ) → vars ≤ more → AreLiterals vars c → AreLiterals more c
+pub literals_more : (vars more : ℕ) (c : List ℤ) → vars ≤ more → AreLiterals vars c → AreLiterals more c
 literals_more vars more [] le a = tt
 literals_more vars more (l ∷ ls) le a =
     (record { not_zero = a.0.not_zero; in_range = let high = a.0.in_range in omega (arith, le, high) }, literals_more vars more ls le a.1)

@@ -6,3 +6,4 @@ pub mod RowLemmas
 pub mod CountingLemmas
 pub mod NoteLemmas
 pub mod MapLemmas
+pub mod AskLemmas
