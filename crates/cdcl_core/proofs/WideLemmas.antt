@@ -52,6 +52,25 @@ ready_wider old new vars le trail clauses kept is ready =
       };
     })
 
+-- the same where no variable came
+pub ready_same : (old new : Search) → new.trail ≡ old.trail → new.store.clauses ≡ old.store.clauses → IsKept new.store new.trail
+    → new ≡ record old { store = new.store; trail = new.trail; plan = new.plan } → IsReady old → IsReady new
+ready_same old new trail clauses kept is ready =
+    let s = ready.search in
+    let state : IsState old.trail.vars new.store.clauses old.log old.trail.entries ready.assumed old.assumed_levels =
+    subst (λ (db : List StoredClause). IsState old.trail.vars db old.log old.trail.entries ready.assumed old.assumed_levels) (sym clauses) s.state in
+    subst IsReady (sym is)
+    (record {
+      assumed = ready.assumed;
+      search = record {
+        vars = kept.vars;
+        kept = kept;
+        state = subst (λ (t : Trail). IsState t.vars new.store.clauses old.log t.entries ready.assumed old.assumed_levels) (sym trail) state;
+        reached = subst (λ (t : Trail). AllTrue (trues t.entries) (take old.assumed_true ready.assumed)) (sym trail) s.reached;
+        positive = subst (λ (t : Trail). old.true_first ≡ true → ArePositive old.assumed_levels t.entries) (sym trail) s.positive;
+      };
+    })
+
 -- what was touched stays so
 pub touched_wider : (old new : Trail) (vars : ℕ) → new ≡ widened vars old → (lit : ℤ) → IsTouched old.touched lit → IsTouched new.touched lit
 touched_wider old new vars is lit t =
