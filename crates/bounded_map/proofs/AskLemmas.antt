@@ -4,18 +4,19 @@ use Rattle.std.specs.Prelude.{ℤ, pos, negsuc, neg_ℤ, slice_index_or}
 use Rattle.std.specs.Ordering.{int_eq}
 use Rattle.std.specs.List.{list_all}
 use Rattle.std.specs.Option.{option_map_or}
-use Rattle.std.proofs.lemmas.Bool.{false≢true, cases_Bool, and_from, and_parts, cond-true, cond-false, ltb-true}
+use Rattle.std.proofs.lemmas.Bool.{false≢true, cases_Bool, and_from, and_parts, not-true, cond-true, cond-false, ltb-true}
 use Rattle.std.proofs.lemmas.Bool.Decides.{Decides-int_eq}
 use Rattle.std.proofs.lemmas.List.{take_more, take_all}
-use Rattle.std.proofs.lemmas.List.Folds.{list_all-append}
 use Rattle.std.proofs.lemmas.Option.{slice_get_within, get_or_from_slice_get}
 use Rattle.sat_base.specs.Members.{In}
 use Rattle.sat_base.specs.Literals.{var_of, IsLiteral, AreLiterals, literal_true, clause_true}
-use Rattle.sat_base.specs.Derivation.{Derivation, clause_of, all_known, is_derivation, derives_within}
+use Rattle.sat_base.specs.Derivation.{Derivation, numbered, clause_of, all_known, is_derivation, derives_within}
 use Rattle.sat_base.specs.Database.{known_of}
+use Rattle.sat_base.proofs.FollowsLemmas.{literal_true-neg}
+use Rattle.sat_base.proofs.Soundness.{AllGood, derives-sound}
 use Rattle.sat_base.proofs.Members.{In-append_cases, In-from_map, all_from}
 use Rattle.gm_base.specs.declared.kind.Kind.{Kind}
-use Rattle.gm_base.specs.Explored.{Found, is_model, block_clause}
+use Rattle.gm_base.specs.Explored.{Found, block_clause}
 use Rattle.gm_base.proofs.ExploredLemmas.{AreWithin}
 use Rattle.lrat_steps.specs.Log.{LogStep, Input, Learned, Core, Forgot, lits_of, steps_of, step_at, inputs_of, db_of}
 use Rattle.lrat_steps.specs.Trimmed.{IsTrimmed}
@@ -24,11 +25,11 @@ use Rattle.cdcl_core.specs.Answers.{IsConsistent, IsRefuted}
 use Rattle.evidence_rec.proofs.BlockLemmas.{block_clause-over}
 use Rattle.size_counter.specs.Counter.{at_least, IsOrder}
 use Rattle.size_counter.specs.Levels.{Level, level, level_counter, level_vars, level_limit}
-use Rattle.size_counter.proofs.LevelLemmas.{level-extended, level-order, level-over}
+use Rattle.size_counter.proofs.LevelLemmas.{level-order, level-over}
 use Rattle.size_levels.specs.Sizes.{ExploredUpTo}
-use Rattle.size_levels.specs.Shown.{is_more}
-use Rattle.size_levels.proofs.LevelLemmas.{groups-fit}
-use Rattle.size_levels.proofs.ShownLemmas.{no-model}
+use Rattle.size_levels.specs.Shown.{is_more, level_clauses}
+use Rattle.size_levels.proofs.LevelLemmas.{groups-fit, level_clauses-over}
+use Rattle.size_levels.proofs.ShownLemmas.{explored-shown}
 use Rattle.bounded_map.specs.State.{is_wide, narrow}
 use Rattle.bounded_map.specs.Blocks.{is_block_step}
 use Rattle.bounded_map.specs.Asking.{IsClosed, AreAllOver}
@@ -196,6 +197,25 @@ level_derived l blocks log assumed id d inputs over limited r derived =
 
 -- ---- that it can't be otherwise
 
+-- clauses that are true, with their numbers
+good_all : (vars : ℕ) (values : List Bool) (from : ℕ) (clauses : List (List ℤ)) → list_all (clause_true values) clauses ≡ true
+    → ((clause : List ℤ) (l : ℤ) → In clause clauses → In l clause → IsLiteral vars l) → AllGood vars values (numbered from clauses)
+good_all vars values from [] all over = tt
+good_all vars values from (c ∷ cs) all over =
+    let parts = and_parts (clause_true values c) (list_all (clause_true values) cs) all in
+    ((parts.0, λ l i. over c l (inl refl) i), good_all vars values (from + 1) cs parts.1 (λ clause l i j. over clause l (inr i) j))
+
+-- "more than the bound count" is false where the limit is true
+more_false : (l : Level) (values : List Bool) (lit : ℤ) → list_all (literal_true values) (level_limit l) ≡ true
+    → is_more l lit ≡ true → literal_true values lit ≡ false
+more_false l values lit limited more =
+    let parts = and_parts (ltb l.bound (length l.order)) (int_eq (at_least l.groups l.bound (length l.order) (l.bound + 1)) lit) more in
+    let last = at_least l.groups l.bound (length l.order) (l.bound + 1) in
+    let is = cond-true (ltb l.bound (length l.order)) (neg_ℤ last ∷ []) [] parts.0 in
+    let denied = (and_parts (literal_true values (neg_ℤ last)) true (subst (λ lits. list_all (literal_true values) lits ≡ true) is limited)).0 in
+    ap (literal_true values) (sym ((Decides-int_eq last lit).0 parts.1))
+    ∙ not-true (literal_true values last) (sym (literal_true-neg values last (omega arith)) ∙ denied)
+
 -- where each set within the bound is explored, nothing makes the blocks, the counter and the limit true
 pub level_closed : (kind : Kind) (groups most : ℕ) (found : List Found) (l : Level) (blocks : List (List ℤ)) → AreWithin groups found
     → l ≡ level kind groups most found → blocks ≡ map block_clause found → ExploredUpTo kind groups most found → IsClosed l blocks
@@ -203,11 +223,12 @@ level_closed kind groups most found l blocks within l_is blocks_are explored =
     subst (λ (k : Level). IsClosed k blocks) (sym l_is)
     (subst (λ (cs : List (List ℤ)). IsClosed (level kind groups most found) cs) (sym blocks_are)
     (λ values all limited.
-    let counted = level_counter (level kind groups most found) in
-    let parts = and_parts (is_model found values) (list_all (clause_true values) counted)
-    (sym (list_all-append (clause_true values) (map block_clause found) counted) ∙ all) in
-    no-model kind groups most found within explored values parts.0
-    (level-extended (level kind groups most found) values (level-order kind groups most found within) parts.1 limited)))
+    let lev = level kind groups most found in
+    let (d, shown) = explored-shown kind groups most found within explored in
+    let (lit, allowed, made, literal) =
+    derives-sound (level_vars lev) values (level_clauses lev found) d (is_more lev)
+    (good_all (level_vars lev) values 1 (level_clauses lev found) all (level_clauses-over lev found within (level-order kind groups most found within))) shown in
+    false≢true (sym (more_false lev values lit limited allowed) ∙ made)))
 
 -- the clauses of blocks are over the groups
 pub blocks_over : (groups : ℕ) (found : List Found) (blocks : List (List ℤ)) → AreWithin groups found → blocks ≡ map block_clause found → AreAllOver groups blocks

@@ -149,7 +149,7 @@ read-counts groups named values Correction g i =
     ]
 
 -- so a model of a level would be a set of few groups that nothing explores
-pub no-model : (kind : Kind) (groups most : ℕ) (found : List Found) → AreWithin groups found → ExploredUpTo kind groups most found
+no-model : (kind : Kind) (groups most : ℕ) (found : List Found) → AreWithin groups found → ExploredUpTo kind groups most found
     → (values : List Bool) → is_model found values ≡ true
     → how_many_count values kind (level kind groups most found).order ≤ (level kind groups most found).bound → ⊥
 no-model kind groups most found within all values model few =
