@@ -107,7 +107,7 @@ fn add_counter(alloc: Global, solver: &mut Solver, level: &Level) -> Result<(), 
     let _vars = solver.vars(); // So each variable's number is that of a literal.
     for at in 0..level.len() {
         let clause = level.clause(alloc, at)?;
-        solver.add(alloc, &clause)?;
+        solver.add(alloc, clause.as_slice())?;
     }
     Ok(())
 }

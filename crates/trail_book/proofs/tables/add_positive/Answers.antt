@@ -19,5 +19,5 @@ loop-var-preserved c =
       ap length items ∙ length-append lits (c.new.result ∷ []) ∙ ap (λ n. n + 1) i.0,
       omega (arith, i.1, c.push_reserved.ensures.capacity),
       ap (λ (ls : List ℤ). ls ++ positive_from (var + 1 + 1) (vars - (var + 1))) (items ∙ ap (λ (l : ℤ). lits ++ l ∷ []) lit)
-      ∙ positive_step lits (old ++ positive_from (length old + 1) (vars - length old)) var vars c.loop-var-test.true i.2,
+          ∙ positive_step lits (old ++ positive_from (length old + 1) (vars - length old)) var vars c.loop-var-test.true i.2,
     )
