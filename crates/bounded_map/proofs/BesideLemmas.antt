@@ -46,7 +46,7 @@ literal_fewer kind groups assign fewers var f len low high is =
     let there : length assign ≤ var - 1 = omega (arith, len, low) in
     let at : var - 1 - length assign ≡ var - 1 - groups = omega (arith, len) in
     let within : var - 1 - groups < length fewers = omega (arith, low, high) in
-    get_or-append_right assign (map (is_so kind assign) fewers) (var - 1) false there
+    get_or-append_right assign (map (is_so kind assign) fewers) (length assign) (var - 1) false refl there
     ∙ ap (λ (i : ℕ). get_or (map (is_so kind assign) fewers) i false) at
     ∙ get_or-map (is_so kind assign) fewers (var - 1 - groups) nothing false within
     ∙ ap (is_so kind assign) is
@@ -282,7 +282,7 @@ row_came groups vars columns fewers rows is = λ column h.
     let at : vars + 1 + column - 1 - groups - length fewers ≡ column = omega (arith, is) in (
       omega (arith, is),
       omega (arith, is, sum, long, h),
-      get_or-append_right fewers (fewers_from rows 0 columns) (vars + 1 + column - 1 - groups) nothing (omega (arith, is))
+      get_or-append_right fewers (fewers_from rows 0 columns) (length fewers) (vars + 1 + column - 1 - groups) nothing refl (omega (arith, is))
           ∙ ap (λ i. slice_index_or (fewers_from rows 0 columns) i nothing) at
           ∙ fewers_at rows 0 columns column h
           ∙ ap (λ n. of rows n) (omega arith),

@@ -87,7 +87,7 @@ of_vars_wider vars more held len are = λ index h.
       | inl old ↦ ap var_of (get_or_append_left held rest (pos 0) index (omega (arith, len, old))) ∙ are index old
       | inr new ↦
           let low : length held ≤ index = omega (arith, len, new) in
-          ap var_of (get_or-append_right held rest index (pos 0) low
+          ap var_of (get_or-append_right held rest (length held) index (pos 0) refl low
           ∙ held_new (length held + 1) (more - length held) (index - length held) (omega (arith, low, h)))
           ∙ omega (arith, low)
     ]
