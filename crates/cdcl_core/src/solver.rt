@@ -122,7 +122,8 @@ impl Solver {
         if self.broken {
             return Err(AllocError);
         }
-        self.search.widen(vars)
+        self.search.widen(vars)?;
+        Ok(())
     }
 
     /// Adds a clause, at the cost of the clause and of the values that it takes back. After want of memory in a search it

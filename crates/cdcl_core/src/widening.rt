@@ -23,6 +23,7 @@ impl Search {
         ensures true_first { self.new.true_first ≡ self.old.true_first }
     {
         self.plan.widen(vars)?;
-        widen(&mut self.store, &mut self.trail, vars)
+        widen(&mut self.store, &mut self.trail, vars)?;
+        Ok(())
     }
 }
