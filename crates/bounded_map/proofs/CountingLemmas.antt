@@ -1,5 +1,5 @@
 -- What a counter keeps.
-use Rattle.std.proofs.Common.{◌≡◌, ◌⊎◌, ℕ, ◌+◌, ◌-◌, ◌<◌, ◌≤◌, Bool, true, false, not, ◌&&◌, ◌||◌, List, [], ◌∷◌, ◌++◌, map, length, Option, Some, refl, sym, ◌∙◌, ap, subst, inl, inr, arith, eqb, ltb, length-append, append_assoc, append-nil}
+use Rattle.std.proofs.Common.{◌≡◌, ◌⊎◌, ℕ, ◌+◌, ◌-◌, ◌^◌, ◌<◌, ◌≤◌, Bool, true, false, not, ◌&&◌, ◌||◌, List, [], ◌∷◌, ◌++◌, map, length, Option, Some, refl, sym, ◌∙◌, ap, subst, inl, inr, arith, eqb, ltb, length-append, append_assoc, append-nil}
 use Rattle.std.specs.Prelude.{ℤ, pos, neg_ℤ, slice_index_or}
 use Rattle.std.specs.List.{list_all, list_any, filter}
 use Rattle.std.proofs.lemmas.Bool.{false≢true, false_from_ne_true, or_cases, or_left, or_right, and_parts, and_from, not-true, lt-ltb}
@@ -327,3 +327,98 @@ beside_limit kind groups most allowed found old new c low some solver_is k =
   where
     with_vars : ℕ → Solver
     with_vars n = record old { vars = n; log = old.log ++ Input (pos (c.last + allowed) ∷ []) ∷ [] }
+
+-- ---- the whole
+
+-- the same variables, rows and groups
+pub counting_as : (kind : Kind) (groups : ℕ) (bound : Option ℕ) (found : List Found) (old new : Solver) (c c' : Counter) → new ≡ old
+    → c'.rows.items ≡ c.rows.items → c'.last ≡ c.last → (0 < length c.rows.items → c'.columns ≡ c.columns)
+    → (AreNoted kind groups found c → AreNoted kind groups found c')
+    → IsCounting kind groups bound found old c → IsCounting kind groups bound found new c'
+counting_as kind groups bound found old new c c' same rows last columns noted k =
+    subst (λ (s : Solver). IsCounting kind groups bound found s c') (sym same)
+    (record {
+      small = k.small;
+      sets = k.sets;
+      fewers = k.fewers;
+      beside = k.beside;
+      row = λ some.
+          let there : 0 < length c.rows.items = subst (λ (gs : List ℕ). 0 < length gs) rows some in
+          subst (λ (gs : List ℕ). IsRow groups k.fewers gs c'.last c'.columns) (sym rows)
+          (subst (λ n. IsRow groups k.fewers c.rows.items n c'.columns) (sym last)
+          (subst (λ n. IsRow groups k.fewers c.rows.items c.last n) (sym (columns there)) (k.row there)));
+      noted = noted k.noted;
+    })
+
+module _ (kind : Kind) (groups : ℕ) (bound : Option ℕ) (found : List Found) (old one two : Solver) (c : Counter) (group : ℕ) (row : Row)
+    (in_groups : has (all_groups groups) group ≡ true) (one_is : one ≡ record old { vars = old.vars + c.columns }) (small : one.vars < 2 ^ 31)
+    (rows_are : row.rows ≡ length c.rows.items) (last_is : row.last ≡ c.last) (next_is : row.next ≡ old.vars + 1)
+    (width_is : row.width ≤ c.columns) (width_low : row.width ≤ length c.rows.items + 1)
+    (adds : Adds (IsCell kind group row) one two) (k : IsCounting kind groups bound found old c) where
+  came_all : List Fewer
+  came_all = k.fewers ++ fewers_from (c.rows.items ++ group ∷ []) 0 c.columns
+
+  small_two : two.vars < 2 ^ 31
+  small_two = subst (λ (s : Solver). s.vars < 2 ^ 31) (sym adds.is) small
+
+  beside_two : IsBeside kind groups bound found two.vars (inputs_of two.log) (k.fewers ++ fewers_from (c.rows.items ++ group ∷ []) 0 c.columns)
+  beside_two =
+      beside_row kind groups bound found old one two k.fewers c.rows.items c.last c.columns group row k.beside k.row in_groups one_is rows_are last_is next_is
+      width_is width_low adds
+
+  -- without memory the row before is the last one still
+  pub counting_cut : (c' : Counter) → c'.rows.items ≡ c.rows.items → c'.last ≡ c.last → c'.columns ≡ c.columns
+      → (AreNoted kind groups found c → AreNoted kind groups found c') → IsCounting kind groups bound found two c'
+  counting_cut c' rows last columns noted =
+      counting_as kind groups bound found two two c c' refl rows last (λ _. columns) noted
+      (record {
+        small = small_two;
+        sets = k.sets;
+        fewers = came_all;
+        beside = beside_two;
+        row = λ some.
+            then_row kind groups bound found old one two k.fewers c.rows.items c.last c.columns group row k.beside k.row in_groups one_is rows_are last_is next_is
+            width_is width_low adds some;
+        noted = k.noted;
+      })
+
+  -- and else the one that came is
+  pub counting_row : (c' : Counter) → c'.rows.items ≡ c.rows.items ++ group ∷ [] → c'.last ≡ old.vars + 1 → c'.columns ≡ c.columns
+      → (AreNoted kind groups found c → AreNoted kind groups found c') → IsCounting kind groups bound found two c'
+  counting_row c' rows last columns noted = record {
+    small = small_two;
+    sets = k.sets;
+    fewers = came_all;
+    beside = beside_two;
+    row = λ some.
+        subst (λ (gs : List ℕ). IsRow groups came_all gs c'.last c'.columns) (sym rows)
+        (subst (λ n. IsRow groups came_all (c.rows.items ++ group ∷ []) n c'.columns) (sym last)
+        (subst (λ n. IsRow groups came_all (c.rows.items ++ group ∷ []) (old.vars + 1) n) (sym columns)
+        (now_row kind groups bound found old one two k.fewers c.rows.items c.last c.columns group row k.beside k.row in_groups one_is rows_are last_is next_is
+        width_is width_low adds)));
+    noted = noted k.noted;
+  }
+
+  pub adds_beside : AddsBeside groups old two
+  adds_beside =
+      adds_row kind groups bound found old one two k.fewers c.rows.items c.last c.columns group row k.beside k.row in_groups one_is rows_are last_is next_is
+      width_is width_low adds
+
+-- more variables alone
+pub counting_wider : (kind : Kind) (groups : ℕ) (bound : Option ℕ) (found : List Found) (old new : Solver) (c c' : Counter) (count : ℕ)
+    → new ≡ record old { vars = old.vars + count } → new.vars < 2 ^ 31 → c'.rows.items ≡ c.rows.items → c'.last ≡ c.last → c'.columns ≡ c.columns
+    → (AreNoted kind groups found c → AreNoted kind groups found c')
+    → IsCounting kind groups bound found old c → IsCounting kind groups bound found new c'
+counting_wider kind groups bound found old new c c' count is small rows last columns noted k =
+    let more = fewers_from [] 0 count in
+    counting_as kind groups bound found new new c c' refl rows last (λ _. columns) noted
+    (record {
+      small = small;
+      sets = k.sets;
+      fewers = k.fewers ++ more;
+      beside =
+          subst (λ (s : Solver). IsBeside kind groups bound found s.vars (inputs_of s.log) (k.fewers ++ more)) (sym is)
+          (beside_wider kind groups bound found old.vars count (inputs_of old.log) k.fewers more (length-fewers_from [] 0 count) k.beside);
+      row = λ some. row_stays groups c.last c.columns k.fewers more c.rows.items (k.row some);
+      noted = k.noted;
+    })
