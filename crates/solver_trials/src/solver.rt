@@ -3,6 +3,7 @@
 //! ```text
 //! solver 3                   a new solver over three variables
 //! solver_true 2              one that decides positive literals only
+//! widen 5                    the variables are five from now on, if they were no more
 //! add 1 2 0 1 -2 0           clauses come, each ended by a 0
 //! solve 1 -2 turn 0 left 5   searches where 1 and -2 are assumed, in the order of this turn, with so many units
 //! left, learned, steps       how many units are left, clauses are learnt, steps logged
@@ -162,11 +163,24 @@ fn on_solver(
 ) -> Result<bool, AllocError> {
     match step.word(0) {
         "add" => return add(alloc, solver, step),
+        "widen" => return widen(solver, step),
         "learned" => tell_number(out, "learned", solver.log().learned())?,
         "steps" => tell_number(out, "steps", solver.log().len())?,
         "needed" => needed(alloc, solver.log(), out)?,
         _ => return Ok(false),
     }
+    Ok(true)
+}
+
+/// Lets the variables be as many as the call says.
+fn widen(solver: &mut Solver, step: &Step<'_>) -> Result<bool, AllocError> {
+    let Some(vars) = vars_at(step, 1) else {
+        return Ok(false);
+    };
+    if vars < solver.vars() {
+        return Ok(false);
+    }
+    solver.widen(vars)?;
     Ok(true)
 }
 
