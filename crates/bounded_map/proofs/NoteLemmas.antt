@@ -97,3 +97,12 @@ alone_came kind found f g h =
 pub noted_found : (kind : Kind) (groups : ℕ) (found : List Found) (f : Found) (c : Counter) → AreNoted kind groups found c → AreNoted kind groups (found ++ f ∷ []) c
 noted_found kind groups found f c n =
     record { once = n.once; known = n.known; within = n.within; alone = λ g i. alone_more kind found f g (n.alone g i) }
+
+-- what is in a list behind which a number was put, if there was memory for it
+pub in_put : (old new : List ℕ) (number g : ℕ) → (new ≡ old) ⊎ (new ≡ old ++ number ∷ []) → has new g ≡ true → has old g ≡ true ⊎ (g ≡ number)
+in_put old new number g (inl same) i = inl (sym (ap (λ (xs : List ℕ). has xs g) same) ∙ i)
+in_put old new number g (inr put) i =
+    elim (or_cases (has old g) (has (number ∷ []) g) (sym (list_any-append (λ k. eqb k g) old (number ∷ [])) ∙ sym (ap (λ (xs : List ℕ). has xs g) put) ∙ i)) [
+      | inl before ↦ inl before
+      | inr here ↦ elim (or_cases (eqb number g) false here) [ inl is ↦ inr (sym (eqb-true number g is)) | inr none ↦ absurd (false≢true none) ]
+    ]

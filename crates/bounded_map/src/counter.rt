@@ -161,7 +161,9 @@ impl Counter {
     }
 
     // Whether one row more is few enough.
-    fn has_room(&self) -> bool {
+    fn has_room(&self) -> bool
+        ensures { result ≡ true → 0 < self.now.columns }
+    {
         let rows = (self.rows.len() as u64).saturating_add(1);
         self.columns > 0 && rows.saturating_mul(self.columns as u64) <= MOST
     }
@@ -174,21 +176,25 @@ impl Counter {
         kind: Kind,
         groups: u32,
     ) -> Result<(), AllocError>
-        requires { (bound : Option ℕ) × (found : List Found) × IsCounting kind groups bound found solver.old self.old }
+        requires columns { 0 < self.old.columns }
+        requires counting { (bound : Option ℕ) × (found : List Found) × IsCounting kind groups bound found solver.old self.old }
         ensures counting { (bound : Option ℕ) (found : List Found) → IsCounting kind groups bound found solver.old self.old → IsCounting kind groups bound found solver.new self.new }
         ensures beside { AddsBeside groups solver.old solver.new }
         ensures sure { self.new.sure.items ≡ self.old.sure.items }
     {
         self.rows.reserve(1)?;
-        let Some(group) = self.waiting.last().copied() else {
+        let count = self.waiting.len();
+        if count == 0 {
             return Ok(());
-        };
+        }
+        let group = self.waiting[count - 1];
         let next = add_vars(solver, self.columns)?;
+        let rows = self.rows.len();
         let row = Row {
-            rows: self.rows.len(),
+            rows,
             last: self.last,
             next,
-            width: (self.rows.len() + 1).min(self.columns as usize) as u32,
+            width: (rows + 1).min(self.columns as usize) as u32,
         };
         row.add_cells(alloc, solver, kind, group)?;
         self.waiting.pop();
@@ -219,9 +225,10 @@ impl Counter {
         if self.limited == Some((rows, allowed)) {
             return;
         }
-        if add_limit(alloc, solver, self.last + allowed).is_ok() {
-            self.limited = Some((rows, allowed));
-        }
+        let Ok(()) = add_limit(alloc, solver, self.last + allowed) else {
+            return;
+        };
+        self.limited = Some((rows, allowed));
     }
 }
 

@@ -1,4 +1,4 @@
-use Rattle.std.proofs.Common.{◌≡◌, ◌≤◌, ◌+◌, ◌-◌, ◌↔◌, ◌∙◌, ◌++◌, ℕ, List, replicate, length, refl, sym, ap, subst}
+use Rattle.std.proofs.Common.{◌≤◌, ◌+◌, ◌-◌, ◌↔◌, ◌∙◌, ◌++◌, ℕ, List, replicate, length, refl, sym, ap, subst}
 use Rattle.std.specs.Prelude.{ℤ, Bool, false}
 use Rattle.trail_book.specs.declared.value.Value.{Value}
 use Rattle.trail_book.specs.declared.value.Value.TheVariants.{Unset}
