@@ -1,6 +1,7 @@
 use Rattle.std.proofs.Common.{◌≡◌, ◌<◌, ◌≤◌, ◌+◌, ◌∙◌, ℕ, ap, arith, subst, sym}
 use Rattle.std.specs.Prelude.{slice_index}
-use Rattle.trail_book.specs.Heap.{Heap, Holds, IsHeap, IsSwapped}
+use Rattle.trail_book.specs.Heap.{Heap, Holds, AdmitsSame, IsHeap, IsSwapped}
+use Rattle.trail_book.proofs.HeapLemmas.{swap_admits}
 use Rattle.trail_book.proofs.heap.Heap.insert.Goals as goal
 
 -- what stands before both places stays
@@ -35,3 +36,17 @@ returns-clause-heap c = λ rank heap.
     let within = c.self.invariant.sorted in
     subst (λ (h : Heap). IsHeap rank h) (sym c.self-2.view_is)
     (heap_stays c.args.self.now c.swap-2.new.self _ _ c.swap-2.ensures.swapped c.swap-2.ensures.sorted (omega arith) (omega arith) rank heap)
+
+-- both places are among those that may be held
+admits_swapped : (old new : Heap) (one other : ℕ) → IsSwapped old.items new.items one other → new.admitted ≡ old.admitted → one < old.admitted → other < old.admitted
+    → AdmitsSame old new
+admits_swapped old new one other swapped same a b = swap_admits old new one other a b same swapped
+
+pub returns-clause-admits : goal.returns-clause-admits
+returns-clause-admits c =
+    let count = ap (λ (h : Heap). h.count) c.self.view_is in
+    let admitted = ap (λ (h : Heap). h.admitted) c.self.view_is in
+    let other = ap (λ (h : Heap). h.count) c.swap.view_is in
+    let behind = c.if-place-self.false in
+    subst (λ (h : Heap). AdmitsSame c.args.self.now h) (sym c.self-2.view_is)
+    (admits_swapped c.args.self.now c.swap-2.new.self _ _ c.swap-2.ensures.swapped c.swap-2.ensures.admitted (omega arith) (omega arith))
