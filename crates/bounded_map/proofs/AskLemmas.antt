@@ -1,12 +1,12 @@
 -- A level, asked for once more.
-use Rattle.std.proofs.Common.{◌≡◌, ℕ, zero, suc, ◌+◌, ◌-◌, ◌*◌, ◌<◌, ◌≤◌, Bool, true, false, not, ◌&&◌, cond, ltb, List, [], ◌∷◌, ◌++◌, map, length, take, Option, Some, refl, sym, ◌∙◌, ap, subst, inl, inr, arith, append-nil}
+use Rattle.std.proofs.Common.{◌≡◌, ℕ, zero, suc, ◌+◌, ◌-◌, ◌*◌, ◌<◌, ◌≤◌, Bool, true, false, not, ◌&&◌, cond, ltb, List, [], ◌∷◌, ◌++◌, map, length, take, Option, Some, refl, sym, ◌∙◌, ap, subst, inl, inr, arith, append-nil, append_assoc}
 use Rattle.std.specs.Prelude.{ℤ, pos, negsuc, neg_ℤ, slice_index_or}
 use Rattle.std.specs.Ordering.{int_eq}
-use Rattle.std.specs.List.{list_all}
+use Rattle.std.specs.List.{list_all, filter}
 use Rattle.std.specs.Option.{option_map_or}
 use Rattle.std.proofs.lemmas.Bool.{false≢true, cases_Bool, and_from, and_parts, not-true, cond-true, cond-false, ltb-true}
 use Rattle.std.proofs.lemmas.Bool.Decides.{Decides-int_eq}
-use Rattle.std.proofs.lemmas.List.{take_more, take_all}
+use Rattle.std.proofs.lemmas.List.{take_more, take_all, map-append}
 use Rattle.std.proofs.lemmas.Option.{slice_get_within, get_or_from_slice_get}
 use Rattle.sat_base.specs.Members.{In}
 use Rattle.sat_base.specs.Literals.{var_of, IsLiteral, AreLiterals, literal_true, clause_true}
@@ -20,7 +20,9 @@ use Rattle.gm_base.specs.Explored.{Found, block_clause}
 use Rattle.gm_base.proofs.ExploredLemmas.{AreWithin}
 use Rattle.lrat_steps.specs.Log.{LogStep, Input, Learned, Core, Forgot, lits_of, steps_of, step_at, inputs_of, db_of}
 use Rattle.lrat_steps.specs.Trimmed.{IsTrimmed}
-use Rattle.lrat_steps.proofs.LogLemmas.{named_step}
+use Rattle.lrat_steps.proofs.LogLemmas.{named_step, input_of_log}
+use Rattle.sat_base.proofs.DatabaseLemmas.{get_in}
+use Rattle.cdcl_core.specs.Solver.{Solver}
 use Rattle.cdcl_core.specs.Answers.{IsConsistent, IsRefuted}
 use Rattle.evidence_rec.proofs.BlockLemmas.{block_clause-over}
 use Rattle.size_counter.specs.Counter.{at_least, IsOrder}
@@ -243,3 +245,44 @@ level_over l blocks o over c i =
       | inl block ↦ literals_more l.groups (level_vars l) c (groups-fit l) (over c block)
       | inr counts ↦ literals_from (level_vars l) c (λ lit j. level-over l c lit o counts j)
     ]
+
+-- ---- clauses that are given one by one
+
+pub log_more : (first old new : Solver) (cs : List (List ℤ)) (c : List ℤ) → old ≡ record first { log = first.log ++ map Input cs }
+    → new ≡ record old { log = old.log ++ Input c ∷ [] } → new ≡ record first { log = first.log ++ map Input (cs ++ c ∷ []) }
+log_more first old new cs c was is =
+    is ∙ ap (λ (s : Solver). given s) was
+    ∙ ap (λ (log : List LogStep). with_log log)
+    (append_assoc first.log (map Input cs) (Input c ∷ []) ∙ ap (λ (m : List LogStep). first.log ++ m) (sym (map-append Input cs (c ∷ []))))
+  where
+    given : Solver → Solver
+    given s = record s { log = s.log ++ Input c ∷ [] }
+
+    with_log : List LogStep → Solver
+    with_log log = record first { log = log }
+
+in_filter : (p : List ℤ → Bool) (xs : List (List ℤ)) (x : List ℤ) → In x xs → p x ≡ true → In x (filter p xs)
+in_filter p [] x i t = absurd i
+in_filter p (y ∷ ys) x (inl same) t =
+    subst (In x) (sym (cond-true (p y) (y ∷ filter p ys) (filter p ys) (ap p (sym same) ∙ t))) (inl same)
+in_filter p (y ∷ ys) x (inr later) t =
+    let rest = in_filter p ys x later t in
+    elim (cases_Bool (p y)) [
+      | inl yes ↦ subst (In x) (sym (cond-true (p y) (y ∷ filter p ys) (filter p ys) yes)) (inr rest)
+      | inr no ↦ subst (In x) (sym (cond-false (p y) (y ∷ filter p ys) (filter p ys) no)) rest
+    ]
+
+input_step : (groups : ℕ) (log : List LogStep) (s : LogStep) → In s log → is_block_step groups s ≡ true
+    → In (lits_of s) (inputs_of log) × (not (is_wide groups (lits_of s)) ≡ true)
+input_step groups log (Input lits) i t = (input_of_log log lits i, t)
+input_step groups log (Learned lits hints) i t = absurd (false≢true t)
+input_step groups log (Core lits hints) i t = absurd (false≢true t)
+input_step groups log (Forgot id) i t = absurd (false≢true t)
+
+-- the clause of such a step is a block's
+pub block_in : (groups : ℕ) (log : List LogStep) (id : ℕ) → 0 < id → id ≤ length (steps_of log) → is_block_step groups (step_at log id) ≡ true
+    → In (lits_of (step_at log id)) (narrow groups (inputs_of log))
+block_in groups log id low high is =
+    let there = get_in (steps_of log) (id - 1) (Input []) (omega (arith, low, high)) in
+    let both = input_step groups (steps_of log) (step_at log id) there is in
+    in_filter (λ c. not (is_wide groups c)) (inputs_of log) (lits_of (step_at log id)) (subst (In (lits_of (step_at log id))) (inputs_steps log) both.0) both.1

@@ -7,7 +7,8 @@
 ghost use Rattle.std.specs.Prelude.{◌≡◌, ◌+◌, ◌<◌, ◌≤◌, ◌^◌, ◌++◌, List, ℤ, length, map, IfOk, OnOk, OnErr};
 ghost use Rattle.lrat_steps.specs.Log.{Input, inputs_of, steps_of, step_at};
 ghost use Rattle.cdcl_core.specs.Answers.{IsHonestlyPaid};
-ghost use Rattle.size_counter.specs.Levels.{level_counter, level_vars};
+ghost use Rattle.size_counter.specs.Levels.{level_counter, level_limit, level_vars};
+ghost use Rattle.size_counter.specs.Counter.{IsOrder};
 ghost use Rattle.bounded_map.specs.State.{is_wide, narrow};
 ghost use Rattle.bounded_map.specs.Asking.{IsClosed, AreAllOver, Answers, IsAnswered};
 ghost use Rattle.bounded_map.specs.Blocks.{is_block_step};
@@ -43,6 +44,7 @@ pub fn ask(
     turn: u64,
     purse: &mut Purse,
 ) -> Result<AskedLevel, AllocError>
+    requires order { IsOrder level.now.groups level.now.order }
     requires over { AreAllOver level.now.groups (narrow level.now.groups (inputs_of log.now)) }
     requires closed { IsClosed level.now (narrow level.now.groups (inputs_of log.now)) }
     ensures asked { IfOk result (IsAnswered level.now (narrow level.now.groups (inputs_of log.now)) purse.old.left purse.new.left) }
@@ -91,9 +93,9 @@ fn add_blocks(alloc: Global, solver: &mut Solver, groups: u32, log: &Log) -> Res
     requires vars { groups ≤ solver.old.vars }
     ensures { OnOk result (solver.new ≡ record solver.old { log = solver.old.log ++ map Input (narrow groups (inputs_of log.now)) }) }
 {
-    for id in 1..log.len() + 1 {
-        if is_block(log, id, groups) {
-            solver.add(alloc, log.lits(id))?;
+    for at in 0..log.len() {
+        if is_block(log, at + 1, groups) {
+            solver.add(alloc, log.lits(at + 1))?;
         }
     }
     Ok(())
@@ -101,7 +103,8 @@ fn add_blocks(alloc: Global, solver: &mut Solver, groups: u32, log: &Log) -> Res
 
 // Gives the solver the clauses of the counter.
 fn add_counter(alloc: Global, solver: &mut Solver, level: &Level) -> Result<(), AllocError>
-    requires { solver.old.vars ≡ level_vars level.now }
+    requires order { IsOrder level.now.groups level.now.order }
+    requires vars { solver.old.vars ≡ level_vars level.now }
     ensures { OnOk result (solver.new ≡ record solver.old { log = solver.old.log ++ map Input (level_counter level.now) }) }
 {
     let _vars = solver.vars(); // So each variable's number is that of a literal.
@@ -120,20 +123,29 @@ fn search(
     turn: u64,
     purse: &mut Purse,
 ) -> Result<LevelAnswer, AllocError>
+    requires order { IsOrder level.now.groups level.now.order }
     requires vars { solver.old.vars ≡ level_vars level.now }
     requires inputs { (blocks : List (List ℤ)) × (inputs_of solver.old.log ≡ blocks ++ level_counter level.now) × AreAllOver level.now.groups blocks × IsClosed level.now blocks }
     ensures answer { (blocks : List (List ℤ)) → inputs_of solver.old.log ≡ blocks ++ level_counter level.now → IfOk result (Answers level.now blocks solver.new.log purse.new.left) }
     ensures paid { IsHonestlyPaid solver.old.log solver.new.log purse.old.left purse.new.left }
 {
     let _vars = solver.vars(); // So each variable's number is that of a literal.
-    let solved = match level.limit() {
-        Some(lit) => solver.solve(alloc, &[lit], turn, purse)?,
-        None => solver.solve(alloc, &[], turn, purse)?,
-    };
-    match solved {
+    let limits = limits_of(alloc, level)?;
+    match solver.solve(alloc, limits.as_slice(), turn, purse)? {
         // Read as a set, it would be one that nothing explores.
         Solved::Sat(_) => unreachable!(),
         Solved::Unsat(step) => Ok(LevelAnswer::Level(solver.log().trim(alloc, step)?)),
         Solved::Dry => Ok(LevelAnswer::Dry),
+    }
+}
+
+// The limit, if there is one.
+fn limits_of(alloc: Global, level: &Level) -> Result<Vec<Lit>, AllocError>
+    requires { level_vars level.now < 2 ^ 31 }
+    ensures { IfOk result (λ limits. limits.items ≡ level_limit level.now) }
+{
+    match level.limit() {
+        Some(lit) => Vec::from_slice(alloc, &[lit]),
+        None => Ok(Vec::new(alloc)),
     }
 }

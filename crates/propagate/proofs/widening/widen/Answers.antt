@@ -22,7 +22,7 @@ returns-in_err-widen-clause-kept c =
 pub returns-clause-kept : goal.returns-clause-kept
 returns-clause-kept c =
     let s = c.reserve_vars.new.self in
-    let over = subst (λ (x : Clauses). AreOver x.vars x.clauses) (sym c.reserve_vars.ensures.rest) c.vars-_vars.ensures.over in
+    let over = subst (λ (x : Clauses). AreOver x.vars x.clauses) (sym c.reserve_vars.ensures.rest) c.vars-vars.ensures.over in
     kept_wider s c.widen-2.new.self c.args.trail.now c.widen.new.self c.args.vars c.widen-2.ensures.rest c.in_ok-widen.ensures.ok over
     c.widen-2.ensures.lists c.widen-2.ensures.none
     (kept_room c.args.store.now s c.args.trail.now s.row_room c.reserve_vars.ensures.rest c.requires.kept)
