@@ -25,7 +25,7 @@ use Rattle.lrat_steps.specs.Honest.{IsHonest}
 use Rattle.lrat_steps.specs.Trimmed.{IsTrimmed}
 use Rattle.lrat_steps.proofs.LogLemmas.{steps-append, named_step, inputs-push_input, honest-input}
 use Rattle.lrat_steps.proofs.SoundLemmas.{honest-sound}
-use Rattle.cdcl_core.specs.Answers.{IsRefuted, IsHonestlyPaid}
+use Rattle.cdcl_core.specs.Answers.{IsModel, IsRefuted, IsHonestlyPaid}
 use Rattle.cdcl_core.proofs.StateLemmas.{literal_at}
 use Rattle.cdcl_core.specs.Solver.{Solver}
 use Rattle.evidence_rec.proofs.BlockLemmas.{block_clause-over}
@@ -37,7 +37,9 @@ use Rattle.bounded_map.specs.Beside.{Fewer, is_so, values_by, IsBeside}
 use Rattle.bounded_map.specs.declared.counter.Counter.{Counter}
 use Rattle.bounded_map.specs.Counting.{IsCounting, AddsBeside}
 use Rattle.bounded_map.specs.Blocks.{blocks_of}
-use Rattle.bounded_map.specs.Inside.{is_kept, found_in, IsKept}
+use Rattle.bounded_map.specs.Inside.{is_kept, found_in, view_of, IsKept, IsPlain, IsMap}
+use Rattle.bounded_map.specs.declared.map.BoundedMap.TheInside.{Inside}
+use Rattle.size_counter.specs.Names.{names_of}
 use Rattle.bounded_map.proofs.BlockLemmas.{blocks_of-push}
 use Rattle.bounded_map.proofs.RowLemmas.{inputs-more}
 use Rattle.bounded_map.proofs.BesideLemmas.{length-values}
@@ -329,3 +331,50 @@ module _ (kind : Kind) (groups : ℕ) (bound : Option ℕ) (solver : Solver) (si
       (ap (λ (o : Option (List ℤ)). option_map_or (λ (c : List ℤ). list_all allowed c) o false)
       (sym (ap (λ (cs : List (List ℤ)). clause_of (all_known cs d.steps) d.goal) same) ∙ t.goal)
       ∙ all)
+
+-- ---- a map as a whole
+
+found_same : (groups : ℕ) (old new : List LogStep) (sides : List Side) → inputs_of new ≡ inputs_of old → found_in groups new sides ≡ found_in groups old sides
+found_same groups old new sides same = ap (λ (cs : List (List ℤ)). blocks_of (narrow groups cs) sides) same
+
+-- after a search
+pub map_searched : (a : Inside) (new : Solver) (before left : ℕ) → IsHonestlyPaid a.solver.log new.log before left → new.vars ≡ a.solver.vars
+    → IsMap a → IsMap (record a { solver = new })
+map_searched a new before left paid vars m =
+    let found = found_same a.groups a.solver.log new.log a.sides.items paid.paid.inputs in
+    record {
+      kept = kept_searched a.groups before left a.solver.log new.log a.sides.items a.empty m.kept paid;
+      counting =
+          subst (λ (fs : List Found). IsCounting a.kind a.groups a.bound fs new a.counter) (sym found)
+          (counting_searched a.kind a.groups a.bound (found_in a.groups a.solver.log a.sides.items) a.solver new a.counter vars paid.paid.inputs m.counting);
+      names = subst (λ (fs : List Found). IfSome a.names (λ n. n ≡ names_of a.kind fs)) (sym found) m.names;
+      plain = subst (λ n. IsPlain a.bound a.groups n) (sym vars) m.plain;
+    }
+
+-- a core of no assumed literals is kept
+pub map_refuted : (a : Inside) (id : ℕ) → IsRefuted a.solver.log [] id → IsMap a → IsMap (record a { empty = Some id })
+map_refuted a id r m = record {
+  kept = record { small = m.kept.small; each_side = m.kept.each_side; within = m.kept.within; honest = m.kept.honest; empty = r };
+  counting = m.counting;
+  names = m.names;
+  plain = m.plain;
+}
+
+pub map_models : (a : Inside) → IsMap a → HasModelsWithin (view_of a)
+map_models a m = has_models a.kind a.groups a.bound a.solver a.sides.items a.empty a.counter m.kept m.counting
+
+pub map_none_left : (a : Inside) (id : ℕ) → IsRefuted a.solver.log [] id → IsMap a → NoneIsLeft a.kind a.bound a.groups (found_in a.groups a.solver.log a.sides.items)
+map_none_left a id r m = none_left a.kind a.groups a.bound a.solver a.sides.items a.empty a.counter m.kept m.counting id r
+
+-- a model is read as a set that nothing explores
+pub map_unexplored : (a : Inside) (assign : List Bool) (set : List ℕ) → IsMap a → IsModel a.solver.vars (inputs_of a.solver.log) [] assign
+    → set ≡ groups_true (take a.groups assign) → IsUnexplored a.groups (found_in a.groups a.solver.log a.sides.items) set
+map_unexplored a assign set m model is =
+    let vars_are = m.counting.beside.vars_are in
+    let total = model.total in
+    subst (IsUnexplored a.groups (found_in a.groups a.solver.log a.sides.items)) (sym is)
+    (read_unexplored a.kind a.groups a.bound a.solver a.sides.items a.empty a.counter m.kept m.counting assign (omega (arith, vars_are, total))
+    (all_from (clause_true assign) (inputs_of a.solver.log) model.clauses_true))
+
+pub groups_within : (a : Inside) (assign : List Bool) → IsMap a → length assign ≡ a.solver.vars → a.groups ≤ length assign
+groups_within a assign m total = let vars_are = m.counting.beside.vars_are in omega (arith, vars_are, total)
