@@ -241,6 +241,31 @@ noted_as kind groups found old new same known sure n = record {
   alone = λ g i. n.alone g (sure g i);
 }
 
+-- where only room was made for rows
+pub noted_room : (kind : Kind) (groups : ℕ) (found : List Found) (old new : Counter) → new.rows.items ≡ old.rows.items → new.waiting.items ≡ old.waiting.items
+    → new.sure.items ≡ old.sure.items → new.known ≡ old.known → AreNoted kind groups found old → AreNoted kind groups found new
+noted_room kind groups found old new rows waiting sure known n =
+    noted_as kind groups found old new
+    (λ g.
+    let a = ap (occurs g) rows in
+    let b = ap (occurs g) waiting in
+    let d = ap (occurs g) sure in
+    omega (arith, a, b, d)) known (λ g i. sym (ap (λ (xs : List ℕ). has xs g) sure) ∙ i) n
+
+-- where the one that waits last got a row
+pub noted_row : (kind : Kind) (groups : ℕ) (found : List Found) (old new : Counter) (group : ℕ) → new.rows.items ≡ old.rows.items ++ group ∷ []
+    → old.waiting.items ≡ new.waiting.items ++ group ∷ [] → new.sure.items ≡ old.sure.items → new.known ≡ old.known
+    → AreNoted kind groups found old → AreNoted kind groups found new
+noted_row kind groups found old new group rows waiting sure known n =
+    noted_as kind groups found old new
+    (λ g.
+    let a = ap (occurs g) rows in
+    let b = ap (occurs g) waiting in
+    let d = ap (occurs g) sure in
+    let e = occurs-append g old.rows.items (group ∷ []) in
+    let f = occurs-append g new.waiting.items (group ∷ []) in
+    omega (arith, a, b, d, e, f)) known (λ g i. sym (ap (λ (xs : List ℕ). has xs g) sure) ∙ i) n
+
 -- ---- clauses beside those of the blocks
 
 pub beside_none : (groups : ℕ) (old new : Solver) → new ≡ old → AddsBeside groups old new
