@@ -268,8 +268,8 @@ in_filter p (y ∷ ys) x (inl same) t =
 in_filter p (y ∷ ys) x (inr later) t =
     let rest = in_filter p ys x later t in
     elim (cases_Bool (p y)) [
-      | inl yes ↦ subst (In x) (sym (cond-true (p y) (y ∷ filter p ys) (filter p ys) yes)) (inr rest)
-      | inr no ↦ subst (In x) (sym (cond-false (p y) (y ∷ filter p ys) (filter p ys) no)) rest
+      | inl passes ↦ subst (In x) (sym (cond-true (p y) (y ∷ filter p ys) (filter p ys) passes)) (inr rest)
+      | inr fails ↦ subst (In x) (sym (cond-false (p y) (y ∷ filter p ys) (filter p ys) fails)) rest
     ]
 
 input_step : (groups : ℕ) (log : List LogStep) (s : LogStep) → In s log → is_block_step groups s ≡ true

@@ -34,7 +34,7 @@ clause_low xs ys (l ∷ ls) over =
     ap (λ b. b || clause_true (xs ++ ys) ls) (literal_low xs ys l over.0)
     ∙ ap (λ b. literal_true xs l || b) (clause_low xs ys ls over.1)
 
-length-values : (kind : Kind) (assign : List Bool) (fewers : List Fewer) → length (values_by kind assign fewers) ≡ length assign + length fewers
+pub length-values : (kind : Kind) (assign : List Bool) (fewers : List Fewer) → length (values_by kind assign fewers) ≡ length assign + length fewers
 length-values kind assign fewers =
     length-append assign (map (is_so kind assign) fewers) ∙ ap (λ n. length assign + n) (length-map fewers (is_so kind assign))
 
@@ -105,9 +105,9 @@ sound_block kind groups bound found f fewers within over assign len out few =
 -- how many are counted with one group more
 count_more : (assign : List Bool) (kind : Kind) (rows : List ℕ) (g : ℕ) → literal_true assign (counted kind g) ≡ true
     → how_many_count assign kind (rows ++ g ∷ []) ≡ how_many_count assign kind rows + 1
-count_more assign kind rows g yes =
+count_more assign kind rows g passes =
     let test : ℕ → Bool = λ h. literal_true assign (counted kind h) in
-    ap length (filter-append test rows (g ∷ []) ∙ ap (λ (gs : List ℕ). filter test rows ++ gs) (cond-true (test g) (g ∷ []) [] yes))
+    ap length (filter-append test rows (g ∷ []) ∙ ap (λ (gs : List ℕ). filter test rows ++ gs) (cond-true (test g) (g ∷ []) [] passes))
     ∙ length-append (filter test rows) (g ∷ [])
 
 count_up : (assign : List Bool) (kind : Kind) (rows : List ℕ) (g : ℕ) → how_many_count assign kind rows ≤ how_many_count assign kind (rows ++ g ∷ [])

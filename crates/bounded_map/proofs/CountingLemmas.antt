@@ -59,10 +59,10 @@ few_rows kind groups most found rows sure assign within once inside alone len ou
     let sum = length-append sure kept in
     omega (arith, all, sum, few)
   where
-    test : ℕ → Bool
+    abbrev test : ℕ → Bool
     test g = literal_true assign (counted kind g)
 
-    kept : List ℕ
+    abbrev kept : List ℕ
     kept = filter (λ g. literal_true assign (counted kind g)) rows
 
     differ : AreDistinct (sure ++ filter (λ g. literal_true assign (counted kind g)) rows)
@@ -99,10 +99,10 @@ module _ (kind : Kind) (groups : ℕ) (bound : Option ℕ) (found : List Found) 
     (rows_are : row.rows ≡ length rows) (last_is : row.last ≡ last) (next_is : row.next ≡ old.vars + 1)
     (width_is : row.width ≤ columns) (width_low : row.width ≤ length rows + 1)
     (adds : Adds (IsCell kind group row) one two) where
-  came : List Fewer
+  abbrev came : List Fewer
   came = fewers_from (rows ++ group ∷ []) 0 columns
 
-  all : List Fewer
+  abbrev all : List Fewer
   all = fewers ++ fewers_from (rows ++ group ∷ []) 0 columns
 
   group_is : IsLiteral groups (pos group)
@@ -380,7 +380,7 @@ module _ (kind : Kind) (groups : ℕ) (bound : Option ℕ) (found : List Found) 
     (rows_are : row.rows ≡ length c.rows.items) (last_is : row.last ≡ c.last) (next_is : row.next ≡ old.vars + 1)
     (width_is : row.width ≤ c.columns) (width_low : row.width ≤ length c.rows.items + 1)
     (adds : Adds (IsCell kind group row) one two) (k : IsCounting kind groups bound found old c) where
-  came_all : List Fewer
+  abbrev came_all : List Fewer
   came_all = k.fewers ++ fewers_from (c.rows.items ++ group ∷ []) 0 c.columns
 
   small_two : two.vars < 2 ^ 31

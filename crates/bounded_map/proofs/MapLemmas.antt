@@ -1,5 +1,5 @@
 -- What a map keeps, and what its answers say.
-use Rattle.std.proofs.Common.{◌≡◌, ℕ, ◌+◌, ◌-◌, ◌<◌, ◌≤◌, Bool, true, false, not, ltb, List, [], ◌∷◌, ◌++◌, map, length, take, Option, Some, None, refl, sym, ◌∙◌, ap, subst, inl, inr, arith, length-append, append_assoc, append-nil}
+use Rattle.std.proofs.Common.{◌≡◌, ℕ, ◌+◌, ◌-◌, ◌^◌, ◌<◌, ◌≤◌, Bool, true, false, not, ltb, List, [], ◌∷◌, ◌++◌, map, length, take, Option, Some, None, refl, sym, ◌∙◌, ap, subst, inl, inr, arith, length-append, append_assoc, append-nil}
 use Rattle.std.specs.Prelude.{slice_get, ℤ, IfSome}
 use Rattle.std.specs.List.{list_all, filter}
 use Rattle.std.specs.Option.{option_map_or}
@@ -85,10 +85,10 @@ narrow_true groups p (c ∷ cs) t =
     let parts = and_parts (p c) (list_all p cs) t in
     let rest = narrow_true groups p cs parts.1 in
     elim (cases_Bool (not (is_wide groups c))) [
-      | inl yes ↦
-          ap (list_all p) (cond-true (not (is_wide groups c)) (c ∷ narrow groups cs) (narrow groups cs) yes)
+      | inl passes ↦
+          ap (list_all p) (cond-true (not (is_wide groups c)) (c ∷ narrow groups cs) (narrow groups cs) passes)
           ∙ and_from (p c) (list_all p (narrow groups cs)) parts.0 rest
-      | inr no ↦ ap (list_all p) (cond-false (not (is_wide groups c)) (c ∷ narrow groups cs) (narrow groups cs) no) ∙ rest
+      | inr fails ↦ ap (list_all p) (cond-false (not (is_wide groups c)) (c ∷ narrow groups cs) (narrow groups cs) fails) ∙ rest
     ]
 
 -- ---- the log grows
@@ -219,7 +219,7 @@ kept_searched groups before left old new sides step h paid =
 pub counting_searched : (kind : Kind) (groups : ℕ) (bound : Option ℕ) (found : List Found) (old new : Solver) (c : Counter)
     → new.vars ≡ old.vars → inputs_of new.log ≡ inputs_of old.log → IsCounting kind groups bound found old c → IsCounting kind groups bound found new c
 counting_searched kind groups bound found old new c vars inputs k = record {
-  small = subst (λ n. n < _) (sym vars) k.small;
+  small = subst (λ n. n < 2 ^ 31) (sym vars) k.small;
   sets = k.sets;
   fewers = k.fewers;
   beside =
@@ -236,7 +236,7 @@ take_left xs ys n len = take-append-le n xs ys (omega (arith, len)) ∙ take_all
 
 module _ (kind : Kind) (groups : ℕ) (bound : Option ℕ) (solver : Solver) (sides : List Side) (step : Option ℕ) (c : Counter)
     (h : IsKept groups solver.log sides step) (k : IsCounting kind groups bound (found_in groups solver.log sides) solver c) where
-  found : List Found
+  abbrev found : List Found
   found = found_in groups solver.log sides
 
   model_of : (values : List Bool) → groups ≤ length values → list_all (clause_true values) (inputs_of solver.log) ≡ true

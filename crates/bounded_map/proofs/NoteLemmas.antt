@@ -40,10 +40,10 @@ module _ (kind : Kind) (groups : ℕ) (found : List Found) (old new : Counter) (
   ]
     where
       cases_zero : (k : ℕ) → (k ≡ 0) ⊎ (0 < k)
-      cases_zero k = elim (cases_Bool (eqb k 0)) [ inl yes ↦ inl (eqb-true k 0 yes) | inr no ↦ inr (positive k no) ]
+      cases_zero k = elim (cases_Bool (eqb k 0)) [ inl passes ↦ inl (eqb-true k 0 passes) | inr fails ↦ inr (positive k fails) ]
         where
           positive : (k : ℕ) → eqb k 0 ≡ false → 0 < k
-          positive k no = grind (arith, no)
+          positive k fails = grind (arith, fails)
 
   pub noted_more : AreNoted kind groups found new
   noted_more = record {

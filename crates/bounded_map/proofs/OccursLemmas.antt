@@ -55,6 +55,6 @@ occurs-filter p g [] = omega arith
 occurs-filter p g (x ∷ xs) =
     let rest = occurs-filter p g xs in
     elim (cases_Bool (p x)) [
-      | inl yes ↦ let is = ap (occurs g) (cond-true (p x) (x ∷ filter p xs) (filter p xs) yes) in omega (arith, rest, is)
-      | inr no ↦ let is = ap (occurs g) (cond-false (p x) (x ∷ filter p xs) (filter p xs) no) in omega (arith, rest, is)
+      | inl passes ↦ let is = ap (occurs g) (cond-true (p x) (x ∷ filter p xs) (filter p xs) passes) in omega (arith, rest, is)
+      | inr fails ↦ let is = ap (occurs g) (cond-false (p x) (x ∷ filter p xs) (filter p xs) fails) in omega (arith, rest, is)
     ]
