@@ -172,15 +172,13 @@ module _ (kind : Kind) (groups : ℕ) (bound : Option ℕ) (found : List Found) 
       let vars_are = beside.vars_are in
       subst (AreLiterals (old.vars + columns)) (sym is) (
         is_var (old.vars + columns) (row.last + column) (let a = r.0 in omega (arith, a, last_is)) (let b = r.1 in omega (arith, b, vars_are, last_is)),
-        neg_literal (old.vars + columns) (pos (row.next + column)) (is_var (old.vars + columns) (row.next + column) (omega (arith, next_is)) (omega (arith, next_is, low))),
-        tt,
+        (neg_literal (old.vars + columns) (pos (row.next + column)) (is_var (old.vars + columns) (row.next + column) (omega (arith, next_is)) (omega (arith, next_is, low))), tt),
       )
   over_cell c (column, within, inr (inl (none, is))) =
       let low : 0 < columns = omega (arith, within, width_is, none) in
       subst (AreLiterals (old.vars + columns)) (sym is) (
         neg_literal (old.vars + columns) (counted kind group) over_group,
-        neg_literal (old.vars + columns) (pos row.next) (is_var (old.vars + columns) row.next (omega (arith, next_is)) (omega (arith, next_is, low))),
-        tt,
+        (neg_literal (old.vars + columns) (pos row.next) (is_var (old.vars + columns) row.next (omega (arith, next_is)) (omega (arith, next_is, low))), tt),
       )
   over_cell c (column, within, inr (inr (some, before, is))) =
       let low : column < columns = omega (arith, within, width_is) in
@@ -189,9 +187,10 @@ module _ (kind : Kind) (groups : ℕ) (bound : Option ℕ) (found : List Found) 
       let vars_are = beside.vars_are in
       subst (AreLiterals (old.vars + columns)) (sym is) (
         neg_literal (old.vars + columns) (counted kind group) over_group,
-        is_var (old.vars + columns) (row.last + (column - 1)) (let a = r.0 in omega (arith, a, last_is)) (let b = r.1 in omega (arith, b, vars_are, last_is)),
-        neg_literal (old.vars + columns) (pos (row.next + column)) (is_var (old.vars + columns) (row.next + column) (omega (arith, next_is)) (omega (arith, next_is, low))),
-        tt,
+        (
+          is_var (old.vars + columns) (row.last + (column - 1)) (let a = r.0 in omega (arith, a, last_is)) (let b = r.1 in omega (arith, b, vars_are, last_is)),
+          (neg_literal (old.vars + columns) (pos (row.next + column)) (is_var (old.vars + columns) (row.next + column) (omega (arith, next_is)) (omega (arith, next_is, low))), tt),
+        ),
       )
 
   -- the clauses that were given have a variable of the row that came

@@ -11,16 +11,16 @@ occurs-append g [] ys = omega arith
 occurs-append g (x ∷ xs) ys = let rest = occurs-append g xs ys in omega (arith, rest)
 
 pub occurs_one : (g : ℕ) → occurs g (g ∷ []) ≡ 1
-occurs_one g = let is = cond-true (eqb g g) 1 0 (eq-eqb g g refl) in omega (arith, is)
+occurs_one g = let is = cond-true {A = ℕ} (eqb g g) 1 0 (eq-eqb g g refl) in omega (arith, is)
 
 pub occurs_other : (g x : ℕ) → eqb x g ≡ false → occurs g (x ∷ []) ≡ 0
-occurs_other g x other = let is = cond-false (eqb x g) 1 0 other in omega (arith, is)
+occurs_other g x other = let is = cond-false {A = ℕ} (eqb x g) 1 0 other in omega (arith, is)
 
 pub has_occurs : (xs : List ℕ) (g : ℕ) → has xs g ≡ true → 0 < occurs g xs
 has_occurs [] g h = absurd (false≢true h)
 has_occurs (x ∷ xs) g h =
     elim (or_cases (eqb x g) (has xs g) h) [
-      | inl here ↦ let is = cond-true (eqb x g) 1 0 here in omega (arith, is)
+      | inl here ↦ let is = cond-true {A = ℕ} (eqb x g) 1 0 here in omega (arith, is)
       | inr later ↦ let rest = has_occurs xs g later in omega (arith, rest)
     ]
 
@@ -30,7 +30,7 @@ occurs_has (x ∷ xs) g h =
     elim (cases_Bool (eqb x g)) [
       | inl here ↦ or_left (eqb x g) (has xs g) here
       | inr other ↦
-          let is = cond-false (eqb x g) 1 0 other in
+          let is = cond-false {A = ℕ} (eqb x g) 1 0 other in
           ap (λ b. or_of b (has xs g)) other ∙ occurs_has xs g (omega (arith, is, h))
     ]
   where
@@ -44,7 +44,7 @@ distinct_from (x ∷ xs) once = (
   false_from_ne_true (has xs x)
       (λ i.
       let more = has_occurs xs x i in
-      let here = cond-true (eqb x x) 1 0 (eq-eqb x x refl) in
+      let here = cond-true {A = ℕ} (eqb x x) 1 0 (eq-eqb x x refl) in
       let most = once x in
       absurd (omega (arith, more, here, most))),
   distinct_from xs (λ g. let most = once g in omega (arith, most)),

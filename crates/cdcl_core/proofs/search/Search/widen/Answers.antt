@@ -4,7 +4,7 @@ use Rattle.sat_base.specs.Literals.{var_of}
 use Rattle.trail_book.specs.Trail.{Trail}
 use Rattle.cdcl_core.specs.declared.search.Search.{Search}
 use Rattle.cdcl_core.proofs.WideLemmas.{ready_same, ready_wider, touched_wider}
-use Rattle.cdcl_core.proofs.widening.Search.widen.Goals as goal
+use Rattle.cdcl_core.proofs.search.Search.widen.Goals as goal
 
 pub widen-requires-clause-kept : goal.widen-requires-clause-kept
 widen-requires-clause-kept c = c.requires.ready.search.kept
