@@ -59,10 +59,10 @@ few_rows kind groups most found rows sure assign within once inside alone len ou
     let sum = length-append sure kept in
     omega (arith, all, sum, few)
   where
-    abbrev test : ℕ → Bool
+    test : ℕ → Bool
     test g = literal_true assign (counted kind g)
 
-    abbrev kept : List ℕ
+    kept : List ℕ
     kept = filter (λ g. literal_true assign (counted kind g)) rows
 
     differ : AreDistinct (sure ++ filter (λ g. literal_true assign (counted kind g)) rows)

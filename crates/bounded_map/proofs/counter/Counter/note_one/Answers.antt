@@ -37,11 +37,11 @@ pub returns-else-alone-clause-noted : goal.returns-else-alone-clause-noted
 returns-else-alone-clause-noted c = λ kind groups found in_groups is_alone n.
     let old = c.args.self.now in
     let group = c.args.group in
-    let new : Counter = record old { known = c.know.new.known; waiting = c.put-2.new.numbers } in
+    let new : Counter = record old { known = c.know.new.known; waiting = c.put-else-alone.new.numbers } in
     let came = c.know.ensures.came c.if-not-know.false in
     noted_more kind groups found old new group n in_groups came.0 came.1 c.know.ensures.stay
     (λ g i. inl i)
-    (λ g. elim c.put-2.ensures [
+    (λ g. elim c.put-else-alone.ensures [
       | inl same ↦ inl (ap (λ (xs : List ℕ). occurs g old.rows.items + (occurs g xs + occurs g old.sure.items)) same)
       | inr put ↦ inr (
           let is = ap (occurs g) put in

@@ -6,9 +6,6 @@ use Rattle.cdcl_core.specs.declared.search.Search.{Search}
 use Rattle.cdcl_core.proofs.WideLemmas.{ready_same, ready_wider, touched_wider}
 use Rattle.cdcl_core.proofs.search.Search.widen.Goals as goal
 
-pub widen-requires-clause-kept : goal.widen-requires-clause-kept
-widen-requires-clause-kept c = c.requires.ready.search.kept
-
 -- the plan alone may have more room
 pub returns-in_err-widen-clause-ready : goal.returns-in_err-widen-clause-ready
 returns-in_err-widen-clause-ready c =
