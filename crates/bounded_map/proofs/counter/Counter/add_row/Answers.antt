@@ -1,5 +1,5 @@
-use Rattle.std.proofs.Common.{◌≡◌, ◌+◌, ◌-◌, ◌<◌, ◌≤◌, ◌∙◌, ◌++◌, ◌∷◌, [], ℕ, List, true, length, take, refl, sym, ap, arith}
-use Rattle.std.specs.Prelude.{pos, slice_index}
+use Rattle.std.proofs.Common.{◌≡◌, ◌+◌, ◌-◌, ◌<◌, ◌≤◌, ◌∙◌, ◌++◌, ◌∷◌, [], ℕ, List, true, length, take, get_or, refl, sym, ap, arith}
+use Rattle.std.specs.Prelude.{pos}
 use Rattle.std.proofs.lemmas.List.{take_more, take_all}
 use Rattle.gm_base.specs.Sets.{has, all_groups}
 use Rattle.gm_base.proofs.SetLemmas.{all_groups-has}
@@ -12,18 +12,17 @@ use Rattle.bounded_map.proofs.CountingLemmas.{noted_room, noted_row, counting_as
 use Rattle.bounded_map.proofs.counter.Counter.add_row.Goals as goal
 
 -- the last of those that wait
-last_waits : (xs : List ℕ) (count : ℕ) → length xs ≡ count → 0 < count → xs ≡ take (count - 1) xs ++ slice_index xs (count - 1) ∷ []
-last_waits xs count len some =
+last_waits : (xs : List ℕ) (count g : ℕ) → length xs ≡ count → 0 < count → g ≡ get_or xs (count - 1) g → xs ≡ take (count - 1) xs ++ g ∷ []
+last_waits xs count g len some is =
     let up : count - 1 + 1 ≡ count = omega (arith, some) in
-    sym (take_all (count - 1 + 1) xs (omega (arith, up, len))) ∙ take_more xs (count - 1) 0 (omega (arith, len, some))
+    sym (take_all (count - 1 + 1) xs (omega (arith, up, len))) ∙ take_more xs (count - 1) g (omega (arith, len, some))
+    ∙ ap (λ (h : ℕ). take (count - 1) xs ++ h ∷ []) (sym is)
 
 -- it is noted
-last_noted : (c : Counter) (count : ℕ) → length c.waiting.items ≡ count → 0 < count
-    → 0 < occurs (slice_index c.waiting.items (count - 1)) c.rows.items
-    + (occurs (slice_index c.waiting.items (count - 1)) c.waiting.items + occurs (slice_index c.waiting.items (count - 1)) c.sure.items)
-last_noted c count len some =
-    let g = slice_index c.waiting.items (count - 1) in
-    let a = ap (occurs g) (last_waits c.waiting.items count len some) in
+last_noted : (c : Counter) (count g : ℕ) → length c.waiting.items ≡ count → 0 < count → g ≡ get_or c.waiting.items (count - 1) g
+    → 0 < occurs g c.rows.items + (occurs g c.waiting.items + occurs g c.sure.items)
+last_noted c count g len some is =
+    let a = ap (occurs g) (last_waits c.waiting.items count g len some is) in
     let b = occurs-append g (take (count - 1) c.waiting.items) (g ∷ []) in
     let d = occurs_one g in
     omega (arith, a, b, d)
@@ -52,8 +51,8 @@ add_cells-requires-clause-group c =
     let (bound, found, k) = c.requires.counting in
     let some : 0 < c.len-count.result = omega (arith, c.if-count-eq0.false) in
     let len : length old.waiting.items ≡ c.len-count.result = grind (arith, c.len-count.ensures) in
-    let g = slice_index old.waiting.items (c.len-count.result - 1) in
-    let (low, high) = all_groups-has c.args.groups g (k.noted.within g (last_noted old c.len-count.result len some)) in
+    let g = c.index-group.result.now in
+    let (low, high) = all_groups-has c.args.groups g (k.noted.within g (last_noted old c.len-count.result g len some c.index-group.ensures)) in
     let vars_are = k.beside.vars_are in
     let vars = ap (λ (s : Solver). s.vars) c.in_ok-next.ensures.ok in
     record { not_zero = low; in_range = omega (arith, high, vars_are, vars) }
