@@ -58,17 +58,84 @@ add_cells-requires-clause-group c =
     record { not_zero = low; in_range = omega (arith, high, vars_are, vars) }
 
 pub add_cells-requires-clause-over : goal.add_cells-requires-clause-over
-add_cells-requires-clause-over c = ?
+add_cells-requires-clause-over c =
+    let old = c.args.self.now in
+    let (bound, found, k) = c.requires.counting in
+    let vars = ap (λ (s : Solver). s.vars) c.in_ok-next.ensures.ok in
+    let first = c.in_ok-next.ensures.first in
+    let some_columns = c.requires.columns in
+    let rows_are : c.len-rows.result ≡ length old.rows.items = grind (arith, c.len-rows.ensures, c.reserve.ensures.len) in
+    let width_is : c.min.result ≤ old.columns = grind (arith, c.min.ensures) in
+    let width_low : c.min.result ≤ c.len-rows.result + 1 = grind (arith, c.min.ensures) in
+    let vars_are = k.beside.vars_are in
+    record {
+      low = omega (arith, first);
+      next = omega (arith, first, vars, width_is);
+      last_low = λ some. let a = (k.row (omega (arith, some, rows_are)) 0 some_columns).0 in omega (arith, a);
+      last = λ some.
+          let b = (k.row (omega (arith, some, rows_are)) (old.columns - 1) (omega (arith, some_columns))).1 in
+          omega (arith, b, vars_are, vars, width_is, some_columns);
+      narrow = width_low;
+    }
 
 -- without memory the row before is the last one
 pub returns-in_err-add_cells-clause-counting : goal.returns-in_err-add_cells-clause-counting
-returns-in_err-add_cells-clause-counting c = ?
+returns-in_err-add_cells-clause-counting c = λ bound found k.
+    let old = c.args.self.now in
+    let some : 0 < c.len-count.result = omega (arith, c.if-count-eq0.false) in
+    let len : length old.waiting.items ≡ c.len-count.result = grind (arith, c.len-count.ensures) in
+    let g = c.index-group.result.now in
+    let row : Row = record { rows = c.len-rows.result; last = old.last; next = c.in_ok-next.next; width = c.min.result } in
+    let rows_are : c.len-rows.result ≡ length old.rows.items = grind (arith, c.len-rows.ensures, c.reserve.ensures.len) in
+    let width_is : c.min.result ≤ old.columns = grind (arith, c.min.ensures) in
+    let width_low : c.min.result ≤ length old.rows.items + 1 = grind (arith, c.min.ensures, rows_are) in
+    let new : Counter = record old { rows = c.reserve.new.self } in
+    let items = c.reserve.ensures.items in
+    (counting_cut c.args.kind c.args.groups bound found c.args.solver.now c.add_vars.new.solver c.add_cells.new.solver old g row (k.noted.within g (last_noted old c.len-count.result g len some c.index-group.ensures))
+    c.in_ok-next.ensures.ok c.in_ok-next.ensures.small rows_are refl c.in_ok-next.ensures.first width_is width_low c.add_cells.ensures k new items refl refl (noted_room c.args.kind c.args.groups found old new items refl refl refl))
 
 pub returns-in_err-add_cells-clause-beside : goal.returns-in_err-add_cells-clause-beside
-returns-in_err-add_cells-clause-beside c = ?
+returns-in_err-add_cells-clause-beside c =
+    let (bound, found, k) = c.requires.counting in
+    let old = c.args.self.now in
+    let some : 0 < c.len-count.result = omega (arith, c.if-count-eq0.false) in
+    let len : length old.waiting.items ≡ c.len-count.result = grind (arith, c.len-count.ensures) in
+    let g = c.index-group.result.now in
+    let row : Row = record { rows = c.len-rows.result; last = old.last; next = c.in_ok-next.next; width = c.min.result } in
+    let rows_are : c.len-rows.result ≡ length old.rows.items = grind (arith, c.len-rows.ensures, c.reserve.ensures.len) in
+    let width_is : c.min.result ≤ old.columns = grind (arith, c.min.ensures) in
+    let width_low : c.min.result ≤ length old.rows.items + 1 = grind (arith, c.min.ensures, rows_are) in
+    (adds_beside c.args.kind c.args.groups bound found c.args.solver.now c.add_vars.new.solver c.add_cells.new.solver old g row (k.noted.within g (last_noted old c.len-count.result g len some c.index-group.ensures))
+    c.in_ok-next.ensures.ok c.in_ok-next.ensures.small rows_are refl c.in_ok-next.ensures.first width_is width_low c.add_cells.ensures k)
 
 pub returns-clause-counting : goal.returns-clause-counting
-returns-clause-counting c = ?
+returns-clause-counting c = λ bound found k.
+    let old = c.args.self.now in
+    let some : 0 < c.len-count.result = omega (arith, c.if-count-eq0.false) in
+    let len : length old.waiting.items ≡ c.len-count.result = grind (arith, c.len-count.ensures) in
+    let g = c.index-group.result.now in
+    let row : Row = record { rows = c.len-rows.result; last = old.last; next = c.in_ok-next.next; width = c.min.result } in
+    let rows_are : c.len-rows.result ≡ length old.rows.items = grind (arith, c.len-rows.ensures, c.reserve.ensures.len) in
+    let width_is : c.min.result ≤ old.columns = grind (arith, c.min.ensures) in
+    let width_low : c.min.result ≤ length old.rows.items + 1 = grind (arith, c.min.ensures, rows_are) in
+    let new : Counter = record old { rows = c.push_reserved.new.self; waiting = c.pop.new.self; last = c.in_ok-next.next } in
+    let pushed = c.push_reserved.ensures.items ∙ ap (λ (xs : List ℕ). xs ++ g ∷ []) c.reserve.ensures.items in
+    let whole = last_waits old.waiting.items c.len-count.result g len some c.index-group.ensures in
+    let popped : old.waiting.items ≡ c.pop.new.self.items ++ g ∷ [] =
+    whole ∙ ap (λ (n : ℕ). take (n - 1) old.waiting.items ++ g ∷ []) c.len-count.ensures ∙ ap (λ (xs : List ℕ). xs ++ g ∷ []) (sym c.pop.ensures.rest) in
+    (counting_row c.args.kind c.args.groups bound found c.args.solver.now c.add_vars.new.solver c.add_cells.new.solver old g row (k.noted.within g (last_noted old c.len-count.result g len some c.index-group.ensures))
+    c.in_ok-next.ensures.ok c.in_ok-next.ensures.small rows_are refl c.in_ok-next.ensures.first width_is width_low c.add_cells.ensures k new pushed c.in_ok-next.ensures.first refl (noted_row c.args.kind c.args.groups found old new g pushed popped refl refl))
 
 pub returns-clause-beside : goal.returns-clause-beside
-returns-clause-beside c = ?
+returns-clause-beside c =
+    let (bound, found, k) = c.requires.counting in
+    let old = c.args.self.now in
+    let some : 0 < c.len-count.result = omega (arith, c.if-count-eq0.false) in
+    let len : length old.waiting.items ≡ c.len-count.result = grind (arith, c.len-count.ensures) in
+    let g = c.index-group.result.now in
+    let row : Row = record { rows = c.len-rows.result; last = old.last; next = c.in_ok-next.next; width = c.min.result } in
+    let rows_are : c.len-rows.result ≡ length old.rows.items = grind (arith, c.len-rows.ensures, c.reserve.ensures.len) in
+    let width_is : c.min.result ≤ old.columns = grind (arith, c.min.ensures) in
+    let width_low : c.min.result ≤ length old.rows.items + 1 = grind (arith, c.min.ensures, rows_are) in
+    (adds_beside c.args.kind c.args.groups bound found c.args.solver.now c.add_vars.new.solver c.add_cells.new.solver old g row (k.noted.within g (last_noted old c.len-count.result g len some c.index-group.ensures))
+    c.in_ok-next.ensures.ok c.in_ok-next.ensures.small rows_are refl c.in_ok-next.ensures.first width_is width_low c.add_cells.ensures k)
