@@ -265,6 +265,23 @@ noted_row kind groups found old new group rows waiting sure known n =
     let f = occurs-append g new.waiting.items (group ∷ []) in
     omega (arith, a, b, d, e, f)) known (λ g i. sym (ap (λ (xs : List ℕ). has xs g) sure) ∙ i) n
 
+-- where one that was sure waits
+pub noted_moved : (kind : Kind) (groups : ℕ) (found : List Found) (old new : Counter) (group : ℕ) → new.rows.items ≡ old.rows.items
+    → new.waiting.items ≡ old.waiting.items ++ group ∷ [] → old.sure.items ≡ new.sure.items ++ group ∷ [] → new.known ≡ old.known
+    → AreNoted kind groups found old → AreNoted kind groups found new
+noted_moved kind groups found old new group rows waiting sure known n =
+    noted_as kind groups found old new
+    (λ g.
+    let a = ap (occurs g) rows in
+    let b = ap (occurs g) waiting in
+    let d = ap (occurs g) sure in
+    let e = occurs-append g old.waiting.items (group ∷ []) in
+    let f = occurs-append g new.sure.items (group ∷ []) in
+    omega (arith, a, b, d, e, f)) known
+    (λ g i.
+    ap (λ (xs : List ℕ). has xs g) sure ∙ list_any-append (λ k. eqb k g) new.sure.items (group ∷ [])
+    ∙ or_left (has new.sure.items g) (has (group ∷ []) g) i) n
+
 -- ---- clauses beside those of the blocks
 
 pub beside_none : (groups : ℕ) (old new : Solver) → new ≡ old → AddsBeside groups old new
