@@ -10,17 +10,12 @@ use Rattle.gm_base.specs.Minimal.{IsConflict, IsCorrection, conflicts, correctio
 use Rattle.gm_base.specs.declared.kind.Kind.{Kind}
 use Rattle.gm_base.specs.declared.kind.Kind.TheVariants.{Conflict, Correction}
 use Rattle.gm_base.specs.Explored.{AllExplored}
+pub use Rattle.gm_base.specs.Explored.{same_kind}
 use Rattle.sat_base.specs.Derivation.{Derivation}
 use Rattle.evidence_rec.specs.declared.record.Record.{Record}
 use Rattle.evidence_rec.specs.declared.record.Record.TheVariants as record_of
 use Rattle.evidence_rec.specs.Records.{kind_of, set_of, founds, AllAccepted}
 use Rattle.evidence_rec.specs.Seeding.{shows_all_explored}
-
-abbrev pub same_kind : Kind → Kind → Bool
-same_kind Conflict Conflict = true
-same_kind Correction Correction = true
-same_kind Conflict Correction = false
-same_kind Correction Conflict = false
 
 abbrev pub same_set : List ℕ → List ℕ → Bool
 same_set a b = pointwise nat_eq a b

@@ -41,7 +41,7 @@ mod witnessing;
 
 pub use blocks::block_lits;
 pub use checking::{RecordChecker, Verdict, check_record};
-pub use engine::{MapEngine, Seed};
+pub use engine::{AskedLevel, LevelAnswer, MapEngine, Seed};
 pub use held::Held;
 pub use lists::{Proofs, Records, Witnesses};
 pub use oracle::{Asked, Oracle};

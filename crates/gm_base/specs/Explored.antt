@@ -14,6 +14,12 @@ pub record Found : Type 0 where
   pub kind : Kind
   pub set : List ℕ
 
+abbrev pub same_kind : Kind → Kind → Bool
+same_kind Conflict Conflict = true
+same_kind Correction Correction = true
+same_kind Conflict Correction = false
+same_kind Correction Conflict = false
+
 -- a conflict explores the sets that hold it, a correction those that have no group of it
 abbrev pub explores : Found → List ℕ → Bool
 explores f s = by f.kind

@@ -8,6 +8,11 @@ pub mod Index
 pub mod Evidence
 pub mod Explored
 pub mod Roles
+pub mod Sizes
+pub mod Counter
+pub mod Names
+pub mod Levels
+pub mod Shown
 pub mod Rows
 pub mod EvidenceRows
 pub mod RoleRows

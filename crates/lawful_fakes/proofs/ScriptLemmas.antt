@@ -1,5 +1,5 @@
 -- What a script keeps, and what its end shows.
-use Rattle.std.proofs.Common.{◌≡◌, ◌∙◌, ℕ, ◌+◌, ◌<◌, ◌^◌, Bool, true, false, List, [], ◌∷◌, ◌++◌, map, refl, ap, subst, sym, inl, inr, arith}
+use Rattle.std.proofs.Common.{◌≡◌, ◌∙◌, None, ℕ, ◌+◌, ◌<◌, ◌^◌, Bool, true, false, List, [], ◌∷◌, ◌++◌, map, refl, ap, subst, sym, inl, inr, arith}
 use Rattle.std.specs.Prelude.{ℤ}
 use Rattle.std.specs.List.{list_all}
 use Rattle.std.proofs.lemmas.List.{map_push}
@@ -36,7 +36,7 @@ block_range groups blocks b g small within i h =
 
 -- the models of the clauses are the sets that no block takes out
 pub has_models : (groups : ℕ) (blocks : List Block) (log : List LogStep) (exhausted : Bool) → KeepsScript groups blocks log
-    → HasModels (record { groups = groups; blocks = map found_in blocks; log = log; exhausted = exhausted })
+    → HasModels (record { groups = groups; kind = None; bound = None; blocks = map found_in blocks; log = log; exhausted = exhausted })
 has_models groups blocks log exhausted h assign len =
     let both = models-unexplored groups (map found_in blocks) assign h.within len in
     let same = ap (list_all (clause_true assign)) h.honest.inputs in

@@ -1,5 +1,5 @@
 -- What the fakes keep between calls, and what they tell.
-use Rattle.std.specs.Prelude.{map}
+use Rattle.std.specs.Prelude.{map, None}
 use Rattle.std.specs.Option.{option_map}
 use Rattle.evidence_rec.specs.Asking.{OracleState}
 use Rattle.evidence_rec.specs.Seeding.{EngineState}
@@ -16,7 +16,7 @@ abbrev pub IsTable : table.Inside → Type 0
 IsTable a = KnowsTable a.problem a.conflicts a.log a.refuted
 
 abbrev pub engine_of : script.Inside → EngineState
-engine_of a = record { groups = a.groups; blocks = map found_in a.blocks.items; log = a.log; exhausted = a.exhausted }
+engine_of a = record { groups = a.groups; kind = None; bound = None; blocks = map found_in a.blocks.items; log = a.log; exhausted = a.exhausted }
 
 abbrev pub IsScript : script.Inside → Type 0
 IsScript a = KeepsScript a.groups a.blocks.items a.log

@@ -2,12 +2,12 @@
 ghost use Rattle.std.specs.Prelude.{◌≡◌, ◌<◌, ◌^◌, true, false, IfOk, IfSome, length, map};
 ghost use Rattle.gm_base.specs.Sets.{IsSubset, all_groups};
 ghost use Rattle.gm_base.specs.Explored.{Found, IsUnexplored};
-ghost use Rattle.evidence_rec.specs.Seeding.{new_engine, shows_all_explored, IsHonestMap, HasModels};
+ghost use Rattle.evidence_rec.specs.Seeding.{new_engine, shows_all_explored, HasMapLog, ModelsAreLeft};
 ghost use Rattle.sat_base.specs.Members.{In};
 ghost use Rattle.lawful_fakes.specs.Script.{found_in};
 
 use crate::block::{Block, any_takes_out, map_problem};
-use evidence_rec::{MapEngine, Record, Records, Seed, Witnesses, block_lits, check_record};
+use evidence_rec::{AskedLevel, MapEngine, Record, Records, Seed, Witnesses, block_lits, check_record};
 use gm_base::{Derivation, GroupSet, Purse, Side};
 use lrat_steps::{Log, LogStep};
 use sat_base::Row;
@@ -71,8 +71,8 @@ impl ScriptedMap {
     /// How many blocks it was given; it is as lawful as ever where it is given no more.
     pub(crate) fn block_count(&self) -> usize
         ensures count { result ≡ length self.now.blocks }
-        ensures honest { IsHonestMap self.now.blocks self.now.log }
-        ensures models { HasModels self.now }
+        ensures honest { HasMapLog self.now }
+        ensures models { ModelsAreLeft self.now.kind self.now }
     {
         self.blocks.len()
     }
@@ -92,6 +92,11 @@ impl MapEngine for ScriptedMap {
         self.log.push(LogStep::Input(&lits))?;
         self.blocks.push_reserved(Block { set: copy, side });
         Ok(())
+    }
+
+    fn bound(&mut self, _alloc: Global, _most: u32) -> Result<(), AllocError> {
+        // It counts groups for no kind.
+        unreachable!();
     }
 
     fn seed(&mut self, alloc: Global, _turn: u64, _purse: &mut Purse) -> Result<Seed, AllocError> {
@@ -120,6 +125,16 @@ impl MapEngine for ScriptedMap {
         } else {
             Err(AllocError)
         }
+    }
+
+    fn level_proof(
+        &mut self,
+        _alloc: Global,
+        _turn: u64,
+        _purse: &mut Purse,
+    ) -> Result<AskedLevel, AllocError> {
+        // It counts groups for no kind.
+        unreachable!();
     }
 
     fn into_log(self) -> Log {

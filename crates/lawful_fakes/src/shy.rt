@@ -6,7 +6,7 @@ ghost use Rattle.std.specs.Prelude.{◌≡◌, false};
 
 use crate::scripted_map::ScriptedMap;
 use crate::table_oracle::TableOracle;
-use evidence_rec::{Asked, MapEngine, Oracle, Seed};
+use evidence_rec::{Asked, AskedLevel, MapEngine, Oracle, Seed};
 use gm_base::{Derivation, GroupSet, Purse, Side};
 use lrat_steps::Log;
 use std::alloc::{AllocError, Global};
@@ -104,12 +104,25 @@ impl MapEngine for ShyMap {
         }
     }
 
+    fn bound(&mut self, alloc: Global, most: u32) -> Result<(), AllocError> {
+        self.inner.bound(alloc, most)
+    }
+
     fn seed(&mut self, alloc: Global, turn: u64, purse: &mut Purse) -> Result<Seed, AllocError> {
         self.inner.seed(alloc, turn, purse)
     }
 
     fn empty_proof(&self, alloc: Global) -> Result<Derivation, AllocError> {
         self.inner.empty_proof(alloc)
+    }
+
+    fn level_proof(
+        &mut self,
+        alloc: Global,
+        turn: u64,
+        purse: &mut Purse,
+    ) -> Result<AskedLevel, AllocError> {
+        self.inner.level_proof(alloc, turn, purse)
     }
 
     fn into_log(self) -> Log {

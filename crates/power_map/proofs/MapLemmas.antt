@@ -33,7 +33,7 @@ use Rattle.power_map.proofs.BlockLemmas.{blocks_of-push}
 
 -- what a map of these parts tells
 abbrev pub told : ℕ → List LogStep → List Side → Option ℕ → EngineState
-told groups log sides step = record { groups = groups; blocks = blocks_of (inputs_of log) sides; log = log; exhausted = is_kept step }
+told groups log sides step = record { groups = groups; kind = None; bound = None; blocks = blocks_of (inputs_of log) sides; log = log; exhausted = is_kept step }
 
 -- the models of the clauses are the sets that nothing explores
 pub has_models : (groups : ℕ) (log : List LogStep) (sides : List Side) (step : Option ℕ) → IsKept groups log sides step
@@ -131,7 +131,7 @@ told_block old new sides more step side set lits h added clause side_added =
     ap (λ (s : Solver). told s.vars s.log more step) added
     ∙ ap (λ (ls : List ℤ). told old.vars (old.log ++ Input ls ∷ []) more step) clause
     ∙ ap (λ (ss : List Side). told old.vars log ss step) side_added
-    ∙ ap (λ (fs : List Found). (let e : EngineState = record { groups = old.vars; blocks = fs; log = log; exhausted = is_kept step } in e))
+    ∙ ap (λ (fs : List Found). (let e : EngineState = record { groups = old.vars; kind = None; bound = None; blocks = fs; log = log; exhausted = is_kept step } in e))
     (blocks_pushed old.log sides side set h.each_side)
 
 -- no block without a side

@@ -21,6 +21,8 @@ abbrev pub view_of : Inside → EngineState
 view_of a =
     record {
       groups = a.solver.vars;
+      kind = None;
+      bound = None;
       blocks = blocks_of (inputs_of a.solver.log) a.sides.items;
       log = a.solver.log;
       exhausted = is_kept a.empty;

@@ -19,7 +19,7 @@ ghost use Rattle.evidence_rec.specs.Seeding.{new_engine};
 use crate::sets::set_of;
 use crate::unsettled::{all_but, is_beginning, unsettled_behind};
 use cdcl_core::{Solved, Solver};
-use evidence_rec::{MapEngine, Seed, block_lits};
+use evidence_rec::{AskedLevel, MapEngine, Seed, block_lits};
 use gm_base::{Derivation, GroupSet, Purse, Side};
 use lrat_steps::Log;
 use std::alloc::{AllocError, Global};
@@ -105,6 +105,11 @@ impl MapEngine for PowerMap {
         Ok(())
     }
 
+    fn bound(&mut self, _alloc: Global, _most: u32) -> Result<(), AllocError> {
+        // It counts groups for no kind.
+        unreachable!();
+    }
+
     fn seed(&mut self, alloc: Global, turn: u64, purse: &mut Purse) -> Result<Seed, AllocError> {
         if let Some(g) = self.unsettled.pop() {
             return Ok(Seed::Set(all_but(alloc, self.solver.vars(), g)?));
@@ -126,6 +131,16 @@ impl MapEngine for PowerMap {
             unreachable!();
         };
         self.solver.log().trim(alloc, step)
+    }
+
+    fn level_proof(
+        &mut self,
+        _alloc: Global,
+        _turn: u64,
+        _purse: &mut Purse,
+    ) -> Result<AskedLevel, AllocError> {
+        // It counts groups for no kind.
+        unreachable!();
     }
 
     fn into_log(self) -> Log {
