@@ -1,13 +1,13 @@
 -- What a core keeps between calls.
 use Rattle.std.specs.Prelude.{◌≡◌, ℕ, ◌+◌, ◌-◌, ◌<◌, ◌≤◌, ◌^◌, Bool, true, false, List, [], ◌∷◌, ◌++◌, length, take, Option, MatchOption}
 use Rattle.gm_base.specs.Problem.{Problem}
+use Rattle.gm_base.specs.declared.kind.Kind.{Kind}
 use Rattle.gm_base.specs.Explored.{Found}
 use Rattle.sat_base.specs.Derivation.{Derivation}
-use Rattle.lrat_steps.specs.Log.{LogStep, db_of, learned_count}
-use Rattle.lrat_steps.specs.Undecided.{Undecided}
+use Rattle.lrat_steps.specs.Log.{LogStep, learned_count}
 use Rattle.evidence_rec.specs.declared.record.Record.{Record}
 use Rattle.evidence_rec.specs.Records.{founds}
-use Rattle.evidence_rec.specs.Seeding.{EngineState, IsHonestMap, shows_all_explored}
+use Rattle.evidence_rec.specs.Seeding.{EngineState, HasMapLog}
 use Rattle.map_core.specs.declared.entry.Call.{Call}
 use Rattle.map_core.specs.declared.entry.Call.TheVariants.{Take}
 use Rattle.map_core.specs.declared.entry.Reply.{Reply}
@@ -18,7 +18,9 @@ use Rattle.map_core.specs.declared.common.Common.{Common}
 use Rattle.map_core.specs.declared.entry.Goal.{Goal}
 use Rattle.evidence_rec.specs.declared.held.Held.{Held}
 use Rattle.map_core.specs.declared.tally.Tally.{Tally}
-use Rattle.map_core.specs.Core.{State, CoreStep, IsReached, worker_at}
+use Rattle.map_core.specs.Core.{State, CoreStep, IsReached, worker_at, kind_in, bound_of}
+use Rattle.map_core.specs.Asked.{CanTell, Proves}
+use Rattle.map_core.specs.Levels.{learned_in, AreLevelLogs, StandsBefore}
 use Rattle.map_core.specs.Own.{engine_used_in}
 use Rattle.map_core.specs.Sound.{IsOpening, live_count}
 use Rattle.evidence_rec.specs.Index.{IsIndex}
@@ -35,30 +37,45 @@ state_of tops goal problem first budget limit common records workers history =
       spent = common.spent;
       exhausted = common.exhausted;
       settled = common.settled;
+      levelled = common.levelled;
       limited = common.limited;
       stopped = common.stopped;
       history = history;
     }
 
--- a proof is kept exactly where exhausted is marked
-abbrev pub KeepsProof : ℕ → List Found → Bool → Option Derivation → Type 0
-KeepsProof groups found exhausted proof =
-    MatchOption proof (exhausted ≡ false) (λ d. (exhausted ≡ true) × (shows_all_explored groups found d ≡ true))
+-- a proof is kept exactly where exhausted or levelled is marked
+abbrev pub KeepsProof : Option Kind → Option ℕ → ℕ → List Found → Bool → Bool → Option Derivation → Type 0
+KeepsProof kind bound groups found exhausted levelled proof =
+    MatchOption proof ((exhausted ≡ false) × (levelled ≡ false)) (λ d. Proves kind bound groups found exhausted levelled d)
 
--- where the last entry is a take that found the budget spent, the map's search stands before a conflict
-abbrev pub StandsDry : List Entry → List LogStep → Type 0
-StandsDry history log =
-    (before : List Entry) (e : Entry) → history ≡ before ++ e ∷ [] → e.call ≡ Take → e.reply ≡ Dry → Undecided (db_of log) []
+-- that of a state
+abbrev pub HasProof : State → Option Derivation → Type 0
+HasProof s proof =
+    KeepsProof (kind_in s.opening.goal) (bound_of s.opening.goal s.opening.problem.groups (founds s.records)) s.opening.problem.groups
+    (founds s.records) s.exhausted s.levelled proof
 
--- the engine has the blocks of the records, and has learnt as many clauses as the history says that it used
-pub record IsDriven (s : State) (engine : EngineState) : Type 0 where
+-- where the last entry is a take that found the budget spent, a search stands before a conflict
+abbrev pub StandsDry : State → List LogStep → List (List LogStep) → Type 0
+StandsDry s log levels =
+    (before : List Entry) (e : Entry)
+    → s.history ≡ before ++ e ∷ []
+    → e.call ≡ Take
+    → e.reply ≡ Dry
+    → StandsBefore (kind_in s.opening.goal) (bound_of s.opening.goal s.opening.problem.groups (founds s.records)) s.opening.problem.groups (founds s.records) log levels
+
+-- the engine has the blocks of the records, can be told their bound, and has learnt, with the levels that were asked for, as
+-- many clauses as the history says that it used
+pub record IsDriven (s : State) (engine : EngineState) (levels : List (List LogStep)) : Type 0 where
   pub same_groups : engine.groups ≡ s.opening.problem.groups
+  pub same_kind : engine.kind ≡ kind_in s.opening.goal
   pub same_blocks : engine.blocks ≡ founds s.records
-  pub honest : IsHonestMap engine.blocks engine.log
-  pub learned : learned_count engine.log ≡ engine_used_in s.history
-  pub dry : StandsDry s.history engine.log
+  pub can_tell : CanTell engine (bound_of s.opening.goal s.opening.problem.groups (founds s.records))
+  pub honest : HasMapLog engine
+  pub levels : AreLevelLogs s.opening.goal (kind_in s.opening.goal) s.opening.problem.groups (founds s.records) levels
+  pub learned : learned_count engine.log + learned_in levels ≡ engine_used_in s.history
+  pub dry : StandsDry s engine.log levels
 
-pub record IsKept (s : State) (first : ℕ) (capacity : ℕ) (held : Held) (tally : Tally) (engine : EngineState) (proof : Option Derivation) : Type 0 where
+pub record IsKept (s : State) (first : ℕ) (capacity : ℕ) (held : Held) (tally : Tally) (engine : EngineState) (levels : List (List LogStep)) (proof : Option Derivation) : Type 0 where
   pub opening : IsOpening s.opening
   pub reached : IsReached s
   pub begins : first ≤ length s.records
@@ -67,8 +84,10 @@ pub record IsKept (s : State) (first : ℕ) (capacity : ℕ) (held : Held) (tall
   pub room : length s.history + live_count s.workers ≤ capacity
   pub index : IsIndex held s.records
   pub tallies : Tallies s.opening.goal s.opening.problem.groups (founds s.records) tally
-  pub keeps : KeepsProof s.opening.problem.groups (founds s.records) s.exhausted proof
-  pub driven : IsDriven s engine
+  pub keeps : HasProof s proof
+  pub driven : IsDriven s engine levels
+  -- who asked for a level has ended
+  pub few : length levels + live_count s.workers ≤ length s.workers
 
 -- the call is one step, with its arguments and its reply
 pub record Steps (old : State) (who : ℕ) (call : Call) (used : ℕ) (reply : Reply) (new : State) : Type 0 where

@@ -1,5 +1,5 @@
 -- Laws of the core, over every list of entries.
-use Rattle.std.specs.Prelude.{◌≡◌, ◌≢◌, ◌||◌, ℕ, true, false, if◌then◌else◌, List, ◌++◌}
+use Rattle.std.specs.Prelude.{◌≡◌, ◌≢◌, ◌||◌, ◌≤◌, ℕ, true, false, if◌then◌else◌, List, [], ◌∷◌, ◌++◌, Option, Some, None}
 use Rattle.std.specs.List.{AllByRecursion}
 use Rattle.gm_base.specs.Sets.{has, IsGroupSet, IsSubset, all_groups}
 use Rattle.gm_base.specs.Minimal.{IsConflict, IsCorrection}
@@ -15,9 +15,10 @@ pub use Rattle.evidence_rec.specs.Held.{Decides}
 use Rattle.map_core.specs.declared.entry.Reply.TheVariants.{Job, Grant, New}
 use Rattle.map_core.specs.declared.entry.Entry.{Entry}
 use Rattle.map_core.specs.declared.entry.Opening.{Opening}
-use Rattle.map_core.specs.Core.{State, is_held, CoreStep, CoreRun, opened}
+use Rattle.map_core.specs.declared.entry.Goal.{Goal}
+use Rattle.map_core.specs.Core.{State, is_held, bound_of, CoreStep, CoreRun, opened}
 use Rattle.map_core.specs.Own.{new_in, brought_in}
-use Rattle.map_core.specs.Sound.{IsOpening, IsSound}
+use Rattle.map_core.specs.Sound.{IsOpening, IsSound, IsLevelled}
 
 abbrev pub OpeningIsSound : Type 0
 OpeningIsSound = (o : Opening) → IsOpening o → IsSound (opened o)
@@ -108,10 +109,24 @@ SettledTells =
     → has (all_groups s.opening.problem.groups) g ≡ true
     → role s.opening.problem g ≡ told_role (founds s.records) g
 
+-- once levelled is marked, each set is explored at which no more groups count than the bound of what was found
+abbrev pub LevelledIsDone : Type 0
+LevelledIsDone = (s : State) → IsSound s → s.levelled ≡ true → IsLevelled s
+
+-- the bound of what was found only falls, and stays from the mark on
+abbrev pub IsLower : Option ℕ → Option ℕ → Type 0
+IsLower None after = Unit {0}
+IsLower (Some before) None = ⊥
+IsLower (Some before) (Some after) = after ≤ before
+
+abbrev pub BoundFalls : Type 0
+BoundFalls = (goal : Goal) (groups : ℕ) (found : List Found) (f : Found) → IsLower (bound_of goal groups found) (bound_of goal groups (found ++ f ∷ []))
+
 -- a mark of the one state is a mark of the other
 pub record KeepsMarks (s t : State) : Type 0 where
   pub exhausted : s.exhausted ≡ true → t.exhausted ≡ true
   pub settled : s.settled ≡ true → t.settled ≡ true
+  pub levelled : s.levelled ≡ true → t.levelled ≡ true
   pub limited : s.limited ≡ true → t.limited ≡ true
   pub stopped : s.stopped ≡ true → t.stopped ≡ true
 
@@ -119,13 +134,13 @@ pub record KeepsMarks (s t : State) : Type 0 where
 abbrev pub MarksStay : Type 0
 MarksStay = (s t : State) (log : List Entry) → CoreRun s log t → KeepsMarks s t
 
--- once exhausted or limited is marked, no later post is New
+-- once exhausted, levelled or limited is marked, no later post is New
 abbrev pub NoneIsNew : Type 0
 NoneIsNew =
     (s t : State) (log : List Entry)
     → IsSound s
     → CoreRun s log t
-    → (s.exhausted || s.limited) ≡ true
+    → (s.exhausted || s.levelled || s.limited) ≡ true
     → AllByRecursion (λ (e : Entry). e.reply ≢ New) log
 
 -- once any mark stands, no later take gives a job
@@ -134,13 +149,13 @@ NoneIsJob =
     (s t : State) (log : List Entry)
     → IsSound s
     → CoreRun s log t
-    → (s.exhausted || s.settled || s.limited || s.stopped) ≡ true
+    → (s.exhausted || s.settled || s.levelled || s.limited || s.stopped) ≡ true
     → AllByRecursion (λ (e : Entry). (turn n : ℕ) (seed : List ℕ) → e.reply ≢ Job turn seed n) log
 
--- once stopped is marked, no later refill is a grant
+-- once levelled or stopped is marked, no later refill is a grant
 abbrev pub NoneIsGrant : Type 0
 NoneIsGrant =
     (s t : State) (log : List Entry)
     → CoreRun s log t
-    → s.stopped ≡ true
+    → (s.levelled || s.stopped) ≡ true
     → AllByRecursion (λ (e : Entry). (n : ℕ) → e.reply ≢ Grant n) log

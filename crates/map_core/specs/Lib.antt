@@ -4,7 +4,9 @@ pub mod Replies
 pub mod Sound
 pub mod Laws
 pub mod Tallies
+pub mod Sizes
 pub mod Asked
+pub mod Levels
 pub mod Kept
 pub mod Opens
 pub mod Closings

@@ -7,7 +7,7 @@ use Rattle.map_core.specs.declared.entry.Call.{Call}
 use Rattle.map_core.specs.declared.entry.Call.TheVariants.{Take, Refill, Post, Retire}
 use Rattle.map_core.specs.declared.entry.Retirement.TheVariants as why
 use Rattle.map_core.specs.declared.entry.Reply.{Reply}
-use Rattle.map_core.specs.declared.entry.Reply.TheVariants.{Job, Grant, Exhausted, Settled, Limit, Dry, Stopped, New, Already, Retired, Memory}
+use Rattle.map_core.specs.declared.entry.Reply.TheVariants.{Job, Grant, Exhausted, Settled, Levelled, Limit, Dry, Stopped, New, Already, Retired, Memory}
 use Rattle.map_core.specs.declared.entry.Entry.{Entry}
 use Rattle.map_core.specs.declared.entry.Opening.{Opening}
 use Rattle.map_core.specs.declared.turn.Worker.{Worker}
@@ -30,6 +30,7 @@ worker_after w used New = record { purse = w.purse - used; last_grant = w.last_g
 worker_after w used Already = record { purse = w.purse - used; last_grant = w.last_grant; ended = w.ended }
 worker_after w used Exhausted = ended w
 worker_after w used Settled = ended w
+worker_after w used Levelled = ended w
 worker_after w used Limit = ended w
 worker_after w used Dry = ended w
 worker_after w used Stopped = ended w
@@ -60,6 +61,7 @@ is_retirement New = false
 is_retirement Already = false
 is_retirement Exhausted = false
 is_retirement Settled = false
+is_retirement Levelled = false
 is_retirement Limit = false
 is_retirement Dry = false
 is_retirement Stopped = false
@@ -107,6 +109,7 @@ abbrev pub fits_call : Call → Reply → Bool
 fits_call Take (Job turn seed n) = true
 fits_call Take Exhausted = true
 fits_call Take Settled = true
+fits_call Take Levelled = true
 fits_call Take Limit = true
 fits_call Take Dry = true
 fits_call Take Stopped = true
@@ -114,9 +117,11 @@ fits_call Take Memory = true
 fits_call (Refill asked) (Grant n) = true
 fits_call (Refill asked) Dry = true
 fits_call (Refill asked) Stopped = true
+fits_call (Refill asked) Levelled = true
 fits_call (Refill asked) Memory = true
 fits_call (Post kind set r) New = true
 fits_call (Post kind set r) Already = true
+fits_call (Post kind set r) Levelled = true
 fits_call (Post kind set r) Limit = true
 fits_call (Post kind set r) Memory = true
 fits_call (Retire why) Retired = true

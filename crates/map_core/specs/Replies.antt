@@ -12,6 +12,7 @@ abbrev pub take_reply : Taken → Reply
 take_reply (taken.Job turn seed grant) = reply.Job turn seed grant
 take_reply taken.Exhausted = reply.Exhausted
 take_reply taken.Settled = reply.Settled
+take_reply taken.Levelled = reply.Levelled
 take_reply taken.Limit = reply.Limit
 take_reply taken.Dry = reply.Dry
 take_reply taken.Stopped = reply.Stopped
@@ -21,10 +22,12 @@ abbrev pub refill_reply : Refilled → Reply
 refill_reply (refilled.Grant n) = reply.Grant n
 refill_reply refilled.Dry = reply.Dry
 refill_reply refilled.Stopped = reply.Stopped
+refill_reply refilled.Levelled = reply.Levelled
 refill_reply refilled.Memory = reply.Memory
 
 abbrev pub post_reply : Posted → Reply
 post_reply posted.New = reply.New
 post_reply posted.Already = reply.Already
+post_reply posted.Levelled = reply.Levelled
 post_reply posted.Limit = reply.Limit
 post_reply posted.Memory = reply.Memory

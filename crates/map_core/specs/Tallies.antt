@@ -1,12 +1,14 @@
 -- What a core keeps of the sets that were found, so that it knows at once whether they tell each group's role.
-use Rattle.std.specs.Prelude.{◌≡◌, ℕ, ◌+◌, ◌<◌, ◌≤◌, Bool, true, not, ◌==◌, ◌&&◌, ◌||◌, if◌then◌else◌, List, length, slice_index_or}
+use Rattle.std.specs.Prelude.{◌≡◌, ℕ, ◌+◌, ◌<◌, ◌≤◌, ◌^◌, Bool, true, not, ◌==◌, ◌&&◌, ◌||◌, if◌then◌else◌, List, length, slice_index_or}
 use Rattle.std.specs.List.{count_by}
 use Rattle.gm_base.specs.Sets.{has, IsSubset, all_groups}
 use Rattle.gm_base.specs.Explored.{Found}
 use Rattle.gm_base.specs.Roles.{is_met, is_lacked, is_alone, stands_alone}
 use Rattle.gm_base.specs.declared.kind.Kind.TheVariants.{Correction}
 use Rattle.map_core.specs.declared.entry.Goal.{Goal}
-use Rattle.map_core.specs.declared.entry.Goal.TheVariants.{All, Roles}
+use Rattle.map_core.specs.declared.entry.Goal.TheVariants.{All, Roles, Least, Within}
+use Rattle.gm_base.specs.Sizes.{sets_found}
+use Rattle.map_core.specs.Sizes.{IsSizes}
 use Rattle.map_core.specs.declared.tally.Tally.{Tally}
 
 -- neither alone a correction nor missing in a conflict
@@ -24,10 +26,16 @@ pub record IsTally (groups : ℕ) (sets : List Found) (t : Tally) : Type 0 where
   pub unmet : t.unmet ≡ count_by not t.met.items
   pub carriers : t.carriers ≡ count_by (λ n. n == t.current) t.carried.items
 
--- where roles are not asked for, nothing is kept
+-- where neither roles nor so many of the smallest sets are asked for, nothing is kept
 abbrev pub Tallies : Goal → ℕ → List Found → Tally → Type 0
 Tallies All groups sets t = Unit {0}
 Tallies Roles groups sets t = IsTally groups sets t
+Tallies (Least kind wanted) groups sets t = IsSizes wanted groups (sets_found kind sets) t.sizes
+Tallies (Within kind most) groups sets t = Unit {0}
+
+-- one set more can be taken in
+abbrev pub HasRoom : Tally → Type 0
+HasRoom t = (t.current + 1 < 2 ^ 32) × (t.sizes.total + 1 < 2 ^ 64)
 
 -- it is a tally of some sets, and this one is of its groups
 pub record CanAdd (goal : Goal) (set : List ℕ) (t : Tally) : Type 0 where

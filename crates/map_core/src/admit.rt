@@ -5,7 +5,7 @@ ghost use Rattle.gm_base.specs.Problem.{Problem};
 ghost use Rattle.gm_base.specs.Explored.{Found, block_of};
 ghost use Rattle.lrat_steps.specs.Log.{learned_count};
 ghost use Rattle.evidence_rec.specs.Records.{kind_of, set_of, found_of, founds, IsAcceptedAlone};
-ghost use Rattle.evidence_rec.specs.Seeding.{IsHonestMap, blocked};
+ghost use Rattle.evidence_rec.specs.Seeding.{HasMapLog, IsBlocked};
 ghost use Rattle.map_core.specs.Core.{Posts};
 ghost use Rattle.evidence_rec.specs.Index.{holds, Gains, IsSameHeld, IsIndex};
 ghost use Rattle.map_core.specs.Tallies.{Tallies, CanAdd};
@@ -35,6 +35,7 @@ pub fn kept_post(reply: Posted) -> Reply
     match reply {
         Posted::New => Reply::New,
         Posted::Already => Reply::Already,
+        Posted::Levelled => Reply::Levelled,
         Posted::Limit => Reply::Limit,
         Posted::Memory => Reply::Memory,
     }
@@ -52,7 +53,7 @@ pub fn side_of(kind: Kind) -> Side
 
 // Takes the record in, or gives it back with all as it was. What may want memory comes before the block, which can't be
 // taken back.
-#[tactic(auto, using(crate::proofs::Searched::learned_blocked))]
+#[tactic(auto, using(crate::proofs::Searched::blocked_learned))]
 fn hold<M: MapEngine>(
     alloc: Global,
     engine: &mut M,
@@ -66,8 +67,8 @@ fn hold<M: MapEngine>(
     requires within { IsSubset (set_of finding) (all_groups (M.state engine.old).groups) }
     requires may { CanAdd goal (set_of finding) tally.old }
     ensures record_ok { OnOk result (records.new.items ≡ records.old.items ++ finding ∷ []) }
-    ensures block_ok { OnOk result (M.state engine.new ≡ blocked (M.state engine.old) (found_of finding)) }
-    ensures honest_ok { OnOk result (IsHonestMap (M.state engine.new).blocks (M.state engine.new).log) }
+    ensures block_ok { OnOk result (IsBlocked (M.state engine.new).kind (M.state engine.old) (found_of finding) (M.state engine.new)) }
+    ensures honest_ok { OnOk result (HasMapLog (M.state engine.new)) }
     ensures learned { learned_count (M.state engine.new).log ≡ learned_count (M.state engine.old).log }
     ensures held_ok { OnOk result (Gains (kind_of finding) (set_of finding) held.old held.new) }
     ensures tallies_ok { OnOk result ((groups : ℕ) (sets : List Found) → Tallies goal groups sets tally.old → Tallies goal groups (sets ++ found_of finding ∷ []) tally.new) }
@@ -122,17 +123,27 @@ pub fn admit<M: MapEngine>(
     ensures handed_in { result.reply ≡ New → records.new.items ≡ records.old.items ++ finding ∷ [] }
     ensures set { result.set ≡ set_of finding }
     ensures exhausted { result.turn.common.exhausted ≡ turn.common.exhausted }
+    ensures levelled { result.turn.common.levelled ≡ turn.common.levelled }
     ensures index { IsIndex held.new records.new.items }
     ensures tallies { (groups : ℕ) → Tallies goal groups (founds records.old.items) tally.old → Tallies goal groups (founds records.new.items) tally.new }
     ensures blocked { (M.state engine.new).blocks ≡ founds records.new.items }
     ensures groups { (M.state engine.new).groups ≡ (M.state engine.old).groups }
     ensures learned { learned_count (M.state engine.new).log ≡ learned_count (M.state engine.old).log }
-    ensures honest { IsHonestMap (M.state engine.old).blocks (M.state engine.old).log → IsHonestMap (M.state engine.new).blocks (M.state engine.new).log }
+    ensures kind { (M.state engine.new).kind ≡ (M.state engine.old).kind }
+    ensures bound { (M.state engine.new).bound ≡ (M.state engine.old).bound }
+    ensures honest { HasMapLog (M.state engine.old) → HasMapLog (M.state engine.new) }
     ensures history { history.new.items ≡ history.old.items }
     ensures capacity { vec_capacity history.old ≤ vec_capacity history.new }
     ensures room { result.turn.worker.ended ≡ false → vec_len history.new + (workers + 1) ≤ vec_capacity history.new }
 {
     let is_held = held.has(finding.kind(), finding.set());
+    if turn.common.levelled && !is_held {
+        return PostAnswer {
+            turn: turn.end(),
+            set: finding.into_set(),
+            reply: Posted::Levelled,
+        };
+    }
     if full && !is_held {
         return PostAnswer {
             turn: turn.mark_limited().end(),
@@ -169,6 +180,7 @@ fn keep<M: MapEngine>(
     finding: Record,
 ) -> PostAnswer
     requires fits { turn.common.available + turn.worker.purse < 2 ^ 64 }
+    requires going { turn.common.levelled ≡ false }
     requires fresh { holds held.old (kind_of finding) (set_of finding) ≡ false }
     requires index { IsIndex held.old records.old.items }
     requires blocked { (M.state engine.old).blocks ≡ founds records.old.items }
@@ -178,12 +190,15 @@ fn keep<M: MapEngine>(
     ensures handed_in { result.reply ≡ New → records.new.items ≡ records.old.items ++ finding ∷ [] }
     ensures set { result.set ≡ set_of finding }
     ensures exhausted { result.turn.common.exhausted ≡ turn.common.exhausted }
+    ensures levelled { result.turn.common.levelled ≡ turn.common.levelled }
     ensures index { IsIndex held.new records.new.items }
     ensures tallies { (groups : ℕ) → Tallies goal groups (founds records.old.items) tally.old → Tallies goal groups (founds records.new.items) tally.new }
     ensures blocked { (M.state engine.new).blocks ≡ founds records.new.items }
     ensures groups { (M.state engine.new).groups ≡ (M.state engine.old).groups }
     ensures learned { learned_count (M.state engine.new).log ≡ learned_count (M.state engine.old).log }
-    ensures honest { IsHonestMap (M.state engine.old).blocks (M.state engine.old).log → IsHonestMap (M.state engine.new).blocks (M.state engine.new).log }
+    ensures kind { (M.state engine.new).kind ≡ (M.state engine.old).kind }
+    ensures bound { (M.state engine.new).bound ≡ (M.state engine.old).bound }
+    ensures honest { HasMapLog (M.state engine.old) → HasMapLog (M.state engine.new) }
 {
     let Ok(copy) = finding.set().copy(alloc) else {
         return PostAnswer {

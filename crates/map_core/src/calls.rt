@@ -3,13 +3,13 @@
 //! A call reads the caller's part into a [`Turn`], changes that by the moves of the definition, and writes it back with one
 //! entry of the history. What may want memory comes first: where it is wanting, the caller retires, and nothing else
 //! changes. The history has room for one entry more of each worker that has not ended, so a retirement takes no memory.
-ghost use Rattle.std.specs.Prelude.{◌≡◌, ◌+◌, ◌<◌, ◌^◌, length, false, [], ◌∷◌, ◌++◌, ◌↔◌, IfOk, IsTrue};
+ghost use Rattle.std.specs.Prelude.{◌≡◌, ◌+◌, ◌<◌, ◌^◌, length, false, None, [], ◌∷◌, ◌++◌, ◌↔◌, IfOk, IsTrue};
 ghost use Rattle.gm_base.specs.Sets.{IsSubset, all_groups};
 ghost use Rattle.evidence_rec.specs.Records.{kind_of, set_of, IsAcceptedAlone};
 ghost use Rattle.map_core.specs.Sound.{IsOpening};
 ghost use Rattle.map_core.specs.Opens.{opening_of};
 ghost use Rattle.map_core.specs.Own.{CanCall, calls_of};
-ghost use Rattle.map_core.specs.Core.{settle, turn_at, opened};
+ghost use Rattle.map_core.specs.Core.{settle, turn_at, opened, kind_in};
 ghost use Rattle.map_core.specs.Kept.{Steps, IsReady};
 ghost use Rattle.map_core.specs.Closings.{HaveEnded, IsClosing};
 ghost use Rattle.map_core.specs.Replies.{take_reply, refill_reply, post_reply};
@@ -25,11 +25,11 @@ use crate::entry::{Call, Entry, Goal, RecordSnapshot, Reply, Retirement};
 use crate::open::{enter_all, new_workers};
 use crate::regrant::{kept_refill, regrant};
 use crate::replies::{Posted, Refilled, Taken};
-use crate::tally::{Tally, is_told};
+use crate::tally::{Tally, bound_of, is_told};
 use crate::turn::{Turn, Worker};
 use evidence_rec::{Held, MapEngine, Record, Records};
 use gm_base::{CompactSet, Derivation, GroupSet, Problem};
-use lrat_steps::Log;
+use lrat_steps::{Log, Logs};
 use std::alloc::{AllocError, Global};
 use std::marker::Model;
 
@@ -49,6 +49,8 @@ pub struct MapCore<M: MapEngine> {
     tally: Tally,
     workers: Vec<Worker>,
     history: Vec<Entry>,
+    // The logs of the levels that were asked for.
+    levels: Vec<Log>,
     proof: Option<Derivation>,
     engine: M,
 }
@@ -63,7 +65,7 @@ impl<M: MapEngine> Model for MapCore<M> {
 
     ghost view = { λ a. state_of M.TOPS a.goal a.problem a.first a.budget a.limit a.common a.records.items a.workers.items a.history.items };
 
-    ghost invariant = { λ a. IsKept (state_of M.TOPS a.goal a.problem a.first a.budget a.limit a.common a.records.items a.workers.items a.history.items) a.first (vec_capacity a.history) a.held a.tally (M.state a.engine) a.proof };
+    ghost invariant = { λ a. IsKept (state_of M.TOPS a.goal a.problem a.first a.budget a.limit a.common a.records.items a.workers.items a.history.items) a.first (vec_capacity a.history) a.held a.tally (M.state a.engine) a.levels.items a.proof };
 }
 
 impl<M: MapEngine> MapCore<M> {
@@ -138,13 +140,16 @@ impl<M: MapEngine> MapCore<M> {
     {
         let turn = self.settled(w, used).give_back();
         let told = is_told(self.goal, &self.tally);
+        let bound = bound_of(self.goal, self.problem.groups(), &self.tally);
         let full = self.records.len() as u64 >= self.limit;
         let given = ask(
             self.alloc,
             &mut self.engine,
+            &mut self.levels,
             &mut self.history,
             self.workers.len(),
             told,
+            bound,
             full,
             turn,
         );
@@ -197,10 +202,10 @@ impl<M: MapEngine> MapCore<M> {
         given.reply
     }
 
-    /// What is left when every worker has ended, and the map's log. It takes no memory.
-    pub fn closing(self) -> (Closing, Log)
+    /// What is left when every worker has ended, the map's log, and those of the levels that were asked for. It takes no memory.
+    pub fn closing(self) -> (Closing, Log, Logs)
         requires { HaveEnded self.opening self.history }
-        ensures { IsClosing self result.0 result.1 }
+        ensures { IsClosing self result.0 result.1 result.2 }
     {
         let MapCore {
             alloc: _,
@@ -215,6 +220,7 @@ impl<M: MapEngine> MapCore<M> {
             tally: _,
             workers: _,
             history,
+            levels,
             proof,
             engine,
         } = self;
@@ -224,7 +230,7 @@ impl<M: MapEngine> MapCore<M> {
             proof,
             history: History::from_vec(history),
         };
-        (closing, engine.into_log())
+        (closing, engine.into_log(), Logs::from_vec(levels))
     }
 }
 
@@ -244,6 +250,8 @@ impl<M: MapEngine + Drop> MapCore<M> {
         requires groups { (M.state engine).groups ≡ problem.now.groups }
         requires blocks { (M.state engine).blocks ≡ [] }
         requires log { (M.state engine).log ≡ [] }
+        requires kind { (M.state engine).kind ≡ kind_in goal }
+        requires bound { (M.state engine).bound ≡ None }
         ensures { IfOk result (λ core. core ≡ opened (opening_of problem.now records workers budget limit goal M.TOPS)) }
     {
         let mut engine = engine;
@@ -265,6 +273,7 @@ impl<M: MapEngine + Drop> MapCore<M> {
                 spent: 0,
                 exhausted: false,
                 settled: false,
+                levelled: false,
                 limited: false,
                 stopped: false,
             },
@@ -273,6 +282,7 @@ impl<M: MapEngine + Drop> MapCore<M> {
             tally,
             workers: seats,
             history,
+            levels: Vec::new(alloc),
             proof: None,
             engine,
         })

@@ -13,6 +13,8 @@ use sat_base::Row;
 pub enum Verdict {
     Complete,
     Settled,
+    /// The smallest sets alone are wanted, and none of them is missing.
+    Levelled,
     /// A worker retired for the journal.
     Journal,
     Memory,
@@ -32,12 +34,14 @@ pub struct Closing {
 }
 
 pub fn verdict_of(common: Common, history: &[Entry]) -> Verdict
-    ensures { result ≡ verdict_by common.exhausted common.settled (is_cut_off history.now) common.stopped common.limited }
+    ensures { result ≡ verdict_by common.exhausted common.settled common.levelled (is_cut_off history.now) common.stopped common.limited }
 {
     if common.exhausted {
         Verdict::Complete
     } else if common.settled {
         Verdict::Settled
+    } else if common.levelled {
+        Verdict::Levelled
     } else if is_cut_off(history) {
         Verdict::Journal
     } else if common.stopped {

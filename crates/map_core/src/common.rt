@@ -12,6 +12,7 @@ pub struct Common {
     pub spent: u64,
     pub exhausted: bool,
     pub settled: bool,
+    pub levelled: bool,
     pub limited: bool,
     pub stopped: bool,
 }

@@ -63,6 +63,7 @@ pub enum Reply {
     Grant(u64),
     Exhausted,
     Settled,
+    Levelled,
     Limit,
     Dry,
     Stopped,
@@ -91,6 +92,10 @@ pub enum Goal {
     All,
     /// So many of them that each group's role is told.
     Roles,
+    /// So many of the smallest sets of a kind, with all that are as small.
+    Least(Kind, u32),
+    /// All sets of a kind with at most so many groups.
+    Within(Kind, u32),
 }
 
 /// What a core is opened with.

@@ -18,6 +18,10 @@
 //! With the goal [`Goal::Roles`] a take is answered [`Taken::Settled`] once the records tell each group's role; `tally.rt`
 //! says how that is known at once.
 //!
+//! With the goals [`Goal::Least`] and [`Goal::Within`] the smallest sets of a kind are wanted. The engine is told a bound, which
+//! only falls as sets are found, and once none is left within it and that is shown, levelled is marked and all that would go on
+//! is answered [`Taken::Levelled`]. `sizes.rt` says how the bound is known at once.
+//!
 //! A [`MapEngine`](evidence_rec::MapEngine) finds the sets. What a call costs beside it does not grow with the number of
 //! records but by a logarithm. Nothing is promised of which set is found, nor of fairness among workers.
 #![tactic(auto)]
@@ -32,6 +36,7 @@ pub mod laws;
 mod open;
 mod regrant;
 mod replies;
+mod sizes;
 mod tally;
 mod turn;
 

@@ -2,7 +2,7 @@
 ghost use Rattle.std.specs.Prelude.{◌≡◌, ℕ, List, ◌+◌, ◌++◌, ◌∷◌, [], replicate, OnOk, IfOk};
 ghost use Rattle.gm_base.specs.Sets.{IsSubset, all_groups};
 ghost use Rattle.lrat_steps.specs.Log.{learned_count};
-ghost use Rattle.evidence_rec.specs.Seeding.{IsHonestMap};
+ghost use Rattle.evidence_rec.specs.Seeding.{HasMapLog};
 ghost use Rattle.evidence_rec.specs.Records.{kind_of, set_of, found_of, founds};
 ghost use Rattle.map_core.specs.Core.{new_worker};
 ghost use Rattle.evidence_rec.specs.Index.{Gains, IsIndex};
@@ -18,7 +18,7 @@ use evidence_rec::{Held, MapEngine, Record};
 use std::alloc::{AllocError, Global};
 
 /// Gives the engine the block of a record, and puts its set into the index and into the tally.
-#[tactic(auto, using(crate::proofs::Searched::learned_blocked))]
+#[tactic(auto, using(crate::proofs::Searched::blocked_learned))]
 fn enter<M: MapEngine>(
     alloc: Global,
     engine: &mut M,
@@ -34,7 +34,9 @@ fn enter<M: MapEngine>(
     ensures tallies { OnOk result ((groups : ℕ) (sets : List Found) → Tallies goal groups sets tally.old → Tallies goal groups (sets ++ found_of opening.now ∷ []) tally.new) }
     ensures groups { (M.state engine.new).groups ≡ (M.state engine.old).groups }
     ensures learned { learned_count (M.state engine.new).log ≡ learned_count (M.state engine.old).log }
-    ensures honest { IsHonestMap (M.state engine.new).blocks (M.state engine.new).log }
+    ensures kind { (M.state engine.new).kind ≡ (M.state engine.old).kind }
+    ensures bound { (M.state engine.new).bound ≡ (M.state engine.old).bound }
+    ensures honest { HasMapLog (M.state engine.new) }
 {
     let kind = opening.kind();
     engine.block(alloc, opening.set(), side_of(kind))?;
@@ -64,7 +66,9 @@ pub fn enter_all<M: MapEngine>(
     ensures blocks { OnOk result ((M.state engine.new).blocks ≡ founds records.now) }
     ensures groups { (M.state engine.new).groups ≡ (M.state engine.old).groups }
     ensures learned { learned_count (M.state engine.new).log ≡ learned_count (M.state engine.old).log }
-    ensures honest { IsHonestMap (M.state engine.new).blocks (M.state engine.new).log }
+    ensures kind { (M.state engine.new).kind ≡ (M.state engine.old).kind }
+    ensures bound { (M.state engine.new).bound ≡ (M.state engine.old).bound }
+    ensures honest { HasMapLog (M.state engine.new) }
 {
     let mut held = Held::new(alloc);
     for r in records {

@@ -24,6 +24,7 @@ pub fn kept_refill(reply: Refilled) -> Reply
         Refilled::Grant(grant) => Reply::Grant(grant),
         Refilled::Dry => Reply::Dry,
         Refilled::Stopped => Reply::Stopped,
+        Refilled::Levelled => Reply::Levelled,
         Refilled::Memory => Reply::Memory,
     }
 }
@@ -34,6 +35,7 @@ pub fn regrant(history: &mut Vec<Entry>, workers: usize, turn: Turn) -> RefillAn
     requires few { workers < 2 ^ 32 }
     ensures refills { Refills turn (refill_reply result.reply) result.turn }
     ensures exhausted { result.turn.common.exhausted ≡ turn.common.exhausted }
+    ensures levelled { result.turn.common.levelled ≡ turn.common.levelled }
     ensures history { history.new.items ≡ history.old.items }
     ensures capacity { vec_capacity history.old ≤ vec_capacity history.new }
     ensures room { result.turn.worker.ended ≡ false → vec_len history.new + (workers + 1) ≤ vec_capacity history.new }
@@ -42,6 +44,12 @@ pub fn regrant(history: &mut Vec<Entry>, workers: usize, turn: Turn) -> RefillAn
         return RefillAnswer {
             turn: turn.end(),
             reply: Refilled::Stopped,
+        };
+    }
+    if turn.common.levelled {
+        return RefillAnswer {
+            turn: turn.end(),
+            reply: Refilled::Levelled,
         };
     }
     if turn.common.available == 0 {

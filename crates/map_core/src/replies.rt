@@ -14,6 +14,8 @@ pub enum Taken {
     Exhausted,
     /// Roles alone are wanted, and each group's is told.
     Settled,
+    /// The smallest sets alone are wanted, and none of them is missing.
+    Levelled,
     /// There are as many records as are wanted.
     Limit,
     /// The budget is spent.
@@ -33,6 +35,8 @@ pub enum Refilled {
     Dry,
     /// Some worker has retired.
     Stopped,
+    /// The smallest sets alone are wanted, and none of them is missing.
+    Levelled,
     /// Want of memory: the worker has ended.
     Memory,
 }
@@ -44,6 +48,8 @@ pub enum Posted {
     New,
     /// A record of this kind and set is held already.
     Already,
+    /// The smallest sets alone are wanted, and none of them is missing.
+    Levelled,
     /// There are as many records as are wanted.
     Limit,
     /// Want of memory: the worker has ended.

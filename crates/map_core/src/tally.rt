@@ -6,17 +6,23 @@
 //! that carried it carry the next one: so all groups outside the conflict are left behind, and nobody walks over them. A
 //! group that is alone a correction carries 0, which is never that number. All roles are told where both counts are 0.
 //!
-//! Where roles are not asked for, nothing is kept.
+//! Where so many of the smallest sets of a kind are asked for, those of that kind are counted by their sizes (`sizes.rt`). Else
+//! nothing is kept.
 ghost use Rattle.std.specs.Prelude.{◌≡◌, ℕ, true, not, ◌==◌, ◌+◌, ◌-◌, ◌<◌, ◌≤◌, ◌^◌, ◌++◌, ◌∷◌, [], ◌↔◌, List, if◌then◌else◌, length, slice_index_or, slice_set, IfOk, IsTrue};
 ghost use Rattle.std.specs.List.{count_by};
 ghost use Rattle.gm_base.specs.Sets.{has, IsSubset, all_groups};
 ghost use Rattle.gm_base.specs.Explored.{Found};
-ghost use Rattle.map_core.specs.Core.{is_told};
+ghost use Rattle.map_core.specs.Core.{bound_of, is_told};
 ghost use Rattle.gm_base.specs.declared.kind.Kind.TheVariants.{Conflict, Correction};
 ghost use Rattle.map_core.specs.declared.entry.Goal.TheVariants.{Roles};
-ghost use Rattle.map_core.specs.Tallies.{Tallies, IsTally, CanAdd, IsMet, IsCarried, IsFreed};
+ghost use Rattle.gm_base.specs.declared.kind.Kind.{Kind};
+ghost use Rattle.gm_base.specs.Sizes.{sets_found};
+ghost use Rattle.map_core.specs.Sizes.{IsSizes};
+ghost use Rattle.map_core.specs.declared.entry.Goal.TheVariants.{Least};
+ghost use Rattle.map_core.specs.Tallies.{Tallies, IsTally, CanAdd, HasRoom, IsMet, IsCarried, IsFreed};
 
 use crate::entry::Goal;
+use crate::sizes::Sizes;
 use gm_base::{GroupSet, Kind};
 use std::alloc::{AllocError, Global};
 
@@ -33,6 +39,8 @@ pub struct Tally {
     pub unmet: usize,
     /// How many groups carry that.
     pub carriers: usize,
+    /// How many sets of each size were found.
+    pub sizes: Sizes,
 }
 
 // A set has the group.
@@ -132,13 +140,17 @@ fn free_alone(carried: &mut Vec<u32>, current: u32, carriers: usize, set: &[u32]
 }
 
 impl Tally {
-    /// Before any set is found. Where roles are not asked for, it takes no memory.
+    /// Before any set is found. Where neither roles nor so many of the smallest sets are asked for, it takes no memory.
     pub fn new(alloc: Global, goal: Goal, groups: u32) -> Result<Tally, AllocError>
         ensures { IfOk result (λ tally. Tallies goal groups [] tally) }
     {
         let count = match goal {
-            Goal::All => 0,
+            Goal::All | Goal::Least(_, _) | Goal::Within(_, _) => 0,
             Goal::Roles => groups as usize,
+        };
+        let sizes = match goal {
+            Goal::All | Goal::Roles | Goal::Within(_, _) => Sizes::none(alloc),
+            Goal::Least(_, wanted) => Sizes::new(alloc, groups, wanted)?,
         };
         let met = vec![in alloc; false; count]?;
         let carried = vec![in alloc; 1u32; count]?;
@@ -148,28 +160,41 @@ impl Tally {
             current: 1,
             unmet: count,
             carriers: count,
+            sizes,
         })
     }
 
-    /// Whether one conflict more can be counted.
+    /// Whether one set more can be counted.
     pub fn has_room(&self) -> bool
-        ensures { IsTrue result ↔ (self.now.current + 1 < 2 ^ 32) }
+        ensures { IsTrue result ↔ HasRoom self.now }
     {
-        self.current < u32::MAX
+        self.current < u32::MAX && self.sizes.has_room()
     }
 
     /// Takes in one more set that was found.
     pub fn add(&mut self, goal: Goal, kind: Kind, set: &GroupSet)
         requires may { CanAdd goal set.now self.old }
-        requires room { self.old.current + 1 < 2 ^ 32 }
+        requires room { HasRoom self.old }
         ensures { (groups : ℕ) (sets : List Found) → Tallies goal groups sets self.old → Tallies goal groups (sets ++ record { kind = kind; set = set.now } ∷ []) self.new }
     {
         match goal {
-            Goal::All => {}
+            Goal::All | Goal::Within(_, _) => {}
             Goal::Roles => match kind {
                 Kind::Conflict => self.add_conflict(set),
                 Kind::Correction => self.add_correction(set),
             },
+            Goal::Least(of, wanted) => self.add_size(of, wanted, kind, set),
+        }
+    }
+
+    // Sets of the other kind don't count.
+    fn add_size(&mut self, of: Kind, wanted: u32, kind: Kind, set: &GroupSet)
+        requires may { CanAdd (Least of wanted) set.now self.old }
+        requires room { HasRoom self.old }
+        ensures { (groups : ℕ) (sets : List Found) → IsSizes wanted groups (sets_found of sets) self.old.sizes → IsSizes wanted groups (sets_found of (sets ++ record { kind = kind; set = set.now } ∷ [])) self.new.sizes }
+    {
+        if kind == of {
+            self.sizes.add(wanted, set.as_slice().len());
         }
     }
 
@@ -200,7 +225,18 @@ pub fn is_told(goal: Goal, tally: &Tally) -> bool
     ensures { (groups : ℕ) (sets : List Found) → Tallies goal groups sets tally.now → result ≡ is_told goal groups sets }
 {
     match goal {
-        Goal::All => false,
+        Goal::All | Goal::Least(_, _) | Goal::Within(_, _) => false,
         Goal::Roles => tally.unmet == 0 && tally.carriers == 0,
+    }
+}
+
+/// How many groups those sets may have that are still looked for, of so many groups.
+pub fn bound_of(goal: Goal, groups: u32, tally: &Tally) -> Option<u32>
+    ensures { (sets : List Found) → Tallies goal groups sets tally.now → result ≡ bound_of goal groups sets }
+{
+    match goal {
+        Goal::All | Goal::Roles => None,
+        Goal::Least(_, wanted) => tally.sizes.reached(wanted),
+        Goal::Within(_, most) => Some(most.min(groups)),
     }
 }
