@@ -138,6 +138,7 @@ def problem_of(text):
 
 GREATEST = 2 ** 64 - 1
 GROUPS = (1, 2 ** 32 - 1)
+KINDS = ("conflicts", "corrections")
 COMMANDS = {
     "list": (["file"], {"jobs": (1, 64), "conflicts": (0, GREATEST), "limit": (1, 1000000000), "evidence": None, "resume": None,
                         "journal": None, "focus": GROUPS}),
@@ -146,7 +147,14 @@ COMMANDS = {
     "drill": ([("seed", (0, GREATEST)), ("size", (1, 1000))], {"jobs": (1, 64)}),
     "roles": (["file"], {"jobs": (1, 64), "focus": GROUPS}),
     "carry": (["file", "known", "longer"], {"jobs": (1, 64), "evidence": None}),
+    "least": ([("kind", KINDS), "file"], {"count": (1, 1000000000), "within": (0, 2 ** 32 - 1), "jobs": (1, 64),
+                                          "conflicts": (0, GREATEST), "limit": (1, 1000000000), "evidence": None, "resume": None,
+                                          "focus": GROUPS}),
 }
+
+
+# two options that have no reading together
+TOGETHER = {"list": [{"resume", "journal"}], "least": [{"count", "within"}]}
 
 
 def value_of(text, numbers):
@@ -154,6 +162,8 @@ def value_of(text, numbers):
     whose numbers are in range; else None."""
     if numbers is None:
         return text
+    if numbers is KINDS:
+        return text if text in KINDS else None
     if numbers is GROUPS:
         groups = {value_of(piece, (1, GROUPS[1])) for piece in text.split(",")}
         return None if None in groups else groups
@@ -194,8 +204,10 @@ def words_read(words, commands):
         given[name] = value_of(text, numbers)
         if given[name] is None:
             return None
-    # an export has two outputs, and a listing goes on from evidence or from a journal
-    if command == "export" and given["cnf"] == given["lrat"] or command == "list" and {"resume", "journal"} <= given.keys():
+    # an export has two outputs, a listing goes on from evidence or from a journal, and one number says how far `least` goes
+    if command == "export" and given["cnf"] == given["lrat"]:
+        return None
+    if any(both <= given.keys() for both in TOGETHER.get(command, ())):
         return None
     return command, given
 
@@ -203,6 +215,7 @@ def words_read(words, commands):
 # ---- what is said of words without a reading: the first word that can't stand where it does, and what may
 
 SHOWN_PLACES = {"carry": ["OLD", "EVIDENCE", "NEW"]}
+NOT_TOGETHER = {"list": "--journal: may not stand beside --resume", "least": "--within: may not stand beside --count"}
 
 
 def shown(text):
@@ -217,6 +230,8 @@ def listed(words):
 def wanted(numbers):
     if numbers is None:
         return "a name"
+    if numbers is KINDS:
+        return "conflicts or corrections"
     low, high = numbers
     return "a list of numbers from 1 to 4294967295 with commas between them" if numbers is GROUPS else f"a number from {low} to {high}"
 
@@ -227,7 +242,7 @@ def is_option(word):
 
 def why_unread(words):
     """What the second line says of words that words_read refuses."""
-    commands = "list, check, drill, export, roles or carry"
+    commands = "list, check, drill, export, roles, carry or least"
     if not words:
         return f"the first word is missing: {commands}"
     command, rest = words[0], list(words[1:])
@@ -263,4 +278,4 @@ def why_unread(words):
                 return f"--{name} {shown(value)}: has to be {wanted(options[name])}"
     if len(taken) < len(places):
         return f"{command}: {names[len(taken)]} is missing"
-    return f"{shown(taken[-1])}: CNF and LRAT have to be two files" if command == "export" else "--journal: may not stand beside --resume"
+    return f"{shown(taken[-1])}: CNF and LRAT have to be two files" if command == "export" else NOT_TOGETHER[command]

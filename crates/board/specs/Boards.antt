@@ -44,14 +44,15 @@ pub record HaveAllEnded (o : Opening) (seats : List (SeatView Entry Opening)) : 
   pub count : length seats ≡ o.workers
   pub ended : All (λ (s : SeatView Entry Opening). (worker_of s.mine).ended ≡ true) seats
 
--- what is left of a state of this opening, whose history has the calls of all seats and nothing else, and the map's log
-pub record IsClosed (o : Opening) (seats : List (SeatView Entry Opening)) (left : Closing) (log : List LogStep) : Type 0 where
+-- what is left of a state of this opening, whose history has the calls of all seats and nothing else, the map's log, and those of
+-- the levels that were asked for
+pub record IsClosed (o : Opening) (seats : List (SeatView Entry Opening)) (left : Closing) (log : List LogStep) (levels : List (List LogStep)) : Type 0 where
   pub state : State
   pub opening : state.opening ≡ o
-  pub closing : IsClosing state left log
+  pub closing : IsClosing state left log levels
   pub seats_are : HasAll caller_of IsLegal o seats left.history
 
 -- closing needs no memory, so that the board is held is no answer
 abbrev pub TellsClosing : {M : Type 0} → Opening → List (SeatView Entry Opening) → BoardClosing M → Type 0
-TellsClosing o seats (closing.Closed left log) = IsClosed o seats left log
+TellsClosing o seats (closing.Closed left log levels) = IsClosed o seats left log levels
 TellsClosing o seats (closing.Held board rest) = ⊥

@@ -2,11 +2,12 @@
 //!
 //! What an operation holds is made before its turn begins, and its answer is moved out: a turn draws a ticket, makes the
 //! core's call, and passes the core on.
-ghost use Rattle.std.specs.Prelude.{◌≡◌, [], IfOk};
+ghost use Rattle.std.specs.Prelude.{◌≡◌, [], None, IfOk};
 ghost use Rattle.gm_base.specs.Sets.{IsSubset, all_groups};
 ghost use Rattle.evidence_rec.specs.Records.{kind_of, set_of, IsAcceptedAlone};
 ghost use Rattle.turn_lock.specs.Seats.{AreNew, AreAll};
 ghost use Rattle.map_core.specs.Sound.{IsOpening};
+ghost use Rattle.map_core.specs.Core.{kind_in};
 ghost use Rattle.map_core.specs.Opens.{opening_of};
 ghost use Rattle.map_core.specs.Own.{worker_of, worker_after};
 ghost use Rattle.map_core.specs.Replies.{take_reply, refill_reply, post_reply};
@@ -17,7 +18,7 @@ ghost use Rattle.board.specs.Boards.{MayCall, IsCall, HaveAllEnded, TellsClosing
 use crate::book::{Answer, CoreBook, Op};
 use evidence_rec::{MapEngine, Record, Records};
 use gm_base::{GroupSet, Problem};
-use lrat_steps::Log;
+use lrat_steps::{Log, Logs};
 use map_core::{Closing, Entry, Goal, MapCore, Opening, Posted, Refilled, Retirement, Taken};
 use std::alloc::{AllocError, Global};
 use std::marker::Model;
@@ -45,8 +46,8 @@ impl<M: MapEngine> Model for Board<M> {
 /// How a board ends.
 #[derive(Drop)]
 pub enum BoardClosing<M: MapEngine> {
-    /// What is left of the core, and the map's log.
-    Closed(Closing, Log),
+    /// What is left of the core, the map's log, and those of the levels that were asked for.
+    Closed(Closing, Log, Logs),
     /// There was no memory for it: the board goes on, with all its seats. `close` needs none, so this is never answered.
     Held(Board<M>, Vec<Seat>),
 }
@@ -112,8 +113,8 @@ impl<M: MapEngine> Board<M> {
         match lock.close(seats) {
             LockClosing::Held(lock, seats) => BoardClosing::Held(Board { lock }, seats),
             LockClosing::Closed(book) => {
-                let (closing, log) = book.into_core().closing();
-                BoardClosing::Closed(closing, log)
+                let (closing, log, levels) = book.into_core().closing();
+                BoardClosing::Closed(closing, log, levels)
             }
         }
     }
@@ -136,6 +137,8 @@ impl<M: MapEngine + Drop> Board<M> {
         requires groups { (M.state engine).groups ≡ problem.now.groups }
         requires blocks { (M.state engine).blocks ≡ [] }
         requires log { (M.state engine).log ≡ [] }
+        requires kind { (M.state engine).kind ≡ kind_in goal }
+        requires bound { (M.state engine).bound ≡ None }
         ensures opening { IfOk result (λ r. r.0.opening ≡ opening_of problem.now records workers budget limit goal M.TOPS) }
         ensures seats { IfOk result (λ r. AreNew r.0 workers r.1.items) }
     {

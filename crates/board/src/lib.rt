@@ -6,7 +6,7 @@
 //!     Taken::Job { turn, seed, grant } => .., // then board.refill(..), board.post(..)
 //!     _ => .., // the seat's worker has ended
 //! }
-//! let BoardClosing::Closed(closing, log) = board.close(seats) else { unreachable!() };
+//! let BoardClosing::Closed(closing, log, levels) = board.close(seats) else { unreachable!() };
 //! ```
 //!
 //! Each worker has a [`Seat`] of its own, whose number is the worker's. A call is one turn of the

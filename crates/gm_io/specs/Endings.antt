@@ -12,10 +12,12 @@ use Rattle.gm_io.specs.declared.writing.Stop.{Stop}
 use Rattle.gm_io.specs.declared.writing.Stop.TheVariants.{EvidenceFault as EvidenceStop, EvidenceMemory as MemoryStop, ReportFault}
 use Rattle.gm_io.specs.Lines.{budget_line, limit_line}
 
--- the status of an enumeration's verdict; that roles are settled comes only where roles alone are wanted
+-- the status of an enumeration's verdict; that roles are settled comes only where roles alone are wanted, and that a level is
+-- done only where the smallest sets are
 abbrev pub status_by : Verdict → ℕ
 status_by verdict.Complete = 0
 status_by verdict.Settled = 0
+status_by verdict.Levelled = 0
 status_by verdict.Budget = 3
 status_by verdict.Limit = 4
 status_by verdict.Journal = 7

@@ -17,7 +17,7 @@ pub fn line_by(alloc: Global, bounds: Bounds, verdict: Verdict) -> Result<Vec<u8
     ensures enough_memory { IfOk result (λ _. verdict ≢ Verdict.Memory) }
 {
     match verdict {
-        Verdict::Complete | Verdict::Settled => Ok(Vec::new(alloc)),
+        Verdict::Complete | Verdict::Settled | Verdict::Levelled => Ok(Vec::new(alloc)),
         Verdict::Limit => line_of_limit(alloc, bounds.limit),
         Verdict::Budget => line_of_budget(alloc, bounds.conflicts),
         Verdict::Journal => unreachable!(),

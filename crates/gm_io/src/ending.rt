@@ -135,7 +135,7 @@ fn status_by(verdict: Verdict) -> u8
     ensures { result ≡ status_by verdict }
 {
     match verdict {
-        Verdict::Complete | Verdict::Settled => 0,
+        Verdict::Complete | Verdict::Settled | Verdict::Levelled => 0,
         Verdict::Budget => 3,
         Verdict::Limit => 4,
         Verdict::Journal => 7,

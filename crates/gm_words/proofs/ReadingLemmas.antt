@@ -10,7 +10,8 @@ use Rattle.clap.specs.Faults.{fault_of, is_simple_and_free}
 use Rattle.clap.specs.declared.Error.{Error}
 use Rattle.clap.specs.declared.ArgMatches.{ArgMatches}
 use Rattle.clap.specs.declared.error.ErrorKind.TheVariants.{OutOfMemory}
-use Rattle.gm_words.specs.Reading.{asked_of, gmus_app, listing_with, words_read}
+use Rattle.gm_words.specs.Reading.{Reach, asked_of, gmus_app, listing_with, seeking_with, words_read}
+use Rattle.gm_base.specs.declared.kind.Kind.{Kind}
 use Rattle.gm_words.specs.Requests.{asked_by}
 use Rattle.gm_words.specs.declared.request.Request.{Request}
 
@@ -79,3 +80,17 @@ listing_without file jobs conflicts limit evidence resume journal focus none =
     by (Some f) (Some j) None l = refl
     by (Some f) (Some j) (Some c) None = refl
     by (Some f) (Some j) (Some c) (Some l) = refl
+
+pub seeking_without : (kind : Option Kind) (file : Option Text) (reach : Option Reach) (jobs conflicts limit : Option ℕ) (evidence resume : Option Text) (focus : Option (Option (List ℕ)))
+    → focus ≡ None → None ≡ seeking_with kind file reach jobs conflicts limit evidence resume focus
+seeking_without kind file reach jobs conflicts limit evidence resume focus none =
+    subst (λ f. None ≡ seeking_with kind file reach jobs conflicts limit evidence resume f) (sym none) (by kind file reach jobs conflicts limit)
+  where
+    by : (k : Option Kind) (f : Option Text) (r : Option Reach) (j c l : Option ℕ) → None ≡ seeking_with k f r j c l evidence resume None
+    by None f r j c l = refl
+    by (Some k) None r j c l = refl
+    by (Some k) (Some f) None j c l = refl
+    by (Some k) (Some f) (Some r) None c l = refl
+    by (Some k) (Some f) (Some r) (Some j) None l = refl
+    by (Some k) (Some f) (Some r) (Some j) (Some c) None = refl
+    by (Some k) (Some f) (Some r) (Some j) (Some c) (Some l) = refl

@@ -11,6 +11,8 @@ use Rattle.clap.specs.Simple.{App, new_app, new_rule, subcommand_of, with_rule, 
 use Rattle.clap.specs.Takes.{value_passes}
 use Rattle.clap.specs.Faults.{fault_of}
 use Rattle.clap.specs.declared.builder.value_parser.ValueParser.TheVariants.{Unsigned}
+use Rattle.gm_base.specs.declared.kind.Kind.{Kind}
+use Rattle.gm_base.specs.declared.kind.Kind.TheVariants.{Conflict, Correction}
 use Rattle.gm_base.specs.Sets.{with_group}
 
 -- ---- the command
@@ -53,6 +55,14 @@ greatest_size = 1000
 abbrev pub greatest_number : ℕ
 greatest_number = 1000000000
 
+-- the most smallest sets that are wanted
+abbrev pub greatest_count : ℕ
+greatest_count = 1000000000
+
+-- the greatest number of groups that they may have
+abbrev pub greatest_within : ℕ
+greatest_within = 2 ^ 32 - 1
+
 -- the greatest number of a group in focus
 abbrev pub greatest_group : ℕ
 greatest_group = 2 ^ 32 - 1
@@ -68,6 +78,14 @@ conflicts_rule = number_rule (codes "conflicts") 0 greatest_conflicts
 -- `--limit L`
 abbrev pub limit_rule : Rule
 limit_rule = number_rule (codes "limit") 1 greatest_limit
+
+-- `--count W`
+abbrev pub count_rule : Rule
+count_rule = number_rule (codes "count") 1 greatest_count
+
+-- `--within G`
+abbrev pub within_rule : Rule
+within_rule = number_rule (codes "within") 0 greatest_within
 
 -- `--evidence FILE`
 abbrev pub evidence_rule : Rule
@@ -134,6 +152,15 @@ abbrev pub carry_app : App
 carry_app = with_rule (with_rule (with_rule (with_rule (with_rule (new_app (codes "carry"))
     (place_rule (codes "old"))) (place_rule (codes "known"))) (place_rule (codes "new"))) jobs_rule) evidence_rule
 
+-- `least KIND FILE [--count W] [--within G] [--jobs J] [--conflicts B] [--limit L]`
+abbrev pub numbered_least_app : App
+numbered_least_app = with_rule (with_rule (with_rule (with_rule (with_rule (with_rule (with_rule (new_app (codes "least"))
+    (place_rule (codes "kind"))) (place_rule (codes "file"))) count_rule) within_rule) jobs_rule) conflicts_rule) limit_rule
+
+-- `least KIND FILE [--count W] [--within G] [--jobs J] [--conflicts B] [--limit L] [--evidence FILE] [--resume FILE] [--focus LIST]`
+abbrev pub least_app : App
+least_app = with_rule (with_rule (with_rule numbered_least_app evidence_rule) resume_rule) focus_rule
+
 -- the command without its subcommands: the program's name is not among the words, and a subcommand is due
 abbrev pub gmus_top : App
 gmus_top = record (new_app (codes "gmus")) {
@@ -142,8 +169,8 @@ gmus_top = record (new_app (codes "gmus")) {
 
 -- the command
 abbrev pub gmus_app : App
-gmus_app = with_subcommand (with_subcommand (with_subcommand (with_subcommand (with_subcommand (with_subcommand gmus_top
-    list_app.top) check_app.top) drill_app.top) export_app.top) roles_app.top) carry_app.top
+gmus_app = with_subcommand (with_subcommand (with_subcommand (with_subcommand (with_subcommand (with_subcommand (with_subcommand gmus_top
+    list_app.top) check_app.top) drill_app.top) export_app.top) roles_app.top) carry_app.top) least_app.top
 
 -- ---- what the words ask for
 
@@ -194,6 +221,23 @@ pub record Carrying : Type 0 where
   pub jobs : ℕ
   pub evidence : Option Text
 
+-- how far the sets of a kind are wanted in order of size: so many, with all that are as small; or all with at most so many groups
+pub data Reach : Type 0 where
+  count : ℕ → Reach
+  within : ℕ → Reach
+
+-- what `least` is asked for
+pub record Seeking : Type 0 where
+  pub kind : Kind
+  pub file : Text
+  pub reach : Reach
+  pub jobs : ℕ
+  pub conflicts : ℕ
+  pub limit : ℕ
+  pub evidence : Option Text
+  pub resume : Option Text
+  pub focus : Option (List ℕ)
+
 pub data Asked : Type 0 where
   listing : Listing → Asked
   checking : Checking → Asked
@@ -201,6 +245,7 @@ pub data Asked : Type 0 where
   exporting : Exporting → Asked
   asking : Asking → Asked
   carrying : Carrying → Asked
+  seeking : Seeking → Asked
 
 -- the number that a text says, where the option takes the text
 abbrev pub number_by : Rule → Text → Option ℕ
@@ -210,6 +255,10 @@ number_by rule text = if value_passes rule text
 -- the number of an option, or `other` where it is not given
 abbrev pub number_or : ℕ → Rule → List Row → Option ℕ
 number_or other rule rows = option_map_or (number_by rule) (first_of rule.id rows) (Some other)
+
+-- the number of an option that need not be given; none where its text says none
+abbrev pub number_given : Rule → List Row → Option (Option ℕ)
+number_given rule rows = option_map_or (λ text. option_map Some (number_by rule text)) (first_of rule.id rows) (Some None)
 
 -- the number that stands at a place, where it is one that may
 abbrev pub number_at : Rule → List Row → Option ℕ
@@ -304,6 +353,37 @@ abbrev pub carrying_of : List Row → Option Asked
 carrying_of rows = carrying_with (first_of (codes "old") rows) (first_of (codes "known") rows) (first_of (codes "new") rows)
     (number_or 1 jobs_rule rows) (first_of (codes "evidence") rows)
 
+-- the kind that a word says, if it says one
+abbrev pub kind_by : Text → Option Kind
+kind_by text = if bytes_eq text (codes "conflicts") then Some Conflict
+    else (if bytes_eq text (codes "corrections") then Some Correction else None)
+
+abbrev pub kind_at : List Row → Option Kind
+kind_at rows = option_and_then kind_by (first_of (codes "kind") rows)
+
+-- how far: one set is wanted where nothing is said; both numbers have no reading
+abbrev pub reach_by : Option ℕ → Option ℕ → Option Reach
+reach_by None None = Some (count 1)
+reach_by (Some wanted) None = Some (count wanted)
+reach_by None (Some most) = Some (within most)
+reach_by (Some wanted) (Some most) = None
+
+abbrev pub reach_with : Option (Option ℕ) → Option (Option ℕ) → Option Reach
+reach_with (Some wanted) (Some most) = reach_by wanted most
+reach_with _ _ = None
+
+-- a seeking, where each of its parts can be had; evidence need not be named
+abbrev pub seeking_with : Option Kind → Option Text → Option Reach → Option ℕ → Option ℕ → Option ℕ → Option Text → Option Text → Option (Option (List ℕ)) → Option Asked
+seeking_with (Some kind) (Some file) (Some reach) (Some jobs) (Some conflicts) (Some limit) evidence resume (Some focus) =
+    Some (seeking (record { kind = kind; file = file; reach = reach; jobs = jobs; conflicts = conflicts; limit = limit; evidence = evidence; resume = resume; focus = focus }))
+seeking_with _ _ _ _ _ _ _ _ _ = None
+
+-- what the values of `least` ask for
+abbrev pub seeking_of : List Row → Option Asked
+seeking_of rows = seeking_with (kind_at rows) (first_of (codes "file") rows) (reach_with (number_given count_rule rows) (number_given within_rule rows))
+    (number_or 1 jobs_rule rows) (number_or greatest_conflicts conflicts_rule rows) (number_or greatest_limit limit_rule rows)
+    (first_of (codes "evidence") rows) (first_of (codes "resume") rows) (focus_in rows)
+
 -- what a subcommand's values ask for
 abbrev pub asked_of : Text → List Row → Option Asked
 asked_of name rows = if bytes_eq name (codes "list") then listing_of rows
@@ -311,7 +391,8 @@ asked_of name rows = if bytes_eq name (codes "list") then listing_of rows
     else (if bytes_eq name (codes "drill") then drilling_of rows
     else (if bytes_eq name (codes "export") then exporting_of rows
     else (if bytes_eq name (codes "roles") then asking_of rows
-    else (if bytes_eq name (codes "carry") then carrying_of rows else None)))))
+    else (if bytes_eq name (codes "carry") then carrying_of rows
+    else (if bytes_eq name (codes "least") then seeking_of rows else None))))))
 
 -- the subcommand and its values, by clap's reading; none where that refuses the words
 abbrev pub words_read : List Text → Option Asked

@@ -3,7 +3,9 @@ use Rattle.std.specs.Prelude.{◌≡◌, ℕ, List, [], ◌∷◌, Option, Some,
 use Rattle.std.proofs.Common.{refl}
 use Rattle.clap.proofs.OnLiterals.{clap_on_literals}
 use Rattle.clap.specs.Walk.{Text}
-use Rattle.gm_words.specs.Reading.{Asked, Listing, greatest_conflicts, greatest_limit, greatest_number, greatest_seed, listing, checking, drilling, exporting, asking, carrying, words_read}
+use Rattle.gm_words.specs.Reading.{Asked, Listing, greatest_conflicts, greatest_limit, greatest_number, greatest_seed, Reach, Seeking, count, within, listing, checking, drilling, exporting, asking, carrying, seeking, words_read}
+use Rattle.gm_base.specs.declared.kind.Kind.{Kind}
+use Rattle.gm_base.specs.declared.kind.Kind.TheVariants.{Conflict, Correction}
 
 -- `list` of a file, with no option
 abbrev pub plain_listing : Text → Listing
@@ -323,3 +325,43 @@ pub refused_carry :
     × (words_read (codes "carry" ∷ codes "f" ∷ codes "e" ∷ codes "g" ∷ codes "--evidence" ∷ codes "-x" ∷ []) ≡ None)
 unfolding clap_on_literals
 refused_carry = (refl, refl, refl, refl, refl, refl)
+
+-- `least` of a file, with no option but how far
+abbrev pub plain_seeking : Kind → Text → Reach → Seeking
+plain_seeking kind file reach =
+    record { kind = kind; file = file; reach = reach; jobs = 1; conflicts = greatest_conflicts; limit = greatest_limit; evidence = None; resume = None; focus = None }
+
+abbrev pub least_of : Kind → Text → Reach → Option Asked
+least_of kind file reach = Some (seeking (plain_seeking kind file reach))
+
+-- one set where nothing is said, so many, or all with at most so many groups
+pub read_least :
+    (words_read (codes "least" ∷ codes "corrections" ∷ codes "f" ∷ []) ≡ least_of Correction (codes "f") (count 1))
+    × (words_read (codes "least" ∷ codes "conflicts" ∷ codes "f" ∷ codes "--count" ∷ codes "10" ∷ []) ≡ least_of Conflict (codes "f") (count 10))
+    × (words_read (codes "least" ∷ codes "--within=0" ∷ codes "corrections" ∷ codes "f" ∷ []) ≡ least_of Correction (codes "f") (within 0))
+    × (words_read (codes "least" ∷ codes "conflicts" ∷ codes "f" ∷ codes "--within" ∷ codes "4294967295" ∷ []) ≡ least_of Conflict (codes "f") (within 4294967295))
+    × (words_read (codes "least" ∷ codes "corrections" ∷ codes "--count" ∷ codes "1000000000" ∷ codes "--" ∷ codes "-x" ∷ []) ≡ least_of Correction (codes "-x") (count 1000000000))
+unfolding clap_on_literals
+read_least = (refl, refl, refl, refl, refl)
+
+-- with all options
+pub read_least_options :
+    words_read (codes "least" ∷ codes "conflicts" ∷ codes "f" ∷ codes "--jobs=4" ∷ codes "--conflicts=0" ∷ codes "--limit=21" ∷ codes "--evidence=e" ∷ codes "--resume=r" ∷ codes "--focus=2,1" ∷ [])
+    ≡ Some (seeking (record (plain_seeking Conflict (codes "f") (count 1)) { jobs = 4; conflicts = 0; limit = 21; evidence = Some (codes "e"); resume = Some (codes "r"); focus = Some (1 ∷ 2 ∷ []) }))
+unfolding clap_on_literals
+read_least_options = refl
+
+-- another kind, or none; both numbers at once; numbers out of range; a name too few or too many; a journal
+pub refused_least :
+    (words_read (codes "least" ∷ codes "both" ∷ codes "f" ∷ []) ≡ None)
+    × (words_read (codes "least" ∷ codes "Conflicts" ∷ codes "f" ∷ []) ≡ None)
+    × (words_read (codes "least" ∷ codes "f" ∷ []) ≡ None)
+    × (words_read (codes "least" ∷ codes "f" ∷ codes "conflicts" ∷ []) ≡ None)
+    × (words_read (codes "least" ∷ codes "conflicts" ∷ codes "f" ∷ codes "--count" ∷ codes "1" ∷ codes "--within" ∷ codes "2" ∷ []) ≡ None)
+    × (words_read (codes "least" ∷ codes "conflicts" ∷ codes "f" ∷ codes "--count" ∷ codes "0" ∷ []) ≡ None)
+    × (words_read (codes "least" ∷ codes "conflicts" ∷ codes "f" ∷ codes "--count" ∷ codes "1000000001" ∷ []) ≡ None)
+    × (words_read (codes "least" ∷ codes "conflicts" ∷ codes "f" ∷ codes "--within" ∷ codes "4294967296" ∷ []) ≡ None)
+    × (words_read (codes "least" ∷ codes "conflicts" ∷ codes "f" ∷ codes "g" ∷ []) ≡ None)
+    × (words_read (codes "least" ∷ codes "conflicts" ∷ codes "f" ∷ codes "--journal" ∷ codes "j" ∷ []) ≡ None)
+unfolding clap_on_literals
+refused_least = (refl, refl, refl, refl, refl, refl, refl, refl, refl, refl)

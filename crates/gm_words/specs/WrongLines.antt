@@ -1,8 +1,8 @@
 -- Wrong lines: clap itself finds a fault in each of them, computed from its specification.
 --
 -- The reading of the words is none also where clap finds no fault and yet a part of the request can't be had. Known are those of
--- an export whose two outputs have one name, those of a listing that goes on from evidence and from a journal, and those with a
--- focus that is no list of groups.
+-- an export whose two outputs have one name, those of a listing that goes on from evidence and from a journal, those of `least`
+-- with a kind that is none or with both numbers, and those with a focus that is no list of groups.
 -- What these lines and others are read as is tried by the script `words` of text_trials, which has the same lines.
 use Rattle.std.specs.Prelude.{◌≡◌, ◌++◌, ◌==◌, ℕ, List, [], ◌∷◌, codes, filter, if◌then◌else◌}
 use Rattle.std.proofs.Common.{refl}
@@ -84,6 +84,12 @@ pub no_request :
     codes "carry|f|e|g|h|" ∷
     codes "carry|f|e|-g|" ∷
     codes "carr|f|e|g|" ∷
+    codes "least|" ∷
+    codes "least|conflicts|" ∷
+    codes "least|conflicts|f|g|" ∷
+    codes "least|--conflicts|f|" ∷
+    codes "leas|conflicts|f|" ∷
+    codes "least|--help|" ∷
     codes "--jobs|2|list|f|" ∷
     codes "f|list|" ∷
     codes "--limit|5|list|f|" ∷
@@ -136,6 +142,12 @@ pub unknown_options :
     codes "carry|f|e|g|--resume|e|" ∷
     codes "carry|f|e|g|--focus|1|" ∷
     codes "carry|f|e|g|--known|e|" ∷
+    codes "least|conflicts|f|--journal|j|" ∷
+    codes "least|conflicts|f|--kind|conflicts|" ∷
+    codes "least|conflicts|f|--coun|1|" ∷
+    codes "least|conflicts|f|-w|1|" ∷
+    codes "list|f|--count|1|" ∷
+    codes "list|f|--within|1|" ∷
     []) ≡ []
 unfolding clap_on_literals
 unknown_options = refl
@@ -190,6 +202,13 @@ pub wrong_values :
     codes "roles|f|--jobs|0|" ∷
     codes "roles|f|--jobs|65|" ∷
     codes "carry|f|e|g|--jobs|65|" ∷
+    codes "least|conflicts|f|--jobs|65|" ∷
+    codes "least|conflicts|f|--count|0|" ∷
+    codes "least|conflicts|f|--count|1000000001|" ∷
+    codes "least|conflicts|f|--count|x|" ∷
+    codes "least|conflicts|f|--within|4294967296|" ∷
+    codes "least|conflicts|f|--within=-1|" ∷
+    codes "least|conflicts|f|--limit|0|" ∷
     []) ≡ []
 unfolding clap_on_literals
 wrong_values = refl
@@ -232,6 +251,10 @@ pub missing_values :
     codes "carry|f|e|g|--evidence|" ∷
     codes "carry|f|e|g|--evidence|-x|" ∷
     codes "carry|f|e|g|--evidence=a|--evidence=a|" ∷
+    codes "least|conflicts|f|--count|" ∷
+    codes "least|conflicts|f|--within|--count|1|" ∷
+    codes "least|conflicts|f|--count|1|--count|1|" ∷
+    codes "least|conflicts|f|--within=1|--within=1|" ∷
     []) ≡ []
 unfolding clap_on_literals
 missing_values = refl

@@ -2,9 +2,9 @@
 ghost use Rattle.std.specs.Prelude.{◌≡◌, IfOk};
 ghost use Rattle.clap.specs.Words.{App, app_of, with_rule, with_subcommand};
 ghost use Rattle.gm_words.specs.Options.{IsLocal, option_rule, word_rule};
-ghost use Rattle.gm_words.specs.Reading.{carry_app, check_app, drill_app, export_app, gmus_app, gmus_top, list_app, numbered_list_app, place_rule, roles_app, text_rule};
+ghost use Rattle.gm_words.specs.Reading.{carry_app, check_app, drill_app, export_app, gmus_app, gmus_top, least_app, list_app, numbered_least_app, numbered_list_app, place_rule, roles_app, text_rule};
 
-use crate::options::{CONFLICTS, JOBS, LIMIT, NUMBER, NumberOption, SEED, SIZE};
+use crate::options::{CONFLICTS, COUNT, JOBS, LIMIT, NUMBER, NumberOption, SEED, SIZE, WITHIN};
 use clap::{Arg, Command};
 use std::alloc::{AllocError, Global};
 
@@ -17,7 +17,8 @@ pub(crate) fn gmus_command<'a>(alloc: Global) -> Result<Command<'a>, AllocError>
     let command = with_subcommand(command, drill_command(alloc));
     let command = with_subcommand(command, export_command(alloc));
     let command = with_subcommand(command, roles_command(alloc));
-    with_subcommand(command, carry_command(alloc))
+    let command = with_subcommand(command, carry_command(alloc));
+    with_subcommand(command, least_command(alloc))
 }
 
 /// The command without its subcommands. The words do not begin with the program's name.
@@ -96,6 +97,28 @@ fn carry_command<'a>(alloc: Global) -> Result<Command<'a>, AllocError>
     let command = with_place(command, alloc, "new");
     let command = with_number(command, alloc, JOBS);
     with_text(command, alloc, "evidence")
+}
+
+/// `least KIND FILE [--count W] [--within G] [--jobs J] [--conflicts B] [--limit L] [--evidence FILE] [--resume FILE] [--focus LIST]`
+fn least_command<'a>(alloc: Global) -> Result<Command<'a>, AllocError>
+    ensures { IfOk result (IsLocal least_app) }
+{
+    let command = with_text(numbered_least_command(alloc), alloc, "evidence");
+    let command = with_text(command, alloc, "resume");
+    with_text(command, alloc, "focus")
+}
+
+/// `least KIND FILE [--count W] [--within G] [--jobs J] [--conflicts B] [--limit L]`
+fn numbered_least_command<'a>(alloc: Global) -> Result<Command<'a>, AllocError>
+    ensures { IfOk result (IsLocal numbered_least_app) }
+{
+    let command = with_place(Ok(Command::new(alloc, "least")), alloc, "kind");
+    let command = with_place(command, alloc, "file");
+    let command = with_number(command, alloc, COUNT);
+    let command = with_number(command, alloc, WITHIN);
+    let command = with_number(command, alloc, JOBS);
+    let command = with_number(command, alloc, CONFLICTS);
+    with_number(command, alloc, LIMIT)
 }
 
 /// With a subcommand, if there is one.

@@ -10,6 +10,7 @@
 //!     Some(Request::Export(exporting)) => export(exporting.file, exporting.evidence, exporting.number, ..),
 //!     Some(Request::Roles(asking)) => roles(asking.file, asking.jobs, asking.focus),
 //!     Some(Request::Carry(carrying)) => carry(carrying.old, carrying.known, carrying.new, ..),
+//!     Some(Request::Least(seeking)) => least(seeking.kind, seeking.file, seeking.reach, ..),
 //!     None => usage(),
 //! }
 //! ```
@@ -28,5 +29,5 @@ mod request;
 mod unread;
 
 pub use read::read_words;
-pub use request::{Asking, Carrying, Checking, Drilling, Exporting, Listing, Request};
+pub use request::{Asking, Carrying, Checking, Drilling, Exporting, Listing, Reach, Request, Seeking};
 pub use unread::{Shown, Unread, why_unread};

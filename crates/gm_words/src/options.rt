@@ -41,6 +41,20 @@ pub(crate) const LIMIT: NumberOption = NumberOption {
     high: 1_000_000_000,
 };
 
+/// `--count W`
+pub(crate) const COUNT: NumberOption = NumberOption {
+    name: "count",
+    low: 1,
+    high: 1_000_000_000,
+};
+
+/// `--within G`
+pub(crate) const WITHIN: NumberOption = NumberOption {
+    name: "within",
+    low: 0,
+    high: 4_294_967_295,
+};
+
 /// `SEED`
 pub(crate) const SEED: NumberOption = NumberOption {
     name: "seed",

@@ -4,16 +4,18 @@ ghost use Rattle.clap.specs.Walk.{first_of, rows_of};
 ghost use Rattle.clap.specs.Words.{found_of, kind_of, subcommand_rows_of};
 ghost use Rattle.clap.specs.declared.error.ErrorKind.TheVariants.{OutOfMemory};
 ghost use Rattle.gm_words.specs.Options.{option_rule, word_rule};
-ghost use Rattle.gm_words.specs.Reading.{asked_of, asking_of, asking_with, carrying_of, carrying_with, checking_of, checking_with, conflicts_rule, drilling_of, exporting_of, exporting_with, focus_in, greatest_conflicts, greatest_limit, greatest_number, jobs_rule, limit_rule, listing_of, listing_with, number_at, number_or, words_read};
-ghost use Rattle.gm_words.specs.Requests.{AreGoodJobs, HasGoodValues, asked_by, text_of};
+ghost use Rattle.gm_words.specs.Reading.{asked_of, asking_of, asking_with, carrying_of, carrying_with, checking_of, checking_with, conflicts_rule, drilling_of, exporting_of, exporting_with, focus_in, greatest_conflicts, greatest_limit, greatest_number, jobs_rule, limit_rule, listing_of, listing_with, count_rule, kind_at, kind_by, number_at, number_given, number_or, reach_by, reach_with, seeking_of, seeking_with, within_rule, words_read};
+ghost use Rattle.gm_words.specs.Requests.{AreGoodJobs, HasGoodValues, IsGoodReach, asked_by, reach_of, text_of};
 
 use crate::command::gmus_command;
 use crate::focus::set_in;
-use crate::options::{CONFLICTS, JOBS, LIMIT, NUMBER, NumberOption, SEED, SIZE};
-use crate::request::{Asking, Carrying, Checking, Drilling, Exporting, Listing, Request};
+use crate::options::{CONFLICTS, COUNT, JOBS, LIMIT, NUMBER, NumberOption, SEED, SIZE, WITHIN};
+use crate::request::{
+    Asking, Carrying, Checking, Drilling, Exporting, Listing, Reach, Request, Seeking,
+};
 use clap::error::ErrorKind;
 use clap::{ArgMatches, Error};
-use gm_base::GroupSet;
+use gm_base::{GroupSet, Kind};
 use std::alloc::{AllocError, Global};
 
 /// Reads the words after the program's name. `None` is a wrong command line.
@@ -75,6 +77,8 @@ fn request_by<'a>(
         asking(alloc, matches)
     } else if name == "carry" {
         Ok(carrying(matches))
+    } else if name == "least" {
+        seeking(alloc, matches)
     } else {
         Ok(None)
     }
@@ -290,6 +294,99 @@ fn carrying_by<'a>(
     }))
 }
 
+/// What the matches of `least` ask for.
+fn seeking<'a>(alloc: Global, matches: &ArgMatches<'a>) -> Result<Option<Request<'a>>, AllocError>
+    ensures asked { IfOk result (λ r. option_map asked_by r ≡ seeking_of (rows_of (found_of matches.now))) }
+    ensures values { IfOk result (λ r. IfSome r HasGoodValues) }
+{
+    match focus_given(alloc, matches)? {
+        Some(focus) => Ok(seeking_about(matches, focus)),
+        None => Ok(None),
+    }
+}
+
+/// What the matches of `least` ask for, with the groups in focus that are among them.
+fn seeking_about<'a>(matches: &ArgMatches<'a>, focus: Option<GroupSet>) -> Option<Request<'a>>
+    ensures asked { let rows = rows_of (found_of matches.now) in option_map asked_by result
+        ≡ seeking_with (kind_at rows) (first_of (codes "file") rows) (reach_with (number_given count_rule rows) (number_given within_rule rows))
+        (number_or 1 jobs_rule rows) (number_or greatest_conflicts conflicts_rule rows) (number_or greatest_limit limit_rule rows)
+        (first_of (codes "evidence") rows) (first_of (codes "resume") rows) (Some focus) }
+    ensures values { IfSome result HasGoodValues }
+{
+    let kind = kind_at(matches)?;
+    let file = text_given(matches, "file")?;
+    let reach = reach_at(matches)?;
+    seeking_by(matches, kind, file, reach, focus)
+}
+
+/// What the matches of `least` ask for, with which sets of which file are wanted, and the groups in focus, that are among them.
+fn seeking_by<'a>(
+    matches: &ArgMatches<'a>,
+    kind: Kind,
+    file: &'a str,
+    reach: Reach,
+    focus: Option<GroupSet>,
+) -> Option<Request<'a>>
+    requires { IsGoodReach reach }
+    ensures asked { let rows = rows_of (found_of matches.now) in option_map asked_by result
+        ≡ seeking_with (Some kind) (Some file.now) (Some (reach_of reach))
+        (number_or 1 jobs_rule rows) (number_or greatest_conflicts conflicts_rule rows) (number_or greatest_limit limit_rule rows)
+        (first_of (codes "evidence") rows) (first_of (codes "resume") rows) (Some focus) }
+    ensures values { IfSome result HasGoodValues }
+{
+    let jobs = number_or(matches, JOBS, JOBS.low)?;
+    let conflicts = number_or(matches, CONFLICTS, CONFLICTS.high)?;
+    let limit = number_or(matches, LIMIT, LIMIT.high)?;
+    let evidence = text_given(matches, "evidence");
+    let resume = text_given(matches, "resume");
+    Some(Request::Least(Seeking {
+        kind,
+        file,
+        reach,
+        jobs: jobs as u32,
+        conflicts,
+        limit,
+        evidence,
+        resume,
+        focus,
+    }))
+}
+
+/// The kind that a word says, if it says one.
+pub(crate) fn kind_by(text: &str) -> Option<Kind>
+    ensures { result ≡ kind_by text.now }
+{
+    if text == "conflicts" {
+        Some(Kind::Conflict)
+    } else if text == "corrections" {
+        Some(Kind::Correction)
+    } else {
+        None
+    }
+}
+
+/// The kind that is named. `None` is another word.
+fn kind_at(matches: &ArgMatches<'_>) -> Option<Kind>
+    ensures { result ≡ kind_at (rows_of (found_of matches.now)) }
+{
+    kind_by(text_given(matches, "kind")?)
+}
+
+/// How far sets are wanted. `None` is a text that an option does not take, or both options.
+fn reach_at(matches: &ArgMatches<'_>) -> Option<Reach>
+    ensures reach { let rows = rows_of (found_of matches.now) in option_map reach_of result ≡ reach_with (number_given count_rule rows) (number_given within_rule rows) }
+    ensures good { IfSome result IsGoodReach }
+{
+    let wanted = number_given(matches, COUNT)?;
+    let most = number_given(matches, WITHIN)?;
+    match (wanted, most) {
+        (None, None) => Some(Reach::Count(1)),
+        (Some(wanted), None) => Some(Reach::Count(wanted as u32)),
+        (None, Some(most)) => Some(Reach::Within(most as u32)),
+        (Some(_), Some(_)) => None,
+    }
+}
+
 /// The text of an argument, if it was given.
 fn text_given<'a>(matches: &ArgMatches<'a>, id: &str) -> Option<&'a str>
     ensures { text_of result ≡ first_of id.now (rows_of (found_of matches.now)) }
@@ -308,6 +405,18 @@ fn number_or(matches: &ArgMatches<'_>, option: NumberOption, other: u64) -> Opti
     match text_given(matches, option.name) {
         Some(text) => option.number_by(text),
         None => Some(other),
+    }
+}
+
+/// The number of an option, if it was given. `None` is a text that the option does not take.
+fn number_given(matches: &ArgMatches<'_>, option: NumberOption) -> Option<Option<u64>>
+    ensures number { result ≡ number_given (option_rule option) (rows_of (found_of matches.now)) }
+    ensures low { IfSome result (λ given. IfSome given (λ n. option.low ≤ n)) }
+    ensures high { IfSome result (λ given. IfSome given (λ n. n ≤ option.high)) }
+{
+    match text_given(matches, option.name) {
+        Some(text) => Some(Some(option.number_by(text)?)),
+        None => Some(None),
     }
 }
 

@@ -1,5 +1,5 @@
 //! What the words of a command line ask for.
-use gm_base::GroupSet;
+use gm_base::{GroupSet, Kind};
 
 /// What `list` is asked for.
 #[derive(Drop)]
@@ -85,6 +85,38 @@ pub struct Carrying<'a> {
     pub evidence: Option<&'a str>,
 }
 
+/// How far the sets of a kind are wanted in order of size.
+#[derive(Clone, Copy)]
+pub enum Reach {
+    /// So many, with all that are as small as the last of these.
+    Count(u32),
+    /// All with at most so many groups.
+    Within(u32),
+}
+
+/// What `least` is asked for.
+#[derive(Drop)]
+pub struct Seeking<'a> {
+    /// The kind of the sets.
+    pub kind: Kind,
+    /// The name of the input file.
+    pub file: &'a str,
+    /// How far they are wanted.
+    pub reach: Reach,
+    /// How many workers there are.
+    pub jobs: u32,
+    /// The budget: how many clauses may be learnt in all.
+    pub conflicts: u64,
+    /// How many sets, of both kinds, may be recorded before it ends.
+    pub limit: u64,
+    /// The name of the file that gets the evidence, where it is asked for.
+    pub evidence: Option<&'a str>,
+    /// The name of the evidence whose records come first, where it is given.
+    pub resume: Option<&'a str>,
+    /// The groups in focus, where they are given. They may be above those of the file.
+    pub focus: Option<GroupSet>,
+}
+
 /// What the words ask for.
 #[derive(Drop)]
 pub enum Request<'a> {
@@ -100,4 +132,6 @@ pub enum Request<'a> {
     Roles(Asking<'a>),
     /// `carry OLD EVIDENCE NEW [--jobs J] [--evidence FILE]`
     Carry(Carrying<'a>),
+    /// `least KIND FILE [--count W | --within G] [--jobs J] [--conflicts B] [--limit L] [--evidence FILE] [--resume FILE] [--focus LIST]`
+    Least(Seeking<'a>),
 }

@@ -4,7 +4,8 @@
 //! walked once more, from the first one on, up to one that can't stand where it does. Nothing rests on this walk: that words have
 //! no reading is said by `read_words`, and the walk may find nothing.
 use crate::focus::set_in;
-use crate::options::{CONFLICTS, JOBS, LIMIT, NUMBER, NumberOption, SEED, SIZE};
+use crate::options::{CONFLICTS, COUNT, JOBS, LIMIT, NUMBER, NumberOption, SEED, SIZE, WITHIN};
+use crate::read::kind_by;
 use std::alloc::{AllocError, Global};
 use std::fmt;
 use std::fmt::{Display, Formatter, Write};
@@ -35,6 +36,8 @@ enum Fault<'a> {
     TooMany(Form, &'a str),
     /// `--journal` stands beside `--resume`.
     Together,
+    /// `--within` stands beside `--count`.
+    BothReaches,
     /// The two outputs of an export have one name.
     OneName(&'a str),
 }
@@ -44,6 +47,7 @@ enum Fault<'a> {
 enum Wanted {
     Name,
     List,
+    Kind,
     Number(NumberOption),
 }
 
@@ -65,6 +69,11 @@ struct Form {
 const FILE: Taken = Taken {
     word: "FILE",
     wanted: Wanted::Name,
+};
+
+const KIND: Taken = Taken {
+    word: "KIND",
+    wanted: Wanted::Kind,
 };
 
 const EVIDENCE: Taken = Taken {
@@ -137,6 +146,16 @@ const LIMIT_OPTION: Taken = Taken {
     wanted: Wanted::Number(LIMIT),
 };
 
+const COUNT_OPTION: Taken = Taken {
+    word: "count",
+    wanted: Wanted::Number(COUNT),
+};
+
+const WITHIN_OPTION: Taken = Taken {
+    word: "within",
+    wanted: Wanted::Number(WITHIN),
+};
+
 const FOCUS_OPTION: Taken = Taken {
     word: "focus",
     wanted: Wanted::List,
@@ -172,6 +191,19 @@ static CARRY_PLACES: [Taken; 3] = [OLD, EVIDENCE, NEW];
 
 static CARRY_OPTIONS: [Taken; 2] = [JOBS_OPTION, EVIDENCE_OPTION];
 
+static LEAST_PLACES: [Taken; 2] = [KIND, FILE];
+
+static LEAST_OPTIONS: [Taken; 8] = [
+    COUNT_OPTION,
+    WITHIN_OPTION,
+    JOBS_OPTION,
+    CONFLICTS_OPTION,
+    LIMIT_OPTION,
+    EVIDENCE_OPTION,
+    RESUME_OPTION,
+    FOCUS_OPTION,
+];
+
 /// What the command of this name takes.
 fn form_of(command: &str) -> Option<Form> {
     match command {
@@ -181,6 +213,7 @@ fn form_of(command: &str) -> Option<Form> {
         "export" => Some(form_with("export", &EXPORT_PLACES, &EXPORT_OPTIONS)),
         "roles" => Some(form_with("roles", &FILE_ALONE, &ROLES_OPTIONS)),
         "carry" => Some(form_with("carry", &CARRY_PLACES, &CARRY_OPTIONS)),
+        "least" => Some(form_with("least", &LEAST_PLACES, &LEAST_OPTIONS)),
         _ => None,
     }
 }
@@ -316,6 +349,9 @@ impl<'a> Walk<'a> {
         if self.has("journal") && self.has("resume") {
             return Some(Fault::Together);
         }
+        if self.has("within") && self.has("count") {
+            return Some(Fault::BothReaches);
+        }
         match self.words.as_slice() {
             [_, _, _, cnf, lrat] if cnf == lrat => Some(Fault::OneName(*cnf)),
             _ => None,
@@ -360,6 +396,7 @@ fn is_taken(alloc: Global, wanted: Wanted, text: &str) -> Result<bool, AllocErro
         Wanted::Name => Ok(true),
         Wanted::Number(number) => Ok(number.number_by(text).is_some()),
         Wanted::List => Ok(set_in(alloc, text)?.is_some()),
+        Wanted::Kind => Ok(kind_by(text).is_some()),
     }
 }
 
@@ -388,6 +425,7 @@ impl Display for Wanted {
             Wanted::List => f.write_str(
                 "a list of numbers from 1 to 4294967295 with commas between them",
             ),
+            Wanted::Kind => f.write_str("conflicts or corrections"),
             Wanted::Number(number) => {
                 let (low, high) = (number.low, number.high);
                 write!(f, "a number from {low} to {high}")
@@ -437,7 +475,7 @@ impl Form {
     }
 }
 
-const COMMANDS: &str = "list, check, drill, export, roles or carry";
+const COMMANDS: &str = "list, check, drill, export, roles, carry or least";
 
 impl<'a> Display for Unread<'a> {
     fn fmt<W: fmt::Write>(&self, f: &mut Formatter<W>) -> fmt::Result {
@@ -476,6 +514,7 @@ impl<'a> Display for Unread<'a> {
                 write!(f, "{word}: one word too many, as {command} takes {places}")
             }
             Fault::Together => f.write_str("--journal: may not stand beside --resume"),
+            Fault::BothReaches => f.write_str("--within: may not stand beside --count"),
             Fault::OneName(name) => {
                 let name = Shown(*name);
                 write!(f, "{name}: CNF and LRAT have to be two files")

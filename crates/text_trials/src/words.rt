@@ -7,10 +7,11 @@
 //!
 //! A listing is told with each of its numbers, and with `evidence`, `resume`, `journal` and `focus 1 2` where it has them, a checking as
 //! `check "f" "e"` with the same focus, a drilling as `drill 7 12 jobs 1`, and an export as `export "f" "e" 1 "a" "b"`. Who asks
-//! for roles is told as `roles "f" jobs 1` with a focus, and a carrying as `carry "f" "e" "g" jobs 1` with `evidence`. A wrong command
-//! line is told as `wrong`.
-use gm_base::GroupSet;
-use gm_words::{Carrying, Exporting, Listing, Request, read_words};
+//! for roles is told as `roles "f" jobs 1` with a focus, a carrying as `carry "f" "e" "g" jobs 1` with `evidence`, and who wants the
+//! smallest sets as `least corrections "f" count 1`, or `within`, with what a listing has behind it. A wrong command line is told
+//! as `wrong`.
+use gm_base::{GroupSet, Kind};
+use gm_words::{Carrying, Exporting, Listing, Reach, Request, Seeking, read_words};
 use std::alloc::{AllocError, Global};
 use trial_script::{Player, Step};
 
@@ -62,6 +63,7 @@ fn show_request(alloc: Global, words: &[String], out: &mut String) -> Result<(),
             show_focus(asking.focus.as_ref(), out)
         }
         Some(Request::Carry(carrying)) => show_carrying(&carrying, out),
+        Some(Request::Least(seeking)) => show_seeking(&seeking, out),
         None => out.push_str("wrong\n"),
     }
 }
@@ -111,6 +113,30 @@ fn show_listing(listing: &Listing<'_>, out: &mut String) -> Result<(), AllocErro
         write!(out, " journal \"{journal}\"")?;
     }
     show_focus(listing.focus.as_ref(), out)
+}
+
+fn show_seeking(seeking: &Seeking<'_>, out: &mut String) -> Result<(), AllocError> {
+    let kind = match seeking.kind {
+        Kind::Conflict => "conflicts",
+        Kind::Correction => "corrections",
+    };
+    let (word, number) = match seeking.reach {
+        Reach::Count(wanted) => ("count", wanted),
+        Reach::Within(most) => ("within", most),
+    };
+    let (file, jobs) = (seeking.file, seeking.jobs);
+    let (conflicts, limit) = (seeking.conflicts, seeking.limit);
+    write!(
+        out,
+        "least {kind} \"{file}\" {word} {number} jobs {jobs} conflicts {conflicts} limit {limit}"
+    )?;
+    if let Some(evidence) = seeking.evidence {
+        write!(out, " evidence \"{evidence}\"")?;
+    }
+    if let Some(resume) = seeking.resume {
+        write!(out, " resume \"{resume}\"")?;
+    }
+    show_focus(seeking.focus.as_ref(), out)
 }
 
 /// Tells the groups in focus, where some are given, and ends the line.

@@ -15,7 +15,7 @@ use Rattle.map_core.specs.declared.entry.Call.{Call}
 use Rattle.map_core.specs.declared.entry.Call.TheVariants.{Take, Refill, Post, Retire}
 use Rattle.map_core.specs.declared.entry.Retirement.TheVariants as retirement
 use Rattle.map_core.specs.declared.entry.Reply.{Reply}
-use Rattle.map_core.specs.declared.entry.Reply.TheVariants.{Job, Grant, Exhausted, Settled, Limit, Dry, Stopped, New, Already, Retired, Memory}
+use Rattle.map_core.specs.declared.entry.Reply.TheVariants.{Job, Grant, Exhausted, Settled, Levelled, Limit, Dry, Stopped, New, Already, Retired, Memory}
 use Rattle.map_core.specs.declared.entry.Entry.{Entry}
 
 -- where a worker stands: without a job, at a job with this seed, or at its end
@@ -33,6 +33,7 @@ place_after here New = Free
 place_after here Already = Free
 place_after here Exhausted = Over
 place_after here Settled = Over
+place_after here Levelled = Over
 place_after here Limit = Over
 place_after here Dry = Over
 place_after here Stopped = Over

@@ -1,6 +1,6 @@
 -- What is left of an enumeration by several workers.
-use Rattle.std.specs.Prelude.{◌≡◌, ◌≢◌, ℕ, ◌<◌, Bool, true, false, List, [], ◌∷◌, ◌++◌, length, All, slice_index_or, sum_by, Option, Some, None, MatchOption}
-use Rattle.lrat_steps.specs.Log.{LogStep, learned_count}
+use Rattle.std.specs.Prelude.{◌≡◌, ◌≢◌, ℕ, ◌<◌, Bool, true, false, List, [], ◌∷◌, ◌++◌, length, All, slice_index_or, Option, Some, None, MatchOption}
+use Rattle.lrat_steps.specs.Log.{LogStep}
 use Rattle.turn_lock.specs.Seats.{AreAll}
 use Rattle.map_core.specs.declared.entry.Entry.{Entry}
 use Rattle.map_core.specs.declared.entry.Opening.{Opening}
@@ -9,27 +9,25 @@ use Rattle.map_core.specs.declared.closing.Verdict.TheVariants.{Journal, Memory}
 use Rattle.map_core.specs.Core.{State}
 use Rattle.map_core.specs.Own.{calls_of}
 use Rattle.map_core.specs.Closings.{IsClosing}
+pub use Rattle.map_core.specs.Closings.{learned_in}
 use Rattle.board.specs.Boards.{SeatView}
 use Rattle.worker_pool.specs.declared.pool.Outcome.{Outcome}
 use Rattle.worker_pool.specs.declared.pool.Ended.{Ended}
 use Rattle.worker_pool.specs.Pens.{JournalView, PenView, failure_among, HasWritten, IsReady}
 use Rattle.worker_pool.specs.Workers.{IsDone}
 
--- how many clauses were learnt in these logs
-abbrev pub learned_in : List (List LogStep) → ℕ
-learned_in logs = sum_by learned_count logs
-
--- What is left of a state that its history made of this opening; a log for each worker, in their order, and last the map's;
--- each worker's log and its own entries are those of a worker that is over; as much was learnt in all as the state says
+-- What is left of a state that its history made of this opening; a log for each worker, in their order, behind them the map's,
+-- and last those of the levels that were asked for; each worker's log and its own entries are those of a worker that is over; as much was learnt in all as the state says
 -- that was spent; and where no journal was kept no worker retired for one
 pub record IsLeft (o : Opening) (keeps : Bool) (logs : List (List LogStep)) (closing : Closing) : Type 0 where
   pub state : State
   pub opening : state.opening ≡ o
   pub worker_logs : List (List LogStep)
   pub map_log : List LogStep
-  pub logs_are : logs ≡ worker_logs ++ map_log ∷ []
+  pub level_logs : List (List LogStep)
+  pub logs_are : logs ≡ worker_logs ++ map_log ∷ level_logs
   pub count : length worker_logs ≡ o.workers
-  pub closing_is : IsClosing state closing map_log
+  pub closing_is : IsClosing state closing map_log level_logs
   pub named : All (λ (e : Entry). e.worker < o.workers) closing.history
   pub workers : (w : ℕ) (d : List LogStep) → w < o.workers → IsDone keeps o.problem o.tops (slice_index_or worker_logs w d) (calls_of w closing.history)
   pub learned : learned_in logs ≡ state.spent

@@ -60,7 +60,7 @@ pub fn hand_in<O: Oracle, M: MapEngine, D: Disk, R: Wait>(
     match posted {
         Posted::New => keep(rt, board, problem, journal, worker, text),
         Posted::Already => true,
-        Posted::Limit | Posted::Memory => false,
+        Posted::Levelled | Posted::Limit | Posted::Memory => false,
     }
 }
 

@@ -3,7 +3,7 @@
 //! ```text
 //! let outcome = enumerate(rt, alloc, &problem, records, oracles, engine, budget, limit, Goal::All, &OpenGate, journal);
 //! match outcome.closing {
-//!     Some(closing) => .., // closing.verdict says why it ended; outcome.logs are the oracles', in their order, and last the map's
+//!     Some(closing) => .., // closing.verdict says why it ended; outcome.logs are the oracles', in their order, and then the map's
 //!     None => ..,          // there was no memory
 //! }
 //! ```

@@ -5,6 +5,8 @@
 //! if not, the oracle's core of the seed is shrunk to a minimal conflict. The record is posted, and explores the seed. Where
 //! the purse is found empty amid this, it is refilled and the same job is begun again, with what the oracle has learnt.
 //!
+//! Where smallest conflicts are wanted, seeds have few groups and can mostly be satisfied. Such a seed is grown from above.
+//!
 //! Workers do this at the same time. What one of them posts meanwhile can explore the seed of another, which then posts a
 //! record that is held already, or one more of the same seed.
 ghost use Rattle.std.specs.Prelude.{◌≡◌, ◌<◌, ◌≤◌, ◌^◌, true, false, Some, IfOk, length, is_some, option_copied};
@@ -25,11 +27,11 @@ use crate::signs::Signs;
 use crate::worker::Worker;
 use board::Board;
 use evidence_rec::{Asked, MapEngine, Oracle, Record};
-use gm_base::{Assign, GroupSet, Problem, Purse};
+use gm_base::{Assign, GroupSet, Kind, Problem, Purse};
 use gm_journal::Journal;
 use gm_ports::{Disk, Gate};
 use map_core::{Goal, Refilled, Retirement, Taken};
-use mss_grow::{Grown, grow};
+use mss_grow::{Grown, grow, grow_down};
 use mus_shrink::{Shrunk, shrink_keeping};
 use std::alloc::{AllocError, Global};
 use std::sync::Wait;
@@ -49,6 +51,7 @@ pub fn explore<O: Oracle>(
     oracle: &mut O,
     problem: &Problem,
     seed: &GroupSet,
+    goal: Goal,
     met: &Met,
     turn: u64,
     purse: &mut Purse,
@@ -59,7 +62,9 @@ pub fn explore<O: Oracle>(
     ensures spent { IsSpent (O.state oracle.old) (O.state oracle.new) purse.old.left purse.new.left }
 {
     match oracle.ask(alloc, seed, turn, purse)? {
-        Asked::Sat(assign) => grow_seed(alloc, oracle, problem, seed, &assign, turn, purse),
+        Asked::Sat(assign) => {
+            grow_seed(alloc, oracle, problem, seed, goal, &assign, turn, purse)
+        }
         Asked::Unsat(core) => shrink_core(alloc, oracle, problem, seed, &core, met, turn, purse),
         Asked::Dry => Ok(Explored::Dry(seed.copy(alloc)?)),
     }
@@ -71,6 +76,7 @@ fn grow_seed<O: Oracle>(
     oracle: &mut O,
     problem: &Problem,
     seed: &GroupSet,
+    goal: Goal,
     assign: &Assign,
     turn: u64,
     purse: &mut Purse,
@@ -81,10 +87,26 @@ fn grow_seed<O: Oracle>(
     ensures explored { IfOk result (TellsExplored (O.state oracle.new) seed.now purse.new.left) }
     ensures spent { IsSpent (O.state oracle.old) (O.state oracle.new) purse.old.left purse.new.left }
 {
-    let _groups = problem.groups(); // The problem is well-formed.
-    match grow(alloc, oracle, problem, seed, assign, turn, purse)? {
+    let groups = problem.groups(); // The problem is well-formed.
+    let grown = if is_small(goal, seed, groups) {
+        grow_down(alloc, oracle, problem, seed, turn, purse)?
+    } else {
+        grow(alloc, oracle, problem, seed, assign, turn, purse)?
+    };
+    match grown {
         Grown::Done(record) => Ok(Explored::Found(record)),
         Grown::Dry(asked) => Ok(Explored::Dry(asked)),
+    }
+}
+
+// Whether a seed has fewer groups than it lacks, where smallest conflicts are wanted.
+fn is_small(goal: Goal, seed: &GroupSet, groups: u32) -> bool {
+    match goal {
+        Goal::Least(Kind::Conflict, _) | Goal::Within(Kind::Conflict, _) => {
+            seed.as_slice().len() < groups as usize / 2
+        }
+        Goal::All | Goal::Roles => false,
+        Goal::Least(Kind::Correction, _) | Goal::Within(Kind::Correction, _) => false,
     }
 }
 
@@ -123,6 +145,7 @@ fn work_on<O: Oracle, M: MapEngine, D: Disk, R: Wait>(
     turn: u64,
     seed: &GroupSet,
     grant: u64,
+    goal: Goal,
     met: &mut Met,
     journal: Option<&Journal<D>>,
     signs: &Signs,
@@ -148,6 +171,7 @@ fn work_on<O: Oracle, M: MapEngine, D: Disk, R: Wait>(
             &mut worker.oracle,
             problem,
             seed,
+            goal,
             met,
             turn,
             &mut purse,
@@ -241,7 +265,7 @@ pub fn work_beside<O: Oracle, M: MapEngine, G: Gate, D: Disk, R: Wait>(
         signs.go();
         gate.pass(worker.seat.number(), turn);
         if !work_on(
-            rt, alloc, board, problem, worker, turn, &seed, grant, &mut met, journal, signs,
+            rt, alloc, board, problem, worker, turn, &seed, grant, goal, &mut met, journal, signs,
         ) {
             signs.end();
             return;

@@ -53,7 +53,7 @@ impl Met {
 
 fn unmarked(alloc: Global, goal: Goal, groups: u32) -> Result<Vec<bool>, AllocError> {
     match goal {
-        Goal::All => Ok(Vec::new(alloc)),
+        Goal::All | Goal::Least(_, _) | Goal::Within(_, _) => Ok(Vec::new(alloc)),
         Goal::Roles => vec![in alloc; false; groups as usize + 1],
     }
 }

@@ -1,7 +1,8 @@
 //! The enumeration, from its oracles and its engine to what is left of it.
-ghost use Rattle.std.specs.Prelude.{◌≡◌, ◌+◌, ◌-◌, ◌^◌, ◌<◌, ◌≤◌, ℕ, Bool, true, false, Some, None, [], min, All, IfOk, IfErr, IfSome, IfNone, length, map, vec_capacity, slice_index_or, is_some, option_map, option_copied};
+ghost use Rattle.std.specs.Prelude.{◌≡◌, ◌+◌, ◌*◌, ◌-◌, ◌++◌, ◌^◌, ◌<◌, ◌≤◌, ℕ, Bool, true, false, Some, None, [], min, All, IfOk, IfErr, IfSome, IfNone, length, map, vec_capacity, slice_index_or, is_some, option_map, option_copied};
 ghost use Rattle.turn_lock.specs.Seats.{AreAll};
 ghost use Rattle.map_core.specs.Sound.{IsOpening};
+ghost use Rattle.map_core.specs.Core.{kind_in};
 ghost use Rattle.map_core.specs.Opens.{opening_of};
 ghost use Rattle.map_core.specs.declared.entry.Opening.{Opening};
 ghost use Rattle.board.specs.Boards.{SeatView, HaveAllEnded};
@@ -27,7 +28,8 @@ pub struct Outcome<D: Disk> {
     pub verdict: Verdict,
     /// How many clauses were learnt in all logs.
     pub spent: u64,
-    /// The oracles' logs in their order, and last the map's; none where nothing was closed.
+    /// The oracles' logs in their order, behind them the map's, and last those of the levels that were asked for; none where nothing
+    /// was closed.
     pub logs: Logs,
     /// What is left of the board; nothing where there was no memory to begin.
     pub closing: Option<Closing>,
@@ -47,7 +49,8 @@ pub(crate) struct Ended {
 
 /// Enumerates the minimal conflicts and minimal corrections of a problem, with a worker for each oracle.
 ///
-/// Where roles alone are wanted it ends once the records tell each group's. With a journal each new record is appended there
+/// Where roles alone are wanted it ends once the records tell each group's, and where the smallest sets are, once none of them is
+/// missing and that is shown. With a journal each new record is appended there
 /// before its worker goes on, and the journal comes back, with its seats in their order. All lists that it needs at its end
 /// are made before the workers begin.
 pub fn enumerate<
@@ -74,6 +77,8 @@ pub fn enumerate<
     requires groups { (M.state engine).groups ≡ problem.now.groups }
     requires blocks { (M.state engine).blocks ≡ [] }
     requires log { (M.state engine).log ≡ [] }
+    requires kind { (M.state engine).kind ≡ kind_in goal }
+    requires bound { (M.state engine).bound ≡ None }
     requires journal { IfSome journal (λ x. IsReady (opening_of problem.now records (length oracles.items) budget limit goal M.TOPS) x.0 x.1.items) }
     ensures outcome { IsOutcome (opening_of problem.now records (length oracles.items) budget limit goal M.TOPS) (is_some journal) result }
     ensures journal { TellsKept (opening_of problem.now records (length oracles.items) budget limit goal M.TOPS) (option_map (λ x. (x.0, x.1.items)) journal) result.closing result.broken (option_map (λ x. (x.0, x.1.items)) result.journal) }
@@ -180,6 +185,8 @@ fn share<
     requires groups { (M.state engine).groups ≡ problem.now.groups }
     requires blocks { (M.state engine).blocks ≡ [] }
     requires log { (M.state engine).log ≡ [] }
+    requires kind { (M.state engine).kind ≡ kind_in goal }
+    requires bound { (M.state engine).bound ≡ None }
     requires pens { ArePensFor (opening_of problem.now records (length oracles.items) budget limit goal M.TOPS) (option_copied journal) pens.old.items }
     ensures ended { IfOk result (λ e. IsEnded (opening_of problem.now records (length oracles.items) budget limit goal M.TOPS) (is_some (option_copied journal.entry)) e.0) }
     ensures pens { IfOk result (λ e. TellsPens (opening_of problem.now records (length oracles.items) budget limit goal M.TOPS) (option_copied journal.entry) pens.old.items e.0.closing e.1 pens.new.items) }
@@ -196,7 +203,8 @@ fn share<
         goal,
         engine,
     )?;
-    let mut logs = Vec::with_capacity(alloc, count + 1)?;
+    // The map's, and for each worker at most one of a level that it asked for.
+    let mut logs = Vec::with_capacity(alloc, count * 2 + 1)?;
     let mut workers = hire(alloc, oracles, &mut seats, pens)?;
     work_all(
         rt,
@@ -220,14 +228,15 @@ fn settle<M: MapEngine>(
     _keeps: bool,
 ) -> Ended
     requires over { AreOver _keeps board seats.items logs.items }
-    requires room { length logs.items + 1 ≤ vec_capacity logs }
+    requires room { length logs.items * 2 + 1 ≤ vec_capacity logs }
     requires budget { board.opening.budget < 2 ^ 64 }
     ensures ended { IsEnded board.opening _keeps result }
     ensures calls { HaveCalls result.closing.history seats.items }
 {
     match board.close(seats) {
-        BoardClosing::Closed(closing, map_log) => {
+        BoardClosing::Closed(closing, map_log, levels) => {
             logs.push_reserved(map_log);
+            push_all(&mut logs, levels.into_vec());
             Ended {
                 spent: learned_sum(logs.as_slice()),
                 logs: Logs::from_vec(logs),
@@ -236,6 +245,16 @@ fn settle<M: MapEngine>(
         }
         // A board needs no memory to close.
         BoardClosing::Held(_, _) => unreachable!(),
+    }
+}
+
+// These logs come behind the others.
+fn push_all(logs: &mut Vec<Log>, more: Vec<Log>)
+    requires { length logs.old.items + length more.items ≤ vec_capacity logs.old }
+    ensures { logs.new.items ≡ logs.old.items ++ more.items }
+{
+    for log in more {
+        logs.push_reserved(log);
     }
 }
 

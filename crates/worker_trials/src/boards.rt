@@ -179,6 +179,7 @@ fn take<R: Wait>(
         Taken::Job { .. } => true,
         Taken::Exhausted => false,
         Taken::Settled => false,
+        Taken::Levelled => false,
         Taken::Limit => false,
         Taken::Dry => false,
         Taken::Stopped => false,
@@ -207,6 +208,7 @@ fn post<R: Wait>(
     place.may_call = match posted {
         Posted::New => true,
         Posted::Already => true,
+        Posted::Levelled => false,
         Posted::Limit => false,
         Posted::Memory => false,
     };

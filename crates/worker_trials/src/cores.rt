@@ -137,6 +137,7 @@ pub fn say_taken(out: &mut String, taken: &Taken) -> Result<(), AllocError> {
         }
         Taken::Exhausted => say(out, "exhausted"),
         Taken::Settled => say(out, "settled"),
+        Taken::Levelled => say(out, "levelled"),
         Taken::Limit => say(out, "limit"),
         Taken::Dry => say(out, "dry"),
         Taken::Stopped => say(out, "stopped"),
@@ -151,6 +152,7 @@ pub fn say_posted(out: &mut String, posted: Posted) -> Result<(), AllocError> {
         match posted {
             Posted::New => "new",
             Posted::Already => "already",
+            Posted::Levelled => "levelled",
             Posted::Limit => "limit",
             Posted::Memory => "memory",
         },
@@ -162,6 +164,7 @@ fn say_refilled(out: &mut String, refilled: Refilled) -> Result<(), AllocError> 
         Refilled::Grant(units) => say_count(out, "granted", units),
         Refilled::Dry => say(out, "dry"),
         Refilled::Stopped => say(out, "stopped"),
+        Refilled::Levelled => say(out, "levelled"),
         Refilled::Memory => say(out, "memory"),
     }
 }
@@ -200,6 +203,7 @@ pub fn verdict_word(verdict: Verdict) -> &'static str {
     match verdict {
         Verdict::Complete => "complete",
         Verdict::Settled => "settled",
+        Verdict::Levelled => "levelled",
         Verdict::Journal => "journal",
         Verdict::Memory => "memory",
         Verdict::Limit => "limit",

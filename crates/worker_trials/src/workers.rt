@@ -276,7 +276,11 @@ fn ends_as_it_may(
     match outcome.verdict {
         Verdict::Complete => are_all_five(alloc, &closing.records),
         Verdict::Memory => Ok(closing.records.len() <= 5),
-        Verdict::Settled | Verdict::Journal | Verdict::Limit | Verdict::Budget => Ok(false),
+        Verdict::Settled
+        | Verdict::Levelled
+        | Verdict::Journal
+        | Verdict::Limit
+        | Verdict::Budget => Ok(false),
     }
 }
 
