@@ -1,5 +1,5 @@
 -- What is accepted can be written: each number of it is one that a text can hold.
-use Rattle.std.proofs.Common.{◌≡◌, ℕ, zero, suc, ◌+◌, ◌<◌, ◌≤◌, Bool, true, false, ◌&&◌, cond, eqb, List, [], ◌∷◌, ◌++◌, map, length, Option, Some, None, refl, sym, ◌∙◌, ap, subst, inl, inr, arith, length-append}
+use Rattle.std.proofs.Common.{◌≡◌, ℕ, zero, suc, ◌+◌, ◌^◌, ◌<◌, ◌≤◌, Bool, true, false, ◌&&◌, cond, eqb, List, [], ◌∷◌, ◌++◌, map, length, Option, Some, None, refl, sym, ◌∙◌, ap, subst, inl, inr, arith, length-append}
 use Rattle.std.specs.Prelude.{ℤ, neg_ℤ, nat_lt, All, IfSome, slice_get}
 use Rattle.std.specs.List.{AllByRecursion, find, list_all, list_any}
 use Rattle.std.specs.Option.{option_map_or}
@@ -23,10 +23,15 @@ use Rattle.evidence_rec.specs.Seeding.{shows_all_explored}
 use Rattle.evidence_rec.specs.Shorten.{least_serving, naming, shortened_refutations, shortened, shortened_behind, shorten}
 use Rattle.evidence_rec.proofs.ShortenLemmas.{founds-shorten, length-shorten, accepted-shorten}
 use Rattle.evidence_text.specs.declared.version.Version.{Version}
-use Rattle.evidence_text.specs.declared.version.Version.TheVariants.{Two}
-use Rattle.evidence_text.specs.Text.{evidence_text}
-use Rattle.evidence_text.specs.Readable.{IsSmall, IsId, IsReadableStep, IsReadableProof, IsReference, IsReadableRefutation, IsReadable, IsReadableEnd, HasRefutationIds, HasRecordIds}
-use Rattle.evidence_text.specs.Laws.{IsRead}
+use Rattle.size_counter.specs.Levels.{Level, level_vars}
+use Rattle.evidence_text.specs.declared.end.End.{End}
+use Rattle.evidence_text.specs.declared.version.Version.TheVariants.{Two, Three}
+use Rattle.evidence_text.specs.Text.{closed_by, evidence_text}
+use Rattle.sat_base.specs.Literals.{IsLiteral}
+use Rattle.evidence_text.specs.Readable.{IsSmall, IsId, MayRefer, IsReadableStep, IsReadableProof, IsReference, IsReadableRefutation, IsReadable, max_var, IsReadableLevel, IsReadableEnd, HasRefutationIds, HasRecordIds}
+use Rattle.evidence_text.specs.Laws.{IsRead, CanHold}
+use Rattle.evidence_text.proofs.WordsLemmas.{all-then}
+use Rattle.evidence_text.proofs.StandsLemmas.{reference-of}
 use Rattle.evidence_text.proofs.WholeLemmas.{text-is_read}
 
 -- ---- ids
@@ -211,11 +216,12 @@ named-readable version p earlier (record_of.Correction set w rs) names h ids =
       each,
     )
 
-pub accepted-readable : (p : Problem) (earlier : List Record) (r : Record) → length earlier ≤ max_id → IsAccepted p earlier r → HasRecordIds r → IsReadable Two p r
-accepted-readable p earlier r few h ids =
-    named-readable Two p earlier r (λ set g i serves. reference-readable earlier i (is_inside set g) few serves) h ids
+pub accepted-readable : (version : Version) (p : Problem) (earlier : List Record) (r : Record) → MayRefer version → length earlier ≤ max_id → IsAccepted p earlier r
+    → HasRecordIds r → IsReadable version p r
+accepted-readable version p earlier r may few h ids =
+    named-readable version p earlier r (λ set g i serves. reference-of version i may (reference-readable earlier i (is_inside set g) few serves)) h ids
 
--- with none before it there is none to name, so either version can hold it
+-- with none before it there is none to name, so each version can hold it
 no_record : (i : ℕ) → numbered_record [] i ≡ None
 no_record zero = refl
 no_record (suc i) = by (slice_get [] i) refl
@@ -234,28 +240,48 @@ closing-readable p found d shows ids = derivation-readable p.groups (map block_c
 
 -- ---- texts of what is accepted
 
-records-behind : (p : Problem) (earlier rs : List Record) → length earlier + length rs ≤ max_id → AllAcceptedBehind p earlier rs
-    → AllByRecursion HasRecordIds rs → AllByRecursion (IsReadable Two p) rs
-records-behind p earlier [] few all ids = tt
-records-behind p earlier (r ∷ rs) few all ids = (
-  accepted-readable p earlier r (omega arith) all.0 ids.0,
-  records-behind p (earlier ++ r ∷ []) rs (omega (arith, length-append earlier (r ∷ []))) all.1 ids.1,
+records-behind : (version : Version) (p : Problem) (earlier rs : List Record) → MayRefer version → length earlier + length rs ≤ max_id → AllAcceptedBehind p earlier rs
+    → AllByRecursion HasRecordIds rs → AllByRecursion (IsReadable version p) rs
+records-behind version p earlier [] may few all ids = tt
+records-behind version p earlier (r ∷ rs) may few all ids = (
+  accepted-readable version p earlier r may (omega arith) all.0 ids.0,
+  records-behind version p (earlier ++ r ∷ []) rs may (omega (arith, length-append earlier (r ∷ []))) all.1 ids.1,
 )
 
-pub records-readable : (p : Problem) (rs : List Record) → length rs ≤ max_id → AllAccepted p rs → AllByRecursion HasRecordIds rs → AllByRecursion (IsReadable Two p) rs
-records-readable p rs few all ids = records-behind p [] rs (omega (arith, few)) all ids
+pub records-readable : (version : Version) (p : Problem) (rs : List Record) → MayRefer version → length rs ≤ max_id → AllAccepted p rs → AllByRecursion HasRecordIds rs
+    → AllByRecursion (IsReadable version p) rs
+records-readable version p rs may few all ids = records-behind version p [] rs may (omega (arith, few)) all ids
 
-end-readable : (p : Problem) (rs : List Record) (closing : Option Derivation)
-    → IfSome closing (λ d. (shows_all_explored p.groups (founds rs) d ≡ true) × HasIds d) → IsReadableEnd p closing
+-- what is over some variables is over more
+pub proof-wider : (vars more : ℕ) (d : Derivation) → vars ≤ more → IsReadableProof vars d → IsReadableProof more d
+proof-wider vars more d le ok = record {
+  steps = all-then (IsReadableStep vars) (IsReadableStep more) d.steps (λ s is. record { id = is.id; lits = all-then (IsLiteral vars) (IsLiteral more) s.lits wider is.lits; hints = is.hints }) ok.steps;
+  goal = ok.goal;
+}
+  where
+    wider : (l : ℤ) → IsLiteral vars l → IsLiteral more l
+    wider l is = let high = is.in_range in record { not_zero = is.not_zero; in_range = omega arith }
+
+pub level-readable : (groups most : ℕ) (l : Level) (inputs : List (List ℤ)) (d : Derivation) (allowed : ℤ → Bool) → most ≤ groups → level_vars l < 2 ^ 31
+    → derives_within (level_vars l) inputs d allowed ≡ true → HasIds d → IsReadableLevel Three groups most l d
+level-readable groups most l inputs d allowed le few derives ids =
+    (le, few, proof-wider (level_vars l) max_var d (omega arith) (derivation-readable (level_vars l) inputs d allowed derives ids))
+
+pub accepted-held : (version : Version) (p : Problem) (rs : List Record) (ending : End Derivation) → MayRefer version → IsSmall p → length rs ≤ max_id
+    → AllAccepted p rs → AllByRecursion HasRecordIds rs → IsReadableEnd version p (founds rs) ending → CanHold version p rs ending
+accepted-held version p rs ending may small few all ids ok =
+    record { small = small; records = records-readable version p rs may few all ids; ending = ok }
+
+pub end-readable : (p : Problem) (rs : List Record) (closing : Option Derivation)
+    → IfSome closing (λ d. (shows_all_explored p.groups (founds rs) d ≡ true) × HasIds d) → IsReadableEnd Two p (founds rs) (closed_by closing)
 end-readable p rs None h = tt
 end-readable p rs (Some d) h = closing-readable p (founds rs) d h.0 h.1
 
 pub accepted-read : (p : Problem) (rs : List Record) (closing : Option Derivation) → IsSmall p → length rs ≤ max_id → AllAccepted p rs
     → AllByRecursion HasRecordIds rs → IfSome closing (λ d. (shows_all_explored p.groups (founds rs) d ≡ true) × HasIds d)
-    → IsRead Two p (evidence_text Two p rs closing) rs closing
+    → IsRead Two p (evidence_text Two p rs (closed_by closing)) rs (closed_by closing)
 accepted-read p rs closing small few all ids closes =
-    text-is_read Two p rs closing
-    (record { small = small; records = records-readable p rs few all ids; closing = end-readable p rs closing closes })
+    text-is_read Two p rs (closed_by closing) (accepted-held Two p rs (closed_by closing) tt small few all ids (end-readable p rs closing closes))
 
 -- ---- what is shortened
 
@@ -289,7 +315,7 @@ closes-shorten p rs closing h =
 
 pub shortened-read : (p : Problem) (rs : List Record) (closing : Option Derivation) → IsSmall p → length rs ≤ max_id → AllAccepted p rs
     → AllByRecursion HasRecordIds rs → IfSome closing (λ d. (shows_all_explored p.groups (founds rs) d ≡ true) × HasIds d)
-    → IsRead Two p (evidence_text Two p (shorten rs) closing) (shorten rs) closing
+    → IsRead Two p (evidence_text Two p (shorten rs) (closed_by closing)) (shorten rs) (closed_by closing)
 shortened-read p rs closing small few all ids closes =
     accepted-read p (shorten rs) closing small (subst (λ n. n ≤ max_id) (sym (length-shorten rs)) few) (accepted-shorten p rs all) (ids-shorten rs ids)
     (closes-shorten p rs closing closes)

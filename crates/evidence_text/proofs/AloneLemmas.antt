@@ -13,6 +13,7 @@ use Rattle.evidence_text.specs.declared.alone.RecordAnswer.{RecordAnswer}
 use Rattle.evidence_text.specs.declared.alone.RecordAnswer.TheVariants as alone
 use Rattle.evidence_text.specs.Text.{Line, text_of, record_lines}
 use Rattle.evidence_text.specs.Lines.{lines_of, unended}
+use Rattle.evidence_text.specs.Namings.{no_namings}
 use Rattle.evidence_text.specs.Reading.{Below, is_nothing, piece_at}
 use Rattle.evidence_text.specs.Readable.{IsSmall}
 use Rattle.evidence_text.specs.Alone.{IsTextOf, only_record, record_at, TellsRecord}
@@ -44,15 +45,15 @@ only-is p rest (Ok (answer.Record q, b)) r h =
           (b, ap (λ (x : Record). Ok (answer.Record x, b)) same, lines, none)
       | inr other ↦ cc (other.1)
     ]
-only-is p rest (Ok (answer.End closing, b)) r h = cc
+only-is p rest (Ok (answer.End ending, b)) r h = cc
 only-is p rest (Ok (answer.Offence o, b)) r h = cc
 only-is p rest (Err o) r h = cc
 
 -- the bytes of a record that is read are its lines
 pub record-stands : (p : Problem) (text : List ℕ) (r : Record) → IsSmall p → record_at p text ≡ alone.Record r → IsTextOf p r text
 record-stands p text r small h =
-    let (b, read, lines, none) = only-is p (unended text) (piece_at One p (unended text) 1 (lines_of text)) r h in
-    let (readable, stands) = piece-stands One p (unended text) 1 (lines_of text) (answer.Record r) b small.numbers read in
+    let (b, read, lines, none) = only-is p (unended text) (piece_at One p no_namings (unended text) 1 (lines_of text)) r h in
+    let (readable, stands) = piece-stands One p no_namings (unended text) 1 (lines_of text) (answer.Record r) b small.numbers read in
     record {
       readable = readable;
       text_is =
@@ -67,8 +68,8 @@ record-is_read p text r small h =
     let plain = record-plain One p r small.numbers h.readable in
     let lines : lines_of text ≡ record_lines r = ap lines_of h.text_is ∙ lines-back (record_lines r) plain in
     let none : unended text ≡ [] = ap unended h.text_is ∙ lines-unended (record_lines r) plain in
-    ap₂ (λ (bs : List ℕ) (ls : List Line). only_record bs (piece_at One p bs 1 ls)) none (lines ∙ sym (append-nil (record_lines r)))
-    ∙ ap (only_record []) (record-back One p r [] 1 [] small.numbers h.readable)
+    ap₂ (λ (bs : List ℕ) (ls : List Line). only_record bs (piece_at One p no_namings bs 1 ls)) none (lines ∙ sym (append-nil (record_lines r)))
+    ∙ ap (only_record []) (record-back One p no_namings r [] 1 [] small.numbers h.readable)
 
 -- so the bytes are the lines of one record at most
 pub texts-of_one : (p : Problem) (text : List ℕ) (q r : Record) → IsSmall p → IsTextOf p q text → IsTextOf p r text → q ≡ r

@@ -10,8 +10,10 @@ pub mod GroupLemmas
 pub mod TextLemmas
 pub mod PuttingLemmas
 pub mod WordsLemmas
-pub mod StandsLemmas
 pub mod WordsBackLemmas
+pub mod NamingLemmas
+pub mod EndingLemmas
+pub mod StandsLemmas
 pub mod LinesBackLemmas
 pub mod PlainLemmas
 pub mod FromLinesLemmas
@@ -19,3 +21,4 @@ pub mod WholeLemmas
 pub mod AcceptedLemmas
 pub mod AloneLemmas
 pub mod FormLemmas
+pub mod ReaderLemmas

@@ -17,13 +17,18 @@ use Rattle.evidence_text.specs.declared.goal.Goal.{Goal}
 use Rattle.evidence_text.specs.declared.goal.Goal.TheVariants.{Refutes, Exhausts}
 use Rattle.evidence_text.specs.declared.answer.Answer.TheVariants as answer
 use Rattle.evidence_text.specs.declared.version.Version.{Version}
-use Rattle.evidence_text.specs.declared.version.Version.TheVariants.{One, Two}
-use Rattle.evidence_text.specs.Text.{Word, Line, version_number, head_line, step_line, witness_line, exhaustion_line, end_line, derivation_lines, refutation_lines, refutations_lines, witnesses_lines, record_lines, end_lines}
-use Rattle.evidence_text.specs.Reading.{◌>>=◌, below, at_line, behind, version_of, with_step, line_end, counts_at, counts_of, same_counts, head_words_at, head_at, proof_at, number_at, witness_line_at, witnesses_at, steps_at, refutation_at, refutations_at, conflict_at, correction_at, complete_at, closing_at, nothing_behind, piece_at}
-use Rattle.evidence_text.specs.Readable.{IsId, IsReadableStep, IsReadableProof, IsReadableRefutation, IsReadable, IsReadableEnd, IsSmall}
+use Rattle.evidence_text.specs.declared.version.Version.TheVariants.{One, Two, Three}
+use Rattle.evidence_text.specs.declared.end.End.{End}
+use Rattle.evidence_text.specs.declared.end.End.TheVariants as ends
+use Rattle.evidence_text.specs.Namings.{Namings, naming_for}
+use Rattle.evidence_text.specs.Text.{Word, Line, version_number, head_line, step_line, witness_line, exhaustion_line, end_line, derivation_lines, refutation_lines, refutations_lines, witnesses_lines, record_lines, level_line, end_map, closing_lines, end_lines}
+use Rattle.evidence_text.specs.Reading.{◌>>=◌, below, at_line, behind, version_of, with_step, line_end, counts_at, counts_of, same_counts, head_words_at, head_at, proof_at, number_at, witness_line_at, witnesses_at, steps_at, reference_or_steps_at, refutation_at, refutations_at, conflict_at, correction_at, last_line_at, closing_at, nothing_behind, piece_at}
+use Rattle.size_counter.specs.Levels.{level_by}
+use Rattle.evidence_text.specs.Readable.{IsId, IsReadableStep, IsReadableProof, IsReadableRefutation, IsReadable, closing_vars, IsReadableEndBy, IsSmall}
 use Rattle.evidence_text.proofs.WordsLemmas.{IsSmallGoal}
 use Rattle.evidence_text.proofs.StandsLemmas.{goal_text, few_groups}
 use Rattle.evidence_text.proofs.WordsBackLemmas.{bind-back, number-back, word-back, set-back, step-back, goal-back, witness-back, last_word-back}
+use Rattle.evidence_text.proofs.EndingLemmas.{said_line, IsSaid, last_words-back, level-said, vars-small}
 
 -- ---- a derivation
 
@@ -72,8 +77,8 @@ witnesses-back vars (g ∷ gs) at (w ∷ ws) ls small few count each =
 
 -- steps are no number of an earlier record
 steps-first : (vars g at : ℕ) (steps : List Step) (id : ℕ) (ls : List Line)
-    → refutation_at Two vars g at (proof_lines (Refutes g) steps id ++ ls) ≡ steps_at vars g at (proof_lines (Refutes g) steps id ++ ls)
-unfolding refutation_at
+    → reference_or_steps_at vars g at (proof_lines (Refutes g) steps id ++ ls) ≡ steps_at vars g at (proof_lines (Refutes g) steps id ++ ls)
+unfolding reference_or_steps_at
 steps-first vars g at [] id ls = refl
 steps-first vars g at (s ∷ ss) id ls = refl
 
@@ -82,14 +87,21 @@ steps-back : (vars g at : ℕ) (d : Derivation) (ls : List Line) → vars < 2 ^ 
 steps-back vars g at d ls small few ok =
     bind-back _ _ (d, below (at + length (derivation_lines g d)) ls) _ (proof-back vars (Refutes g) at d.steps d.goal ls small few ok.steps ok.goal) refl
 
+-- the number of an earlier record
+reference-back : (vars g at i : ℕ) (ls : List Line) → g < 2 ^ 64 → IsId i
+    → reference_or_steps_at vars g at (refutation_lines g (Earlier i) ++ ls) ≡ Ok (Earlier i, below (at + length (refutation_lines g (Earlier i))) ls)
+unfolding reference_or_steps_at
+reference-back vars g at i ls few ok = bind-back _ _ i _ (ap (λ r. at_line at r) (goal-back (Refutes g) i few ok)) refl
+
 refutation-back : (version : Version) (vars g at : ℕ) (r : Refutation) (ls : List Line) → vars < 2 ^ 64 → g < 2 ^ 64 → IsReadableRefutation version vars r
     → refutation_at version vars g at (refutation_lines g r ++ ls) ≡ Ok (r, below (at + length (refutation_lines g r)) ls)
 unfolding refutation_at
 refutation-back One vars g at (Steps d) ls small few ok = steps-back vars g at d ls small few ok
 refutation-back One vars g at (Earlier i) ls small few ok = absurd ok
 refutation-back Two vars g at (Steps d) ls small few ok = steps-first vars g at d.steps d.goal ls ∙ steps-back vars g at d ls small few ok
-refutation-back Two vars g at (Earlier i) ls small few ok =
-    bind-back _ _ i _ (ap (λ r. at_line at r) (goal-back (Refutes g) i few ok)) refl
+refutation-back Two vars g at (Earlier i) ls small few ok = reference-back vars g at i ls few ok
+refutation-back Three vars g at (Steps d) ls small few ok = steps-first vars g at d.steps d.goal ls ∙ steps-back vars g at d ls small few ok
+refutation-back Three vars g at (Earlier i) ls small few ok = reference-back vars g at i ls few ok
 
 pub refutations-back : (version : Version) (vars : ℕ) (gs : List ℕ) (at : ℕ) (rs : List Refutation) (ls : List Line) → vars < 2 ^ 64
     → AllByRecursion (λ g. g < 2 ^ 64) gs → length rs ≡ length gs → AllByRecursion (IsReadableRefutation version vars) rs
@@ -141,17 +153,17 @@ correction-back version p set w rs at ls small (ok, len, count, each) =
     (refutations-back version (p.vars + p.groups) set (at + 1) rs ls small (few_groups p set small ok) count each)
     (ap (λ (n : ℕ). Ok (record_of.Correction set w rs, below n ls)) next))
 
-pub record-back : (version : Version) (p : Problem) (r : Record) (rest : List ℕ) (at : ℕ) (ls : List Line) → p.vars + p.groups < 2 ^ 64 → IsReadable version p r
-    → piece_at version p rest at (record_lines r ++ ls) ≡ Ok (answer.Record r, below (at + length (record_lines r)) ls)
+pub record-back : (version : Version) (p : Problem) (n : Namings) (r : Record) (rest : List ℕ) (at : ℕ) (ls : List Line) → p.vars + p.groups < 2 ^ 64 → IsReadable version p r
+    → piece_at version p n rest at (record_lines r ++ ls) ≡ Ok (answer.Record r, below (at + length (record_lines r)) ls)
 unfolding piece_at
-record-back version p (record_of.Conflict set d ws) rest at ls small ok =
+record-back version p n (record_of.Conflict set d ws) rest at ls small ok =
     let tail : List Line = derivation_lines 0 d ++ witnesses_lines set ws in
     let r : Record = record_of.Conflict set d ws in
     let next : at + 1 + length tail ≡ at + length (record_lines r) = omega arith in
     bind-back _ _ set _ (ap (λ x. at_line at x) (set-back p.groups set (omega arith) ok.0))
     (bind-back _ _ (r, below (at + 1 + length tail) ls) _ (conflict-back version p set d ws (at + 1) ls small ok)
     (ap (λ (n : ℕ). Ok (answer.Record r, below n ls)) next))
-record-back version p (record_of.Correction set w rs) rest at ls small ok =
+record-back version p n (record_of.Correction set w rs) rest at ls small ok =
     let tail : List Line = witness_line 0 w ∷ refutations_lines set rs in
     let r : Record = record_of.Correction set w rs in
     let next : at + 1 + length tail ≡ at + length (record_lines r) = omega arith in
@@ -161,49 +173,63 @@ record-back version p (record_of.Correction set w rs) rest at ls small ok =
 
 -- ---- the end
 
-complete-back : (at : ℕ) (ls : List Line) → complete_at at (end_line (codes "complete") ∷ ls) ≡ Ok (below (at + 1) ls)
-unfolding complete_at
-complete-back at ls = bind-back _ _ tt _ (ap (λ r. at_line at r) (last_word-back (codes "complete"))) refl
+last_line-back : (version : Version) (groups : ℕ) (n : Namings) (says : End (Unit {0})) (at : ℕ) (ls : List Line) → groups < 2 ^ 64
+    → IsSaid version groups n says → last_line_at version groups n at (said_line says ∷ ls) ≡ Ok (says, below (at + 1) ls)
+unfolding last_line_at
+last_line-back version groups n ends.Partial at ls small said = absurd said
+last_line-back version groups n (ends.Complete x) at ls small said =
+    bind-back _ _ (ends.Complete x) _ (ap (λ r. at_line at r) (last_words-back version groups n (ends.Complete x) small said)) refl
+last_line-back version groups n (ends.Level kind most x) at ls small said =
+    bind-back _ _ (ends.Level kind most x) _ (ap (λ r. at_line at r) (last_words-back version groups n (ends.Level kind most x) small said)) refl
 
-closing-back : (p : Problem) (d : Derivation) (at : ℕ) → p.vars + p.groups < 2 ^ 64 → IsReadableProof p.groups d
-    → closing_at p at (end_lines (Some d)) ≡ Ok (d, below (at + length (end_lines (Some d))) [])
+closing-back : (version : Version) (p : Problem) (n : Namings) (d : Derivation) (says : End (Unit {0})) (at : ℕ) → p.vars + p.groups < 2 ^ 64
+    → IsReadableProof (closing_vars version p.groups) d → IsSaid version p.groups n says
+    → closing_at version p n at (closing_lines d (said_line says)) ≡ Ok (end_map (λ x. d) says, below (at + length (closing_lines d (said_line says))) [])
 unfolding closing_at
-closing-back p d at small ok =
+closing-back version p n d says at small ok said =
     let first : List Line = proof_lines Exhausts d.steps d.goal in
-    let last : List Line = end_line (codes "complete") ∷ [] in
-    let whole : end_lines (Some d) ≡ first ++ last = sym (append_assoc (map step_line d.steps) (exhaustion_line d.goal ∷ []) last) in
-    let next : at + length first + 1 ≡ at + length (end_lines (Some d)) = omega (arith, ap length whole, length-append first last) in
-    ap (λ (ks : List Line). closing_at p at ks) whole
-    ∙ bind-back _ _ (d, below (at + length first) last) _ (proof-back p.groups Exhausts at d.steps d.goal last (omega arith) tt ok.steps ok.goal)
-    (bind-back _ _ (below (at + length first + 1) []) _ (complete-back (at + length first) [])
-    (ap (λ (n : ℕ). Ok (d, below n [])) next))
+    let last : List Line = said_line says ∷ [] in
+    let whole : closing_lines d (said_line says) ≡ first ++ last = sym (append_assoc (map step_line d.steps) (exhaustion_line d.goal ∷ []) last) in
+    let next : at + length first + 1 ≡ at + length (closing_lines d (said_line says)) = omega (arith, ap length whole, length-append first last) in
+    ap (λ (ks : List Line). closing_at version p n at ks) whole
+    ∙ bind-back _ _ (d, below (at + length first) last) _
+    (proof-back (closing_vars version p.groups) Exhausts at d.steps d.goal last (vars-small version p.groups (omega arith)) tt ok.steps ok.goal)
+    (bind-back _ _ (says, below (at + length first + 1) []) _ (last_line-back version p.groups n says (at + length first) [] (omega arith) said)
+    (ap (λ (k : ℕ). Ok (end_map (λ x. d) says, below k [])) next))
 
 -- no record begins like a closing part
-closing-first : (version : Version) (p : Problem) (steps : List Step) (id at : ℕ) (ls : List Line)
-    → piece_at version p [] at (map step_line steps ++ exhaustion_line id ∷ ls)
-    ≡ (closing_at p at (map step_line steps ++ exhaustion_line id ∷ ls) >>= λ d. nothing_behind [] (Some d.0) d.1)
+closing-first : (version : Version) (p : Problem) (n : Namings) (steps : List Step) (id at : ℕ) (ls : List Line)
+    → piece_at version p n [] at (map step_line steps ++ exhaustion_line id ∷ ls)
+    ≡ (closing_at version p n at (map step_line steps ++ exhaustion_line id ∷ ls) >>= λ closing. nothing_behind [] closing.0 closing.1)
 unfolding piece_at
-closing-first version p [] id at ls = refl
-closing-first version p (s ∷ ss) id at ls = refl
+closing-first version p n [] id at ls = refl
+closing-first version p n (s ∷ ss) id at ls = refl
 
-pub end-back : (version : Version) (p : Problem) (closing : Option Derivation) (at : ℕ) → p.vars + p.groups < 2 ^ 64 → IsReadableEnd p closing
-    → piece_at version p [] at (end_lines closing) ≡ Ok (answer.End closing, below (at + length (end_lines closing)) [])
+pub end-back : (version : Version) (p : Problem) (n : Namings) (ending : End Derivation) (at : ℕ) → p.vars + p.groups < 2 ^ 64
+    → IsReadableEndBy version p n ending → piece_at version p n [] at (end_lines ending) ≡ Ok (answer.End ending, below (at + length (end_lines ending)) [])
 unfolding piece_at
-end-back version p None at small ok =
+end-back version p n ends.Partial at small ok =
     bind-back _ _ tt _ (ap (λ r. at_line at r) (last_word-back (codes "partial"))) refl
-end-back version p (Some d) at small ok =
-    closing-first version p d.steps d.goal at (end_line (codes "complete") ∷ [])
-    ∙ bind-back _ _ (d, below (at + length (end_lines (Some d))) []) _ (closing-back p d at small ok) refl
+end-back version p n (ends.Complete d) at small ok =
+    closing-first version p n d.steps d.goal at (end_line (codes "complete") ∷ [])
+    ∙ bind-back _ _ (ends.Complete d, below (at + length (end_lines (ends.Complete d))) []) _ (closing-back version p n d (ends.Complete tt) at small ok tt) refl
+end-back version p n (ends.Level kind most d) at small ok =
+    let (said, good) = level-said version p.groups most (level_by p.groups most (naming_for kind n)) d ok in
+    closing-first version p n d.steps d.goal at (level_line kind most ∷ [])
+    ∙ bind-back _ _ (ends.Level kind most d, below (at + length (end_lines (ends.Level kind most d))) []) _
+    (closing-back version p n d (ends.Level kind most tt) at small good said) refl
 
 -- ---- the head
 
-version-back : (version : Version) (rest : List Word) → number_at 1 2 (decimal (version_number version) ∷ rest) ≡ Ok (version_number version, rest)
-version-back One rest = number-back 1 2 1 rest (omega arith) (omega arith) (omega arith)
-version-back Two rest = number-back 1 2 2 rest (omega arith) (omega arith) (omega arith)
+version-back : (version : Version) (rest : List Word) → number_at 1 3 (decimal (version_number version) ∷ rest) ≡ Ok (version_number version, rest)
+version-back One rest = number-back 1 3 1 rest (omega arith) (omega arith) (omega arith)
+version-back Two rest = number-back 1 3 2 rest (omega arith) (omega arith) (omega arith)
+version-back Three rest = number-back 1 3 3 rest (omega arith) (omega arith) (omega arith)
 
 version_of-number : (version : Version) → version_of (version_number version) ≡ version
 version_of-number One = refl
 version_of-number Two = refl
+version_of-number Three = refl
 
 count-back : (n : ℕ) (rest : List Word) → n < 2 ^ 64 → number_at 0 (2 ^ 64 - 1) (decimal n ∷ rest) ≡ Ok (n, rest)
 count-back n rest small = number-back 0 (2 ^ 64 - 1) n rest small (omega arith) (omega arith)
@@ -220,7 +246,7 @@ abbrev vars_at : Version → List Word → Result (Version × Counts) Why
 vars_at version ws = number_at 0 (2 ^ 64 - 1) ws >>= λ v. clauses_at version v.0 v.1
 
 abbrev version_at : List Word → Result (Version × Counts) Why
-version_at ws = number_at 1 2 ws >>= λ n. vars_at (version_of n.0) n.1
+version_at ws = number_at 1 3 ws >>= λ n. vars_at (version_of n.0) n.1
 
 counts-back : (version : Version) (p : Problem) → IsSmall p → counts_at (behind (head_line version p)) ≡ Ok (version, counts_of p)
 unfolding counts_at

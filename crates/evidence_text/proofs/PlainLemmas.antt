@@ -11,18 +11,25 @@ use Rattle.std.proofs.lemmas.List.Splits.{slice_split-cons_yes, slice_split-cons
 use Rattle.sat_base.specs.Literals.{IsLiteral}
 use Rattle.sat_base.specs.Derivation.{Step, Derivation}
 use Rattle.gm_base.specs.Problem.{Problem}
+use Rattle.gm_base.specs.declared.kind.Kind.{Kind}
+use Rattle.gm_base.specs.declared.kind.Kind.TheVariants.{Conflict, Correction}
 use Rattle.evidence_rec.specs.declared.record.Record.{Record}
+use Rattle.evidence_rec.specs.Records.{founds}
 use Rattle.evidence_rec.specs.declared.record.Record.TheVariants as record_of
 use Rattle.evidence_rec.specs.declared.record.Refutation.{Refutation}
 use Rattle.evidence_rec.specs.declared.record.Refutation.TheVariants.{Steps, Earlier}
 use Rattle.evidence_text.specs.declared.version.Version.{Version}
-use Rattle.evidence_text.specs.declared.version.Version.TheVariants.{One, Two}
-use Rattle.evidence_text.specs.Text.{Word, Line, spaced, line_text, text_of, version_number, head_line, set_line, step_line, goal_line, reference_line, witness_line, trues_from, exhaustion_line, end_line, derivation_lines, refutation_lines, refutations_lines, witnesses_lines, record_lines, record_text, end_lines, head_text, end_text, evidence_text}
+use Rattle.evidence_text.specs.declared.version.Version.TheVariants.{One, Two, Three}
+use Rattle.evidence_text.specs.declared.end.End.{End}
+use Rattle.evidence_text.specs.declared.end.End.TheVariants as ends
+use Rattle.evidence_text.specs.Namings.{Namings, namings_of}
+use Rattle.evidence_text.specs.Text.{Word, Line, spaced, line_text, text_of, version_number, head_line, set_line, step_line, goal_line, reference_line, witness_line, trues_from, exhaustion_line, end_line, kind_word, level_line, closing_lines, derivation_lines, refutation_lines, refutations_lines, witnesses_lines, record_lines, record_text, end_lines, head_text, end_text, evidence_text}
 use Rattle.evidence_text.specs.Lines.{is_newline, is_blank, before_lines, ended_lines, unended, unended_from, words_of, lines_of}
-use Rattle.evidence_text.specs.Readable.{IsId, IsReadableStep, IsReadableProof, IsReadableRefutation, IsSetUpTo, IsReadable, IsReadableEnd, IsSmall}
+use Rattle.evidence_text.specs.Readable.{IsId, IsReadableStep, IsReadableProof, IsReadableRefutation, IsSetUpTo, IsReadable, max_var, closing_vars, IsReadableEndBy, IsReadableEnd, IsSmall}
 use Rattle.evidence_text.proofs.TextLemmas.{text_of-append}
 use Rattle.evidence_text.proofs.WordsLemmas.{all-then}
 use Rattle.evidence_text.proofs.WordsBackLemmas.{trues-in_range}
+use Rattle.evidence_text.proofs.EndingLemmas.{vars-small}
 use Rattle.evidence_text.proofs.StandsLemmas.{few_groups}
 
 -- neither LF nor a blank
@@ -206,6 +213,7 @@ refutation-plain : (version : Version) (vars g : ℕ) (r : Refutation) → vars 
 refutation-plain version vars g (Steps d) small few ok = derivation-plain vars g d small few ok
 refutation-plain One vars g (Earlier i) small few ok = absurd ok
 refutation-plain Two vars g (Earlier i) small few ok = (reference-plain g i few ok, tt)
+refutation-plain Three vars g (Earlier i) small few ok = (reference-plain g i few ok, tt)
 
 witnesses-plain : (vars : ℕ) (gs : List ℕ) (ws : List (List Bool)) → vars < 2 ^ 64 → AllByRecursion (λ g. g < 2 ^ 64) gs
     → AllByRecursion (λ (w : List Bool). length w ≡ vars) ws → AllByRecursion IsPlainLine (witnesses_lines gs ws)
@@ -241,15 +249,33 @@ records-plain version p [] small all = tt
 records-plain version p (r ∷ rs) small all =
     all-append IsPlainLine (record_lines r) (flat_map record_lines rs) (record-plain version p r small all.0) (records-plain version p rs small all.1)
 
-end-plain : (p : Problem) (closing : Option Derivation) → p.vars + p.groups < 2 ^ 64 → IsReadableEnd p closing → AllByRecursion IsPlainLine (end_lines closing)
-end-plain p None small ok = ((plain-from (codes "e") refl, (plain-from (codes "partial") refl, tt)), tt)
-end-plain p (Some d) small ok =
-    all-append IsPlainLine (map step_line d.steps) (exhaustion_line d.goal ∷ end_line (codes "complete") ∷ []) (steps-plain p.groups d.steps (omega arith) ok.steps)
-    ((plain-from (codes "x") refl, (id-plain d.goal ok.goal, tt)), ((plain-from (codes "e") refl, (plain-from (codes "complete") refl, tt)), tt))
+kind-plain : (kind : Kind) → IsPlainWord (kind_word kind)
+kind-plain Conflict = plain-from (codes "conflicts") refl
+kind-plain Correction = plain-from (codes "corrections") refl
+
+closing-plain : (vars : ℕ) (d : Derivation) (last : Line) → vars < 2 ^ 64 → IsReadableProof vars d → IsPlainLine last → AllByRecursion IsPlainLine (closing_lines d last)
+closing-plain vars d last small ok plain =
+    all-append IsPlainLine (map step_line d.steps) (exhaustion_line d.goal ∷ last ∷ []) (steps-plain vars d.steps small ok.steps)
+    ((plain-from (codes "x") refl, (id-plain d.goal ok.goal, tt)), (plain, tt))
+
+level-plain : (kind : Kind) (most : ℕ) → most < 2 ^ 64 → IsPlainLine (level_line kind most)
+level-plain kind most small = (plain-from (codes "e") refl, (kind-plain kind, (decimal-plain most small, tt)))
+
+end-plain : (version : Version) (p : Problem) (n : Namings) (ending : End Derivation) → p.vars + p.groups < 2 ^ 64 → IsReadableEndBy version p n ending
+    → AllByRecursion IsPlainLine (end_lines ending)
+end-plain version p n ends.Partial small ok = ((plain-from (codes "e") refl, (plain-from (codes "partial") refl, tt)), tt)
+end-plain version p n (ends.Complete d) small ok =
+    closing-plain (closing_vars version p.groups) d (end_line (codes "complete")) (vars-small version p.groups (omega arith)) ok
+    (plain-from (codes "e") refl, (plain-from (codes "complete") refl, tt))
+end-plain One p n (ends.Level kind most d) small ok = absurd ok
+end-plain Two p n (ends.Level kind most d) small ok = absurd ok
+end-plain Three p n (ends.Level kind most d) small ok =
+    let le = ok.0 in closing-plain max_var d (level_line kind most) (omega arith) ok.2 (level-plain kind most (omega arith))
 
 version-small : (version : Version) → version_number version < 2 ^ 64
 version-small One = omega arith
 version-small Two = omega arith
+version-small Three = omega arith
 
 head-plain : (version : Version) (p : Problem) → IsSmall p → IsPlainLine (head_line version p)
 head-plain version p ok =
@@ -261,8 +287,8 @@ head-plain version p ok =
 -- ---- a whole text
 
 -- the head, the records and the end
-abbrev pub whole_lines : Version → Problem → List Record → Option Derivation → List Line
-whole_lines version p rs closing = head_line version p ∷ (flat_map record_lines rs ++ end_lines closing)
+abbrev pub whole_lines : Version → Problem → List Record → End Derivation → List Line
+whole_lines version p rs ending = head_line version p ∷ (flat_map record_lines rs ++ end_lines ending)
 
 -- the lines of records write their texts
 pub records-text : (rs : List Record) → text_of (flat_map record_lines rs) ≡ flat_map record_text rs
@@ -270,26 +296,26 @@ records-text [] = refl
 records-text (r ∷ rs) = text_of-append (record_lines r) (flat_map record_lines rs) ∙ ap (λ (bs : List ℕ). record_text r ++ bs) (records-text rs)
 
 -- its lines write it
-pub whole-text : (version : Version) (p : Problem) (rs : List Record) (closing : Option Derivation)
-    → text_of (whole_lines version p rs closing) ≡ evidence_text version p rs closing
-whole-text version p rs closing =
+pub whole-text : (version : Version) (p : Problem) (rs : List Record) (ending : End Derivation)
+    → text_of (whole_lines version p rs ending) ≡ evidence_text version p rs ending
+whole-text version p rs ending =
     ap (λ (bs : List ℕ). head_text version p ++ bs)
-    (text_of-append (flat_map record_lines rs) (end_lines closing) ∙ ap (λ (bs : List ℕ). bs ++ end_text closing) (records-text rs))
-    ∙ sym (append_assoc (head_text version p) (flat_map record_text rs) (end_text closing))
+    (text_of-append (flat_map record_lines rs) (end_lines ending) ∙ ap (λ (bs : List ℕ). bs ++ end_text ending) (records-text rs))
+    ∙ sym (append_assoc (head_text version p) (flat_map record_text rs) (end_text ending))
 
-whole-plain : (version : Version) (p : Problem) (rs : List Record) (closing : Option Derivation) → IsSmall p → AllByRecursion (IsReadable version p) rs
-    → IsReadableEnd p closing → AllByRecursion IsPlainLine (whole_lines version p rs closing)
-whole-plain version p rs closing small all ok = (
+whole-plain : (version : Version) (p : Problem) (rs : List Record) (ending : End Derivation) → IsSmall p → AllByRecursion (IsReadable version p) rs
+    → IsReadableEnd version p (founds rs) ending → AllByRecursion IsPlainLine (whole_lines version p rs ending)
+whole-plain version p rs ending small all ok = (
   head-plain version p small,
-  all-append IsPlainLine (flat_map record_lines rs) (end_lines closing) (records-plain version p rs small.numbers all) (end-plain p closing small.numbers ok),
+  all-append IsPlainLine (flat_map record_lines rs) (end_lines ending) (records-plain version p rs small.numbers all) (end-plain version p (namings_of (founds rs)) ending small.numbers ok),
 )
 
-pub lines_of-whole : (version : Version) (p : Problem) (rs : List Record) (closing : Option Derivation) → IsSmall p → AllByRecursion (IsReadable version p) rs
-    → IsReadableEnd p closing → lines_of (evidence_text version p rs closing) ≡ whole_lines version p rs closing
-lines_of-whole version p rs closing small all ok =
-    ap lines_of (sym (whole-text version p rs closing)) ∙ lines-back (whole_lines version p rs closing) (whole-plain version p rs closing small all ok)
+pub lines_of-whole : (version : Version) (p : Problem) (rs : List Record) (ending : End Derivation) → IsSmall p → AllByRecursion (IsReadable version p) rs
+    → IsReadableEnd version p (founds rs) ending → lines_of (evidence_text version p rs ending) ≡ whole_lines version p rs ending
+lines_of-whole version p rs ending small all ok =
+    ap lines_of (sym (whole-text version p rs ending)) ∙ lines-back (whole_lines version p rs ending) (whole-plain version p rs ending small all ok)
 
-pub unended-whole : (version : Version) (p : Problem) (rs : List Record) (closing : Option Derivation) → IsSmall p → AllByRecursion (IsReadable version p) rs
-    → IsReadableEnd p closing → unended (evidence_text version p rs closing) ≡ []
-unended-whole version p rs closing small all ok =
-    ap unended (sym (whole-text version p rs closing)) ∙ lines-unended (whole_lines version p rs closing) (whole-plain version p rs closing small all ok)
+pub unended-whole : (version : Version) (p : Problem) (rs : List Record) (ending : End Derivation) → IsSmall p → AllByRecursion (IsReadable version p) rs
+    → IsReadableEnd version p (founds rs) ending → unended (evidence_text version p rs ending) ≡ []
+unended-whole version p rs ending small all ok =
+    ap unended (sym (whole-text version p rs ending)) ∙ lines-unended (whole_lines version p rs ending) (whole-plain version p rs ending small all ok)

@@ -18,12 +18,16 @@ use Rattle.evidence_text.specs.declared.offence.Offence.{Offence}
 use Rattle.evidence_text.specs.declared.answer.Answer.{Answer}
 use Rattle.evidence_text.specs.declared.answer.Answer.TheVariants as answer
 use Rattle.evidence_text.specs.declared.version.Version.{Version}
-use Rattle.evidence_text.specs.declared.version.Version.TheVariants.{One, Two}
-use Rattle.evidence_text.specs.Text.{Word, Line, version_number, head_line, set_line, step_line, goal_line, witness_line, exhaustion_line, end_line, refutation_lines, refutations_lines, witnesses_lines, record_lines, end_lines}
-use Rattle.evidence_text.specs.Reading.{Below, below, at_line, behind, is_letter, goal_letter, version_of, with_step, word_at, number_at, counts_at, set_at, step_at, witness_at, goal_at, last_word_at, proof_at, witness_line_at, witnesses_at, steps_at, refutation_at, refutations_at, conflict_at, correction_at, complete_at, closing_at, is_nothing, nothing_behind, piece_at, counts_of, same_counts, head_words_at, head_at}
-use Rattle.evidence_text.specs.Readable.{IsReadableProof, IsReadableRefutation, IsSetUpTo, IsReadable, IsReadableEnd}
+use Rattle.evidence_text.specs.declared.version.Version.TheVariants.{One, Two, Three}
+use Rattle.evidence_text.specs.declared.end.End.{End}
+use Rattle.evidence_text.specs.declared.end.End.TheVariants as ends
+use Rattle.evidence_text.specs.Text.{Word, Line, version_number, head_line, set_line, step_line, goal_line, witness_line, exhaustion_line, end_line, refutation_lines, refutations_lines, witnesses_lines, record_lines, end_map, end_lines}
+use Rattle.evidence_text.specs.Namings.{Namings}
+use Rattle.evidence_text.specs.Reading.{Below, below, at_line, behind, is_letter, goal_letter, version_of, with_step, word_at, number_at, counts_at, set_at, step_at, witness_at, goal_at, last_word_at, proof_at, witness_line_at, witnesses_at, steps_at, reference_or_steps_at, refutation_at, refutations_at, conflict_at, correction_at, last_words_at, last_line_at, closing_at, is_nothing, nothing_behind, piece_at, counts_of, same_counts, head_words_at, head_at}
+use Rattle.evidence_text.specs.Readable.{IsId, MayRefer, IsReference, IsReadableProof, IsReadableRefutation, IsSetUpTo, IsReadable, closing_vars, IsReadableEndBy}
 use Rattle.evidence_text.specs.Laws.{PieceStands}
 use Rattle.evidence_text.proofs.WordsLemmas.{bind-ok, cond-cases, pair-is, all-then, number-ok, word-ok, line_end-ok, set-ok, step-ok, witness-ok, goal-ok, last_word-ok, goal_words, IsSmallGoal}
+use Rattle.evidence_text.proofs.EndingLemmas.{said_line, IsSaid, last_words-ok, closing-lines, said-readable, vars-small}
 
 at_line-ok : {X : Type 0} (line : ℕ) (r : Result X Why) (x : X) → at_line line r ≡ Ok x → r ≡ Ok x
 at_line-ok line (Ok y) x h = let same : y ≡ x = cc in ap (λ z. Ok z) same
@@ -114,7 +118,7 @@ witnesses-ok vars (g ∷ gs) at ls ws b small few h =
       subst (AllByRecursion (λ (v : List Bool). length v ≡ vars)) e (len, each),
     )
 
--- steps are readable in either version
+-- steps are readable in each version
 steps-ok : (vars g at : ℕ) (ls : List Line) (r : Refutation) (b : Below) → vars < 2 ^ 64 → g < 2 ^ 64 → steps_at vars g at ls ≡ Ok (r, b)
     → (ls ≡ refutation_lines g r ++ b.lines) × ((version : Version) → IsReadableRefutation version vars r)
 steps-ok vars g at ls r b small few h =
@@ -127,12 +131,18 @@ steps-ok vars g at ls r b small few h =
       λ version. subst (IsReadableRefutation version vars) e good,
     )
 
-refutation-ok : (version : Version) (vars g at : ℕ) (ls : List Line) (r : Refutation) (b : Below) → vars < 2 ^ 64 → g < 2 ^ 64
-    → refutation_at version vars g at ls ≡ Ok (r, b) → (ls ≡ refutation_lines g r ++ b.lines) × IsReadableRefutation version vars r
-unfolding refutation_at
-refutation-ok One vars g at ls r b small few h = let (lines, good) = steps-ok vars g at ls r b small few h in (lines, good One)
-refutation-ok Two vars g at [] r b small few h = cc
-refutation-ok Two vars g at (l ∷ ls) r b small few h =
+-- a version that may name earlier records has each number of one
+pub reference-of : (version : Version) (i : ℕ) → MayRefer version → IsId i → IsReference version i
+reference-of One i may is = absurd may
+reference-of Two i may is = is
+reference-of Three i may is = is
+
+reference_or_steps-ok : (vars g at : ℕ) (ls : List Line) (r : Refutation) (b : Below) → vars < 2 ^ 64 → g < 2 ^ 64
+    → reference_or_steps_at vars g at ls ≡ Ok (r, b)
+    → (ls ≡ refutation_lines g r ++ b.lines) × ((version : Version) → MayRefer version → IsReadableRefutation version vars r)
+unfolding reference_or_steps_at
+reference_or_steps-ok vars g at [] r b small few h = cc
+reference_or_steps-ok vars g at (l ∷ ls) r b small few h =
     elim (cond-cases (is_letter 116 l) _ _ (Ok (r, b)) h) [
       | inl is ↦
           let (i, a, same) = bind-ok (at_line at (goal_at (Refutes g) (behind l))) _ (r, b) is.1 in
@@ -141,10 +151,17 @@ refutation-ok Two vars g at (l ∷ ls) r b small few h =
           let (words, good) = goal-ok (Refutes g) (behind l) i few (at_line-ok at (goal_at (Refutes g) (behind l)) i a) in (
             ap (λ (k : Line). k ∷ ls) (letter-ok 116 l (omega arith) is.0 ∙ ap (λ (ws : List Word). codes "t" ∷ ws) words)
                 ∙ ap₂ (λ (x : Refutation) (c : Below). refutation_lines g x ++ c.lines) e f,
-            subst (IsReadableRefutation Two vars) e good,
+            λ version may. subst (IsReadableRefutation version vars) e (reference-of version i may good),
           )
-      | inr other ↦ let (lines, good) = steps-ok vars g at (l ∷ ls) r b small few other.1 in (lines, good Two)
+      | inr other ↦ let (lines, good) = steps-ok vars g at (l ∷ ls) r b small few other.1 in (lines, λ version may. good version)
     ]
+
+refutation-ok : (version : Version) (vars g at : ℕ) (ls : List Line) (r : Refutation) (b : Below) → vars < 2 ^ 64 → g < 2 ^ 64
+    → refutation_at version vars g at ls ≡ Ok (r, b) → (ls ≡ refutation_lines g r ++ b.lines) × IsReadableRefutation version vars r
+unfolding refutation_at
+refutation-ok One vars g at ls r b small few h = let (lines, good) = steps-ok vars g at ls r b small few h in (lines, good One)
+refutation-ok Two vars g at ls r b small few h = let (lines, good) = reference_or_steps-ok vars g at ls r b small few h in (lines, good Two tt)
+refutation-ok Three vars g at ls r b small few h = let (lines, good) = reference_or_steps-ok vars g at ls r b small few h in (lines, good Three tt)
 
 refutations-ok : (version : Version) (vars : ℕ) (gs : List ℕ) (at : ℕ) (ls : List Line) (rs : List Refutation) (b : Below) → vars < 2 ^ 64
     → AllByRecursion (λ g. g < 2 ^ 64) gs → refutations_at version vars gs at ls ≡ Ok (rs, b)
@@ -208,56 +225,61 @@ correction-ok version p set at ls r b small ok h =
 
 -- ---- the end
 
-complete-ok : (at : ℕ) (ls : List Line) (b : Below) → complete_at at ls ≡ Ok b → ls ≡ end_line (codes "complete") ∷ b.lines
-unfolding complete_at
-complete-ok at [] b h = cc
-complete-ok at (l ∷ ls) b h =
-    elim (cond-cases (is_letter 101 l) _ _ (Ok b) h) [
+last_line-ok : (version : Version) (groups : ℕ) (n : Namings) (at : ℕ) (ls : List Line) (says : End (Unit {0})) (b : Below) → groups < 2 ^ 64
+    → last_line_at version groups n at ls ≡ Ok (says, b) → (ls ≡ said_line says ∷ b.lines) × IsSaid version groups n says
+unfolding last_line_at
+last_line-ok version groups n at [] says b small h = cc
+last_line-ok version groups n at (l ∷ ls) says b small h =
+    elim (cond-cases (is_letter 101 l) _ _ (Ok (says, b)) h) [
       | inl is ↦
-          let (u, a, same) = bind-ok (at_line at (last_word_at (codes "complete") (behind l))) _ b is.1 in
-          let below_is : below (at + 1) ls ≡ b = cc in
-          ap (λ (k : Line). k ∷ ls)
-          (letter-ok 101 l (omega arith) is.0
-          ∙ ap (λ (ws : List Word). codes "e" ∷ ws) (last_word-ok (codes "complete") (behind l) u (at_line-ok at (last_word_at (codes "complete") (behind l)) u a)))
-          ∙ ap (λ (c : Below). end_line (codes "complete") ∷ c.lines) below_is
+          let (x, a, same) = bind-ok (at_line at (last_words_at version groups n (behind l))) _ (says, b) is.1 in
+          let (e, f) = pair-is x says (below (at + 1) ls) b (Ok (x, below (at + 1) ls)) refl same in
+          let (line, said) = last_words-ok version groups n (behind l) x small (at_line-ok at (last_words_at version groups n (behind l)) x a) in (
+            ap (λ (k : Line). k ∷ ls) (letter-ok 101 l (omega arith) is.0 ∙ line)
+                ∙ ap₂ (λ (x : End (Unit {0})) (c : Below). said_line x ∷ c.lines) e f,
+            subst (IsSaid version groups n) e said,
+          )
       | inr none ↦ cc (none.1)
     ]
 
-closing-ok : (p : Problem) (at : ℕ) (ls : List Line) (d : Derivation) (b : Below) → p.vars + p.groups < 2 ^ 64
-    → closing_at p at ls ≡ Ok (d, b) → (ls ≡ end_lines (Some d) ++ b.lines) × IsReadableProof p.groups d
+closing-ok : (version : Version) (p : Problem) (n : Namings) (at : ℕ) (ls : List Line) (ending : End Derivation) (b : Below) → p.vars + p.groups < 2 ^ 64
+    → closing_at version p n at ls ≡ Ok (ending, b) → (ls ≡ end_lines ending ++ b.lines) × IsReadableEndBy version p n ending
 unfolding closing_at
-closing-ok p at ls d b small h =
-    let (r, a, h1) = bind-ok (proof_at p.groups Exhausts at ls) _ (d, b) h in
-    let (c, z, same) = bind-ok (complete_at r.1.at r.1.lines) _ (d, b) h1 in
-    let (e, f) = pair-is r.0 d c b (Ok (r.0, c)) refl same in
-    let (lines, good) = proof-ok p.groups Exhausts at ls r.0 r.1 (omega arith) tt a in (
-      lines ∙ ap (λ (ks : List Line). map step_line r.0.steps ++ exhaustion_line r.0.goal ∷ ks) (complete-ok r.1.at r.1.lines c z)
-          ∙ sym (append_assoc (map step_line r.0.steps) (exhaustion_line r.0.goal ∷ end_line (codes "complete") ∷ []) c.lines)
-          ∙ ap₂ (λ (x : Derivation) (k : Below). end_lines (Some x) ++ k.lines) e f,
-      subst (IsReadableProof p.groups) e good,
+closing-ok version p n at ls ending b small h =
+    let vars = closing_vars version p.groups in
+    let (r, a, h1) = bind-ok (proof_at vars Exhausts at ls) _ (ending, b) h in
+    let (last, z, same) = bind-ok (last_line_at version p.groups n r.1.at r.1.lines) _ (ending, b) h1 in
+    let made : End Derivation = end_map (λ x. r.0) last.0 in
+    let (e, f) = pair-is made ending last.1 b (Ok (made, last.1)) refl same in
+    let (lines, good) = proof-ok vars Exhausts at ls r.0 r.1 (vars-small version p.groups (omega arith)) tt a in
+    let (line, said) = last_line-ok version p.groups n r.1.at r.1.lines last.0 last.1 (omega arith) z in (
+      lines ∙ ap (λ (ks : List Line). map step_line r.0.steps ++ exhaustion_line r.0.goal ∷ ks) line
+          ∙ closing-lines version p.groups n r.0 last.0 last.1.lines said
+          ∙ ap₂ (λ (x : End Derivation) (k : Below). end_lines x ++ k.lines) e f,
+      subst (IsReadableEndBy version p n) e (said-readable version p n r.0 last.0 good said),
     )
 
 no-items : {X : Type 0} (xs : List X) → eqb (length xs) 0 ≡ true → xs ≡ []
 no-items [] h = refl
 no-items (x ∷ xs) h = absurd (let e = eqb-true (length (x ∷ xs)) 0 h in omega arith)
 
-nothing-ok : (rest : List ℕ) (closing : Option Derivation) (c : Below) (a : Answer) (b : Below) → nothing_behind rest closing c ≡ Ok (a, b)
-    → (c.lines ≡ []) × (rest ≡ []) × (answer.End closing ≡ a)
-nothing-ok rest closing c a b h =
+nothing-ok : (rest : List ℕ) (ending : End Derivation) (c : Below) (a : Answer) (b : Below) → nothing_behind rest ending c ≡ Ok (a, b)
+    → (c.lines ≡ []) × (rest ≡ []) × (answer.End ending ≡ a)
+nothing-ok rest ending c a b h =
     elim (cond-cases (is_nothing c.lines rest) _ _ (Ok (a, b)) h) [
       | inl none ↦
           let (first, second) = and_parts (eqb (length c.lines) 0) (eqb (length rest) 0) none.0 in
-          (no-items c.lines first, no-items rest second, (pair-is (answer.End closing) a c b (Ok (answer.End closing, c)) refl none.1).0)
+          (no-items c.lines first, no-items rest second, (pair-is (answer.End ending) a c b (Ok (answer.End ending, c)) refl none.1).0)
       | inr some ↦ cc (some.1)
     ]
 
 -- ---- a piece
 
-pub piece-stands : (version : Version) (p : Problem) (rest : List ℕ) (at : ℕ) (ls : List Line) (a : Answer) (b : Below) → p.vars + p.groups < 2 ^ 64
-    → piece_at version p rest at ls ≡ Ok (a, b) → PieceStands version p rest ls a b
+pub piece-stands : (version : Version) (p : Problem) (n : Namings) (rest : List ℕ) (at : ℕ) (ls : List Line) (a : Answer) (b : Below) → p.vars + p.groups < 2 ^ 64
+    → piece_at version p n rest at ls ≡ Ok (a, b) → PieceStands version p n rest ls a b
 unfolding piece_at
-piece-stands version p rest at [] a b small h = cc
-piece-stands version p rest at (l ∷ ls) a b small h =
+piece-stands version p n rest at [] a b small h = cc
+piece-stands version p n rest at (l ∷ ls) a b small h =
     elim (cond-cases (is_letter 117 l) _ _ (Ok (a, b)) h) [
       | inl is ↦
           let (set, x, h1) = bind-ok (at_line at (set_at p.groups (behind l))) _ (a, b) is.1 in
@@ -277,18 +299,18 @@ piece-stands version p rest at (l ∷ ls) a b small h =
         | inr third ↦ elim (cond-cases (is_letter 101 l) _ _ (Ok (a, b)) third.1) [
           | inl is ↦
               let (u, x, h1) = bind-ok (at_line at (last_word_at (codes "partial") (behind l))) _ (a, b) is.1 in
-              let (none, nothing, same) = nothing-ok rest None (below (at + 1) ls) a b h1 in
-              as_end None same tt
+              let (none, nothing, same) = nothing-ok rest ends.Partial (below (at + 1) ls) a b h1 in
+              as_end ends.Partial same tt
               (ap₂ (λ (k : Line) (ks : List Line). k ∷ ks)
               (letter-ok 101 l (omega arith) is.0
               ∙ ap (λ (ws : List Word). codes "e" ∷ ws) (last_word-ok (codes "partial") (behind l) u (at_line-ok at (last_word_at (codes "partial") (behind l)) u x)))
               none)
               nothing
           | inr last ↦
-              let (d, x, h1) = bind-ok (closing_at p at (l ∷ ls)) _ (a, b) last.1 in
-              let (none, nothing, same) = nothing-ok rest (Some d.0) d.1 a b h1 in
-              let (lines, good) = closing-ok p at (l ∷ ls) d.0 d.1 small x in
-              as_end (Some d.0) same good (lines ∙ ap (λ (ks : List Line). end_lines (Some d.0) ++ ks) none ∙ no_more (end_lines (Some d.0))) nothing
+              let (closing, x, h1) = bind-ok (closing_at version p n at (l ∷ ls)) _ (a, b) last.1 in
+              let (none, nothing, same) = nothing-ok rest closing.0 closing.1 a b h1 in
+              let (lines, good) = closing-ok version p n at (l ∷ ls) closing.0 closing.1 small x in
+              as_end closing.0 same good (lines ∙ ap (λ (ks : List Line). end_lines closing.0 ++ ks) none ∙ no_more (end_lines closing.0)) nothing
         ]
       ]
     ]
@@ -298,23 +320,28 @@ piece-stands version p rest at (l ∷ ls) a b small h =
     no_more (x ∷ xs) = ap (λ (ys : List Line). x ∷ ys) (no_more xs)
 
     as_record : (r : Record) (c : Below) (got : Result (Answer × Below) Offence) → got ≡ Ok (answer.Record r, c) → got ≡ Ok (a, b)
-        → IsReadable version p r → l ∷ ls ≡ record_lines r ++ c.lines → PieceStands version p rest (l ∷ ls) a b
+        → IsReadable version p r → l ∷ ls ≡ record_lines r ++ c.lines → PieceStands version p n rest (l ∷ ls) a b
     as_record r c got is same good lines =
         let (e, f) = pair-is (answer.Record r) a c b got is same in
-        subst (λ (x : Answer). PieceStands version p rest (l ∷ ls) x b) e
-        (subst (λ (k : Below). PieceStands version p rest (l ∷ ls) (answer.Record r) k) f (good, lines))
+        subst (λ (x : Answer). PieceStands version p n rest (l ∷ ls) x b) e
+        (subst (λ (k : Below). PieceStands version p n rest (l ∷ ls) (answer.Record r) k) f (good, lines))
 
-    as_end : (closing : Option Derivation) → answer.End closing ≡ a → IsReadableEnd p closing → l ∷ ls ≡ end_lines closing → rest ≡ []
-        → PieceStands version p rest (l ∷ ls) a b
-    as_end closing same good lines nothing = subst (λ (x : Answer). PieceStands version p rest (l ∷ ls) x b) same (good, lines, nothing)
+    as_end : (ending : End Derivation) → answer.End ending ≡ a → IsReadableEndBy version p n ending → l ∷ ls ≡ end_lines ending → rest ≡ []
+        → PieceStands version p n rest (l ∷ ls) a b
+    as_end ending same good lines nothing = subst (λ (x : Answer). PieceStands version p n rest (l ∷ ls) x b) same (good, lines, nothing)
 
 -- ---- the head
 
-pub version_number-of : (n : ℕ) → 1 ≤ n → n ≤ 2 → version_number (version_of n) ≡ n
+pub version_number-of : (n : ℕ) → 1 ≤ n → n ≤ 3 → version_number (version_of n) ≡ n
 version_number-of n low high =
     elim (cases_eq n 1) [
-      | inl one ↦ ap (λ t. version_number (cond t One Two)) (eq-eqb n 1 one) ∙ sym one
-      | inr other ↦ let two : 2 ≡ n = omega (arith, low, high, other) in ap (λ t. version_number (cond t One Two)) (ne_eqb n 1 other) ∙ two
+      | inl one ↦ ap (λ t. version_number (cond t One (cond (eqb n 2) Two Three))) (eq-eqb n 1 one) ∙ sym one
+      | inr other ↦
+          ap (λ t. version_number (cond t One (cond (eqb n 2) Two Three))) (ne_eqb n 1 other)
+          ∙ elim (cases_eq n 2) [
+            | inl two ↦ ap (λ t. version_number (cond t Two Three)) (eq-eqb n 2 two) ∙ sym two
+            | inr third ↦ let three : 3 ≡ n = omega (arith, low, high, other, third) in ap (λ t. version_number (cond t Two Three)) (ne_eqb n 2 third) ∙ three
+          ]
     ]
 
 -- the words of the head behind `p`
@@ -325,13 +352,13 @@ counts-ok : (ws : List Word) (version : Version) (c : Counts) → counts_at ws �
 unfolding counts_at
 counts-ok ws version c h =
     let (format, a1, h1) = bind-ok (word_at (codes "gmev") ws) _ (version, c) h in
-    let (number, a2, h2) = bind-ok (number_at 1 2 format) _ (version, c) h1 in
+    let (number, a2, h2) = bind-ok (number_at 1 3 format) _ (version, c) h1 in
     let (vars, a3, h3) = bind-ok (number_at 0 (2 ^ 64 - 1) number.1) _ (version, c) h2 in
     let (clauses, a4, h4) = bind-ok (number_at 0 (2 ^ 64 - 1) vars.1) _ (version, c) h3 in
     let (groups, a5, h5) = bind-ok (number_at 0 (2 ^ 64 - 1) clauses.1) _ (version, c) h4 in
     let made : Version × Counts = (version_of number.0, record { vars = vars.0; groups = groups.0; clauses = clauses.0 }) in
     let (over, same) = line_end-ok made (version, c) groups.1 h5 in
-    let (l2, low, high) = number-ok 1 2 format number.0 number.1 (omega arith) a2 in
+    let (l2, low, high) = number-ok 1 3 format number.0 number.1 (omega arith) a2 in
     let l3 = (number-ok 0 (2 ^ 64 - 1) number.1 vars.0 vars.1 (omega arith) a3).0 in
     let l4 = (number-ok 0 (2 ^ 64 - 1) vars.1 clauses.0 clauses.1 (omega arith) a4).0 in
     let l5 = (number-ok 0 (2 ^ 64 - 1) clauses.1 groups.0 groups.1 (omega arith) a5).0 in

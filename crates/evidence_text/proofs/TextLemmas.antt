@@ -8,7 +8,7 @@ use Rattle.std.proofs.lemmas.Bool.{cases_lt}
 use Rattle.std.proofs.lemmas.Option.{slice_get_within, get_or_from_slice_get}
 use Rattle.std.proofs.lemmas.List.Concat.{flat_map-append, flat_map-cons}
 use Rattle.sat_base.specs.Derivation.{Step, Derivation}
-use Rattle.evidence_text.specs.Text.{Word, Line, spaced, line_text, text_of, set_line, step_line, goal_line, reference_line, witness_line, trues_from, derivation_lines, witnesses_lines, exhaustion_line, end_line, end_text}
+use Rattle.evidence_text.specs.Text.{Word, Line, spaced, line_text, text_of, set_line, step_line, goal_line, reference_line, witness_line, trues_from, derivation_lines, witnesses_lines, exhaustion_line, closing_lines}
 
 -- mapped words, each behind a blank
 pub spaced-map : {X : Type 0} (f : X → Word) (xs : List X) → spaced (map f xs) ≡ flat_map (λ x. codes " " ++ f x) xs
@@ -155,14 +155,14 @@ pub correction_text : (out : List ℕ) (first second : Line) (cs : List Line)
 correction_text out first second cs =
     append_assoc (out ++ line_text first) (line_text second) (text_of cs) ∙ append_assoc out (line_text first) (line_text second ++ text_of cs)
 
-pub closing_text : (out : List ℕ) (goal : ℕ) (d : Derivation) → goal ≡ d.goal
-    → ((out ++ text_of (map step_line d.steps)) ++ line_text (exhaustion_line goal)) ++ line_text (end_line (codes "complete")) ≡ out ++ end_text (Some d)
-closing_text out goal d same =
+pub closing_text : (out : List ℕ) (goal : ℕ) (d : Derivation) (end : Line) → goal ≡ d.goal
+    → ((out ++ text_of (map step_line d.steps)) ++ line_text (exhaustion_line goal)) ++ line_text end ≡ out ++ text_of (closing_lines d end)
+closing_text out goal d end same =
     let steps : List ℕ = text_of (map step_line d.steps) in
     let exhaustion : List ℕ = line_text (exhaustion_line goal) in
-    let last : List ℕ = line_text (end_line (codes "complete")) in
+    let last : List ℕ = line_text end in
     append_assoc (out ++ steps) exhaustion last ∙ append_assoc out steps (exhaustion ++ last)
     ∙ ap (λ t. out ++ t)
     (ap (λ t. steps ++ (exhaustion ++ t)) (sym (append-nil last))
-    ∙ sym (text_of-append (map step_line d.steps) (exhaustion_line goal ∷ end_line (codes "complete") ∷ []))
-    ∙ ap (λ n. text_of (map step_line d.steps ++ exhaustion_line n ∷ end_line (codes "complete") ∷ [])) same)
+    ∙ sym (text_of-append (map step_line d.steps) (exhaustion_line goal ∷ end ∷ []))
+    ∙ ap (λ n. text_of (map step_line d.steps ++ exhaustion_line n ∷ end ∷ [])) same)

@@ -13,6 +13,7 @@ use Rattle.evidence_text.specs.declared.alone.RecordAnswer.{RecordAnswer}
 use Rattle.evidence_text.specs.declared.alone.RecordAnswer.TheVariants as alone
 use Rattle.evidence_text.specs.Text.{record_text}
 use Rattle.evidence_text.specs.Lines.{lines_of, unended}
+use Rattle.evidence_text.specs.Namings.{no_namings}
 use Rattle.evidence_text.specs.Reading.{Below, is_nothing, piece_at, offence}
 use Rattle.evidence_text.specs.Readable.{IsSmall, IsReadable, HasRecordIds}
 
@@ -26,13 +27,13 @@ pub record IsTextOf (p : Problem) (r : Record) (text : List ℕ) : Type 0 where
 -- a record with nothing behind it; the end of a text is none
 abbrev pub only_record : List ℕ → Result (Answer × Below) Offence → RecordAnswer
 only_record rest (Ok (answer.Record r, b)) = if is_nothing b.lines rest then alone.Record r else alone.Offence (offence b.at TrailingText)
-only_record rest (Ok (answer.End closing, b)) = alone.Offence (offence 1 BadLine)
+only_record rest (Ok (answer.End ending, b)) = alone.Offence (offence 1 BadLine)
 only_record rest (Ok (answer.Offence o, b)) = alone.Offence o
 only_record rest (Err o) = alone.Offence o
 
 -- the record that a text is, or its first offence
 abbrev pub record_at : Problem → List ℕ → RecordAnswer
-record_at p text = only_record (unended text) (piece_at One p (unended text) 1 (lines_of text))
+record_at p text = only_record (unended text) (piece_at One p no_namings (unended text) 1 (lines_of text))
 
 -- what an answer says of the bytes: they are the lines of this record, or of none
 abbrev pub TellsRecord : Problem → List ℕ → RecordAnswer → Type 0

@@ -6,6 +6,8 @@ use Rattle.sat_base.specs.Derivation.{Step, Derivation}
 use Rattle.evidence_text.specs.Text.{Word}
 use Rattle.evidence_text.specs.Lines.{lines_of, unended, words_of}
 use Rattle.gm_base.specs.Problem.{Problem}
+use Rattle.evidence_text.specs.Namings.{Namings}
+use Rattle.evidence_text.specs.declared.end.End.TheVariants as ends
 use Rattle.evidence_text.specs.Reading.{Below, below, ◌>>=◌, ascending_at, items_at, is_over, with_trues, set_at, last_word_at, proof_at, conflict_at, correction_at, closing_at, nothing_behind, at_line, offence}
 use Rattle.evidence_text.specs.declared.answer.Answer.{Answer}
 use Rattle.evidence_text.specs.declared.answer.Answer.TheVariants as answer
@@ -116,10 +118,6 @@ abbrev pub Gives : {X Y : Type 0} → (X → Y) → Result X Stop → Below → 
 Gives view (Ok x) left read = read ≡ Ok (view x, left)
 Gives view (Err s) left read = Stops s read
 
-abbrev pub GivesBelow : Result (Unit {0}) Stop → Below → Result Below Offence → Type 0
-GivesBelow (Ok x) left read = read ≡ Ok left
-GivesBelow (Err s) left read = Stops s read
-
 abbrev pub GivesLine : {X Y : Type 0} → (X → Y) → Result X Stop → Result Y Offence → Type 0
 GivesLine view (Ok x) read = read ≡ Ok (view x)
 GivesLine view (Err s) read = Stops s read
@@ -169,10 +167,10 @@ correction_behind version p line ws b = do
 abbrev pub partial_behind : List ℕ → ℕ → List Word → Below → Result (Answer × Below) Offence
 partial_behind rest line ws b = do
   _end ← at_line line (last_word_at (codes "partial") ws)
-  nothing_behind rest None b
+  nothing_behind rest ends.Partial b
 
 -- the closing part, whose first line is among the lines
-abbrev pub closing_ahead : Problem → List ℕ → Below → Result (Answer × Below) Offence
-closing_ahead p rest b = do
-  d ← closing_at p b.at b.lines
-  nothing_behind rest (Some d.0) d.1
+abbrev pub closing_ahead : Version → Problem → Namings → List ℕ → Below → Result (Answer × Below) Offence
+closing_ahead version p n rest b = do
+  closing ← closing_at version p n b.at b.lines
+  nothing_behind rest closing.0 closing.1

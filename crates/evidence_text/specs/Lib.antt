@@ -1,4 +1,5 @@
 pub mod Text
+pub mod Namings
 pub mod Putting
 pub mod Lines
 pub mod Reading

@@ -8,13 +8,16 @@ use Rattle.evidence_text.specs.declared.version.Version.{Version}
 use Rattle.evidence_text.specs.declared.version.Version.TheVariants.{One}
 use Rattle.evidence_text.specs.Text.{record_lines, end_lines}
 use Rattle.evidence_text.specs.Lines.{lines_of, unended}
+use Rattle.evidence_text.specs.Namings.{Namings, no_namings, also_record}
 use Rattle.evidence_text.specs.Reading.{Below, below, head_at, piece_at}
-use Rattle.evidence_text.specs.Readable.{IsReadable, IsReadableEnd}
+use Rattle.evidence_text.specs.Readable.{IsReadable, IsReadableEndBy}
 
 pub record Reader : Type 0 where
   pub problem : Problem
   -- that of the text, as its head names it; before, 1
   pub version : Version
+  -- what the records so far name
+  pub namings : Namings
   -- the next line's number, and the lines that are left
   pub left : Below
   -- what stands behind the last line
@@ -32,6 +35,7 @@ reader_of p text =
     record {
       problem = p;
       version = One;
+      namings = no_namings;
       left = below 1 (lines_of text);
       rest = unended text;
       line = 1;
@@ -64,7 +68,7 @@ head_again (Some o) = Err o
 
 -- the first piece of what is left: a record or the end
 abbrev pub piece_of : Reader → Result (Answer × Below) Offence
-piece_of r = piece_at r.version r.problem r.rest r.left.at r.left.lines
+piece_of r = piece_at r.version r.problem r.namings r.rest r.left.at r.left.lines
 
 abbrev pub piece_answer : Result (Answer × Below) Offence → Answer
 piece_answer (Ok found) = found.0
@@ -72,13 +76,13 @@ piece_answer (Err o) = answer.Offence o
 
 -- the reader then: it stands behind a record, stays at the end, or keeps the offence
 abbrev pub behind_piece : Reader → Result (Answer × Below) Offence → Reader
-behind_piece r (Ok (answer.Record found, b)) = record r { left = b; line = r.left.at }
-behind_piece r (Ok (answer.End closing, b)) = record r { line = r.left.at }
+behind_piece r (Ok (answer.Record found, b)) = record r { namings = also_record r.version found r.namings; left = b; line = r.left.at }
+behind_piece r (Ok (answer.End ending, b)) = record r { line = r.left.at }
 behind_piece r (Ok (answer.Offence o, b)) = record r { line = r.left.at }
 behind_piece r (Err o) = record r { line = o.line; offence = Some o }
 
 -- what an answer says of the lines: a record stands before those that are left then, or the end and nothing behind it
 abbrev pub StandsAt : Reader → Reader → Answer → Type 0
 StandsAt old new (answer.Record r) = IsReadable old.version old.problem r × (old.left.lines ≡ record_lines r ++ new.left.lines)
-StandsAt old new (answer.End closing) = IsReadableEnd old.problem closing × (old.left.lines ≡ end_lines closing) × (old.rest ≡ [])
+StandsAt old new (answer.End ending) = IsReadableEndBy old.version old.problem old.namings ending × (old.left.lines ≡ end_lines ending) × (old.rest ≡ [])
 StandsAt old new (answer.Offence o) = Unit {0}

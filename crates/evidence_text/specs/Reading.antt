@@ -1,12 +1,14 @@
 -- How a text of evidence is read, and its first offence. A line is given by its words, and what may stand in it is said word
 -- by word, from left to right, so that the first word that may not stand there tells the offence.
-use Rattle.std.specs.Prelude.{ℕ, ◌+◌, ◌-◌, ◌^◌, Bool, true, false, not, ◌==◌, ◌&&◌, ◌||◌, List, [], ◌∷◌, length, codes, replicate, slice_set, ℤ, pos, neg_ℤ, nat_le, if◌then◌else◌, Option, Some, None, Result, Ok, Err}
+use Rattle.std.specs.Prelude.{ℕ, ◌+◌, ◌-◌, ◌^◌, Bool, true, false, not, ◌==◌, ◌&&◌, ◌||◌, List, [], ◌∷◌, length, codes, replicate, slice_set, ℤ, pos, neg_ℤ, nat_le, nat_lt, if◌then◌else◌, Option, Some, None, Result, Ok, Err}
 use Rattle.std.specs.Option.{option_map, option_map_or}
 use Rattle.std.specs.List.{fold}
 use Rattle.std.specs.Str.{all_ascii_digits, bytes_eq}
 use Rattle.std.specs.Str.Parse.{digits_value}
 use Rattle.sat_base.specs.Derivation.{Step, Derivation, max_id}
 use Rattle.gm_base.specs.Problem.{Problem}
+use Rattle.gm_base.specs.declared.kind.Kind.{Kind}
+use Rattle.gm_base.specs.declared.kind.Kind.TheVariants.{Conflict, Correction}
 use Rattle.lrat_check.specs.declared.why.Why.{Why}
 use Rattle.lrat_check.specs.declared.why.Why.TheVariants.{BadLine, BadNumber, Truncated, OtherProblem, TrailingText}
 use Rattle.lrat_check.specs.declared.why.Counts.{Counts}
@@ -14,14 +16,19 @@ use Rattle.evidence_rec.specs.declared.record.Record.{Record}
 use Rattle.evidence_rec.specs.declared.record.Record.TheVariants as record_of
 use Rattle.evidence_rec.specs.declared.record.Refutation.{Refutation}
 use Rattle.evidence_rec.specs.declared.record.Refutation.TheVariants.{Steps, Earlier}
-use Rattle.evidence_text.specs.Text.{Word, Line}
+use Rattle.size_counter.specs.Levels.{Level, level_by, level_vars}
+use Rattle.evidence_text.specs.Text.{Word, Line, end_map}
+use Rattle.evidence_text.specs.Namings.{Namings, naming_for}
+use Rattle.evidence_text.specs.Readable.{closing_vars}
+use Rattle.evidence_text.specs.declared.end.End.{End}
+use Rattle.evidence_text.specs.declared.end.End.TheVariants as ends
 use Rattle.evidence_text.specs.declared.offence.Offence.{Offence}
 use Rattle.evidence_text.specs.declared.goal.Goal.{Goal}
 use Rattle.evidence_text.specs.declared.goal.Goal.TheVariants.{Refutes, Exhausts}
 use Rattle.evidence_text.specs.declared.answer.Answer.{Answer}
 use Rattle.evidence_text.specs.declared.answer.Answer.TheVariants as answer
 use Rattle.evidence_text.specs.declared.version.Version.{Version}
-use Rattle.evidence_text.specs.declared.version.Version.TheVariants.{One, Two}
+use Rattle.evidence_text.specs.declared.version.Version.TheVariants.{One, Two, Three}
 
 infixl 10 ◌>>=◌
 -- goes on with what was read, or stops at the offence
@@ -88,13 +95,13 @@ line_end x ws = if is_over ws then Ok x else Err BadLine
 
 -- the version of this number
 abbrev pub version_of : ℕ → Version
-version_of n = if n == 1 then One else Two
+version_of n = if n == 1 then One else (if n == 2 then Two else Three)
 
 -- the version and the numbers of the head, behind `p`
 unfoldable pub counts_at : List Word → Result (Version × Counts) Why
 counts_at ws = do
   format ← word_at (codes "gmev") ws
-  version ← number_at 1 2 format
+  version ← number_at 1 3 format
   vars ← number_at 0 (2 ^ 64 - 1) version.1
   clauses ← number_at 0 (2 ^ 64 - 1) vars.1
   groups ← number_at 0 (2 ^ 64 - 1) clauses.1
@@ -144,6 +151,36 @@ unfoldable pub last_word_at : Word → List Word → Result (Unit {0}) Why
 last_word_at due ws = do
   rest ← word_at due ws
   line_end tt rest
+
+-- goes on behind a word, or reads otherwise where it isn't there
+abbrev pub word_or : {X : Type 0} → Result (List Word) Why → (List Word → Result X Why) → Result X Why → Result X Why
+word_or (Ok ws) next other = next ws
+word_or (Err why) next other = other
+
+-- literals can name the variables of a level; else its number is too great
+abbrev pub has_literals : Level → Result (Unit {0}) Why
+has_literals l = if nat_lt (level_vars l) (2 ^ 31) then Ok tt else Err BadNumber
+
+-- a level of this kind, by how many groups its sets have at most
+unfoldable pub level_words_at : Kind → ℕ → Namings → List Word → Result (End (Unit {0})) Why
+level_words_at kind groups n ws = do
+  most ← number_at 0 groups ws
+  _small ← has_literals (level_by groups most.0 (naming_for kind n))
+  line_end (ends.Level kind most.0 tt) most.1
+
+-- that all is there
+unfoldable pub complete_words_at : List Word → Result (End (Unit {0})) Why
+complete_words_at ws = do
+  _end ← last_word_at (codes "complete") ws
+  Ok (ends.Complete tt)
+
+-- what the last line says behind a closing part, behind `e`: that all is there, or in version 3 a level
+unfoldable pub last_words_at : Version → ℕ → Namings → List Word → Result (End (Unit {0})) Why
+last_words_at One groups n ws = complete_words_at ws
+last_words_at Two groups n ws = complete_words_at ws
+last_words_at Three groups n ws =
+    word_or (word_at (codes "conflicts") ws) (level_words_at Conflict groups n)
+    (word_or (word_at (codes "corrections") ws) (level_words_at Correction groups n) (complete_words_at ws))
 
 -- ---- lines of a text
 
@@ -224,15 +261,20 @@ steps_at vars g at ls = do
   d ← proof_at vars (Refutes g) at ls
   Ok (Steps d.0, d.1)
 
--- a group's refutation: in version 2 the line that names an earlier record (`t`), or steps; in version 1 steps
-unfoldable pub refutation_at : Version → ℕ → ℕ → ℕ → List Line → Result (Refutation × Below) Offence
-refutation_at One vars g at ls = steps_at vars g at ls
-refutation_at Two vars g at [] = Err (offence at Truncated)
-refutation_at Two vars g at (l ∷ ls) =
+-- a group's refutation: the line that names an earlier record (`t`), or steps
+unfoldable pub reference_or_steps_at : ℕ → ℕ → ℕ → List Line → Result (Refutation × Below) Offence
+reference_or_steps_at vars g at [] = Err (offence at Truncated)
+reference_or_steps_at vars g at (l ∷ ls) =
     if is_letter 116 l then (do
       i ← at_line at (goal_at (Refutes g) (behind l))
       Ok (Earlier i, below (at + 1) ls))
     else steps_at vars g at (l ∷ ls)
+
+-- in version 1 steps, and from version 2 on either
+unfoldable pub refutation_at : Version → ℕ → ℕ → ℕ → List Line → Result (Refutation × Below) Offence
+refutation_at One vars g at ls = steps_at vars g at ls
+refutation_at Two vars g at ls = reference_or_steps_at vars g at ls
+refutation_at Three vars g at ls = reference_or_steps_at vars g at ls
 
 -- of each group its refutation
 unfoldable pub refutations_at : Version → ℕ → List ℕ → ℕ → List Line → Result (List Refutation × Below) Offence
@@ -256,35 +298,35 @@ correction_at version p set at ls = do
   proofs ← refutations_at version (p.vars + p.groups) set w.1.at w.1.lines
   Ok (record_of.Correction set w.0 proofs.0, proofs.1)
 
--- the last line, behind the closing part
-unfoldable pub complete_at : ℕ → List Line → Result Below Offence
-complete_at at [] = Err (offence at Truncated)
-complete_at at (l ∷ ls) =
+-- the last line (`e`), behind a closing part
+unfoldable pub last_line_at : Version → ℕ → Namings → ℕ → List Line → Result (End (Unit {0}) × Below) Offence
+last_line_at version groups n at [] = Err (offence at Truncated)
+last_line_at version groups n at (l ∷ ls) =
     if is_letter 101 l then (do
-      _end ← at_line at (last_word_at (codes "complete") (behind l))
-      Ok (below (at + 1) ls))
+      says ← at_line at (last_words_at version groups n (behind l))
+      Ok (says, below (at + 1) ls))
     else Err (offence at BadLine)
 
 -- the closing part, and the last line
-unfoldable pub closing_at : Problem → ℕ → List Line → Result (Derivation × Below) Offence
-closing_at p at ls = do
-  d ← proof_at p.groups Exhausts at ls
-  end ← complete_at d.1.at d.1.lines
-  Ok (d.0, end)
+unfoldable pub closing_at : Version → Problem → Namings → ℕ → List Line → Result (End Derivation × Below) Offence
+closing_at version p n at ls = do
+  d ← proof_at (closing_vars version p.groups) Exhausts at ls
+  last ← last_line_at version p.groups n d.1.at d.1.lines
+  Ok (end_map (λ x. d.0) last.0, last.1)
 
 -- nothing is left: no line, and no byte of one that doesn't end
 abbrev pub is_nothing : List Line → List ℕ → Bool
 is_nothing ls rest = (length ls == 0) && (length rest == 0)
 
 -- nothing stands behind the end
-abbrev pub nothing_behind : List ℕ → Option Derivation → Below → Result (Answer × Below) Offence
-nothing_behind rest closing b = if is_nothing b.lines rest then Ok (answer.End closing, b) else Err (offence b.at TrailingText)
+abbrev pub nothing_behind : List ℕ → End Derivation → Below → Result (Answer × Below) Offence
+nothing_behind rest ending b = if is_nothing b.lines rest then Ok (answer.End ending, b) else Err (offence b.at TrailingText)
 
--- a record, or the end, where these bytes stand behind the last line: a conflict (`u`), a correction (`m`), the end of what
--- is not closed (`e`), or else the closing part
-unfoldable pub piece_at : Version → Problem → List ℕ → ℕ → List Line → Result (Answer × Below) Offence
-piece_at version p rest at [] = Err (offence at Truncated)
-piece_at version p rest at (l ∷ ls) =
+-- a record, or the end, where this was named and these bytes stand behind the last line: a conflict (`u`), a correction (`m`),
+-- the end of what is not closed (`e`), or else the closing part
+unfoldable pub piece_at : Version → Problem → Namings → List ℕ → ℕ → List Line → Result (Answer × Below) Offence
+piece_at version p n rest at [] = Err (offence at Truncated)
+piece_at version p n rest at (l ∷ ls) =
     if is_letter 117 l then (do
       set ← at_line at (set_at p.groups (behind l))
       r ← conflict_at p set (at + 1) ls
@@ -295,10 +337,10 @@ piece_at version p rest at (l ∷ ls) =
       Ok (answer.Record r.0, r.1))
     else (if is_letter 101 l then (do
       _end ← at_line at (last_word_at (codes "partial") (behind l))
-      nothing_behind rest None (below (at + 1) ls))
+      nothing_behind rest ends.Partial (below (at + 1) ls))
     else (do
-      d ← closing_at p at (l ∷ ls)
-      nothing_behind rest (Some d.0) d.1)))
+      closing ← closing_at version p n at (l ∷ ls)
+      nothing_behind rest closing.0 closing.1)))
 
 -- how many variables, groups and clauses the problem has
 abbrev pub counts_of : Problem → Counts

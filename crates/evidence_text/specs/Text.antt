@@ -1,4 +1,4 @@
--- The text of evidence, versions 1 and 2: lines of words, with one blank between two words and LF behind each line. A
+-- The text of evidence, versions 1 to 3: lines of words, with one blank between two words and LF behind each line. A
 -- number is written in its one form, its decimal digits without leading zeros, behind `-` where it is negative. So each
 -- list of records has one text of a version, and no two of them have the same.
 use Rattle.std.specs.Prelude.{ℕ, ◌+◌, Bool, true, false, List, [], ◌∷◌, ◌++◌, map, length, codes, Option, Some, None}
@@ -12,8 +12,10 @@ use Rattle.evidence_rec.specs.declared.record.Record.{Record}
 use Rattle.evidence_rec.specs.declared.record.Record.TheVariants as record_of
 use Rattle.evidence_rec.specs.declared.record.Refutation.{Refutation}
 use Rattle.evidence_rec.specs.declared.record.Refutation.TheVariants.{Steps, Earlier}
+use Rattle.evidence_text.specs.declared.end.End.{End}
+use Rattle.evidence_text.specs.declared.end.End.TheVariants as ends
 use Rattle.evidence_text.specs.declared.version.Version.{Version}
-use Rattle.evidence_text.specs.declared.version.Version.TheVariants.{One, Two}
+use Rattle.evidence_text.specs.declared.version.Version.TheVariants.{One, Two, Three}
 
 -- the bytes of a word
 abbrev pub Word : Type 0
@@ -42,6 +44,7 @@ text_of ls = flat_map line_text ls
 abbrev pub version_number : Version → ℕ
 version_number One = 1
 version_number Two = 2
+version_number Three = 3
 
 -- `p gmev`, the version, and how many variables, clauses and groups the problem has
 abbrev pub head_line : Version → Problem → Line
@@ -79,13 +82,22 @@ trues_from v (false ∷ values) = trues_from (v + 1) values
 abbrev pub witness_line : ℕ → List Bool → Line
 witness_line g witness = codes "w" ∷ decimal g ∷ (map decimal (trues_from 1 witness) ++ codes "0" ∷ [])
 
--- the clause of the closing part that is empty
+-- the clause that the closing part is for: the empty one, or that more than a level's bound count
 abbrev pub exhaustion_line : ℕ → Line
 exhaustion_line goal = codes "x" ∷ decimal goal ∷ []
 
--- the last line
+-- the last line, where no number stands in it
 abbrev pub end_line : Word → Line
 end_line how = codes "e" ∷ how ∷ []
+
+-- the word of a kind's sets
+abbrev pub kind_word : Kind → Word
+kind_word Conflict = codes "conflicts"
+kind_word Correction = codes "corrections"
+
+-- the last line, where all sets of a kind with at most so many groups are there
+abbrev pub level_line : Kind → ℕ → Line
+level_line kind most = codes "e" ∷ kind_word kind ∷ decimal most ∷ []
 
 -- ---- records
 
@@ -118,10 +130,27 @@ record_lines (record_of.Conflict set proof witnesses) =
 record_lines (record_of.Correction set witness proofs) =
     set_line (codes "m") set ∷ witness_line 0 witness ∷ refutations_lines set proofs
 
--- the closing part and the end: the steps that refute the block clauses, or that nothing is closed
-abbrev pub end_lines : Option Derivation → List Line
-end_lines None = end_line (codes "partial") ∷ []
-end_lines (Some d) = map step_line d.steps ++ exhaustion_line d.goal ∷ end_line (codes "complete") ∷ []
+-- what an ending says, with its derivation made another thing
+abbrev pub end_map : {X Y : Type 0} → (X → Y) → End X → End Y
+end_map f ends.Partial = ends.Partial
+end_map f (ends.Complete d) = ends.Complete (f d)
+end_map f (ends.Level kind most d) = ends.Level kind most (f d)
+
+-- all is there where something closes the records, and else nothing is said
+abbrev pub closed_by : {X : Type 0} → Option X → End X
+closed_by None = ends.Partial
+closed_by (Some d) = ends.Complete d
+
+-- a closing part: steps, the line of their goal, and the last line
+abbrev pub closing_lines : Derivation → Line → List Line
+closing_lines d last = map step_line d.steps ++ exhaustion_line d.goal ∷ last ∷ []
+
+-- the end: that nothing is closed; or steps that refute the block clauses; or steps by which the sets of a kind with at most so
+-- many groups are there
+abbrev pub end_lines : End Derivation → List Line
+end_lines ends.Partial = end_line (codes "partial") ∷ []
+end_lines (ends.Complete d) = closing_lines d (end_line (codes "complete"))
+end_lines (ends.Level kind most d) = closing_lines d (level_line kind most)
 
 -- ---- texts
 
@@ -131,9 +160,9 @@ head_text version p = line_text (head_line version p)
 abbrev pub record_text : Record → List ℕ
 record_text r = text_of (record_lines r)
 
-abbrev pub end_text : Option Derivation → List ℕ
-end_text closing = text_of (end_lines closing)
+abbrev pub end_text : End Derivation → List ℕ
+end_text ending = text_of (end_lines ending)
 
--- the text of these records about the problem, closed or not, in a version that can hold them
-abbrev pub evidence_text : Version → Problem → List Record → Option Derivation → List ℕ
-evidence_text version p records closing = head_text version p ++ flat_map record_text records ++ end_text closing
+-- the text of these records about the problem, with this ending, in a version that can hold them
+abbrev pub evidence_text : Version → Problem → List Record → End Derivation → List ℕ
+evidence_text version p records ending = head_text version p ++ flat_map record_text records ++ end_text ending

@@ -11,6 +11,7 @@ ghost use Rattle.evidence_text.specs.Alone.{IsTextOf, TellsRecord, front, only_r
 use crate::answer::Answer;
 use crate::fitting::{problem_fits, record_fits};
 use crate::lines::Lines;
+use crate::namings::Namings;
 use crate::offence::{Offence, Stop};
 use crate::record::read_piece;
 use crate::version::Version;
@@ -141,7 +142,8 @@ fn read_alone(alloc: Global, problem: &Problem, bytes: &[u8]) -> Result<RecordAn
     ensures { IfOk result (λ a. a ≡ record_at problem.now bytes.now) }
 {
     let mut lines = Lines::new(bytes);
-    match read_piece(alloc, &mut lines, problem, Version::One) {
+    let namings = Namings::new(alloc);
+    match read_piece(alloc, &mut lines, problem, Version::One, &namings) {
         Ok(Answer::Record(r)) => Ok(only_record(r, &lines)),
         Ok(Answer::End(_)) => Ok(RecordAnswer::Offence(Offence {
             line: 1,

@@ -1,4 +1,5 @@
 //! What a reader answers.
+use crate::end::End;
 use crate::offence::Offence;
 use evidence_rec::Record;
 use gm_base::Derivation;
@@ -8,8 +9,8 @@ use gm_base::Derivation;
 pub enum Answer {
     /// The next record.
     Record(Record),
-    /// The end, with the closing part where the text is complete.
-    End(Option<Derivation>),
+    /// The end, with the derivation of its closing part, if there is one.
+    End(End<Derivation>),
     /// The first offence.
     Offence(Offence),
 }

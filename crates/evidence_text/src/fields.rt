@@ -1,14 +1,17 @@
 //! What stands in a line behind its first word.
 ghost use Rattle.std.specs.Prelude.{◌≡◌, ◌<◌, ◌≤◌, ◌^◌, All, IfOk, OnOk, length};
 ghost use Rattle.sat_base.specs.Derivation.{max_id};
-ghost use Rattle.evidence_text.specs.Reading.{number_in, literal_in, items_at, ascending_at, counts_at, set_at, step_at, witness_at, goal_at, last_word_at};
+ghost use Rattle.evidence_text.specs.Namings.{AreWithin};
+ghost use Rattle.evidence_text.specs.Reading.{number_in, literal_in, items_at, ascending_at, counts_at, set_at, step_at, witness_at, goal_at, last_word_at, level_words_at, complete_words_at, last_words_at};
 ghost use Rattle.evidence_text.specs.Cursors.{words_left, ReadsLine, ReadsLineUnlessMemory, ReadsUnlessMemory, ReadsList, ReadsTrues, with_read};
 
+use crate::end::End;
 use crate::goal::Goal;
+use crate::namings::Namings;
 use crate::offence::Halt;
 use crate::version::Version;
 use crate::words::Words;
-use gm_base::{Assign, AssignBuilder, GroupSet, Lit};
+use gm_base::{Assign, AssignBuilder, GroupSet, Kind, Lit};
 use lrat_check::{Counts, Why};
 use std::alloc::Global;
 
@@ -21,7 +24,7 @@ pub(crate) fn read_counts(mut words: Words<'_>) -> Result<(Version, Counts), Why
     ensures { ReadsLine (λ c. c) result (counts_at (words_left words.entry)) }
 {
     words.word(b"gmev")?;
-    let version = words.number(1, 2)?;
+    let version = words.number(1, 3)?;
     let vars = words.number(0, u64::MAX)?;
     let clauses = words.number(0, u64::MAX)?;
     let groups = words.number(0, u64::MAX)?;
@@ -153,4 +156,78 @@ pub(crate) fn read_last_word(mut words: Words<'_>, due: &[u8]) -> Result<(), Why
 {
     words.word(due)?;
     words.end()
+}
+
+/// What the last line says behind a closing part.
+#[tactic(auto, unfolding(crate::specs::Reading::last_words_at))]
+pub(crate) fn read_ending(
+    alloc: Global,
+    words: Words<'_>,
+    version: Version,
+    groups: u32,
+    namings: &Namings,
+) -> Result<End<()>, Halt>
+    requires { AreWithin groups namings.now }
+    ensures { ReadsLineUnlessMemory (λ says. says) result (last_words_at version groups namings.now (words_left words.entry)) }
+{
+    match version {
+        Version::One => read_complete_words(words),
+        Version::Two => read_complete_words(words),
+        Version::Three => read_level_or_complete(alloc, words, groups, namings),
+    }
+}
+
+/// The same in version 3: a level, or that all is there.
+#[tactic(auto, unfolding(crate::specs::Reading::last_words_at))]
+fn read_level_or_complete(
+    alloc: Global,
+    words: Words<'_>,
+    groups: u32,
+    namings: &Namings,
+) -> Result<End<()>, Halt>
+    requires { AreWithin groups namings.now }
+    ensures { ReadsLineUnlessMemory (λ says. says) result (last_words_at Version.Three groups namings.now (words_left words.entry)) }
+{
+    let mut behind = words;
+    if let Ok(()) = behind.word(b"conflicts") {
+        return read_level(alloc, behind, Kind::Conflict, groups, namings);
+    }
+    let mut behind = words;
+    if let Ok(()) = behind.word(b"corrections") {
+        return read_level(alloc, behind, Kind::Correction, groups, namings);
+    }
+    read_complete_words(words)
+}
+
+/// A level of this kind, by how many groups its sets have at most.
+#[tactic(auto, unfolding(crate::specs::Reading::level_words_at))]
+fn read_level(
+    alloc: Global,
+    mut words: Words<'_>,
+    kind: Kind,
+    groups: u32,
+    namings: &Namings,
+) -> Result<End<()>, Halt>
+    requires { AreWithin groups namings.now }
+    ensures { ReadsLineUnlessMemory (λ says. says) result (level_words_at kind groups namings.now (words_left words.entry)) }
+{
+    let most = words.number(0, u64::from(groups))? as u32;
+    if !namings.has_literals(alloc, kind, groups, most)? {
+        return Err(Halt::Refused(Why::BadNumber));
+    }
+    words.end()?;
+    Ok(End::Level {
+        kind,
+        most,
+        proof: (),
+    })
+}
+
+/// That all is there.
+#[tactic(auto, unfolding(crate::specs::Reading::complete_words_at))]
+fn read_complete_words(words: Words<'_>) -> Result<End<()>, Halt>
+    ensures { ReadsLineUnlessMemory (λ says. says) result (complete_words_at (words_left words.entry)) }
+{
+    read_last_word(words, b"complete")?;
+    Ok(End::Complete(()))
 }

@@ -1,5 +1,5 @@
 //! Laws over the definitions alone. Each is the contract of a function that has no code.
-ghost use Rattle.evidence_text.specs.Laws.{PiecesStand, HeadsStand, HeadsAreRead, RecordsAreRead, EndsAreRead, TextsAreTheirLines, TextsAreRead, TextsDiffer, AcceptedAreReadable, ClosingsAreReadable, AcceptedAreRead, ShortenedAreRead};
+ghost use Rattle.evidence_text.specs.Laws.{PiecesStand, HeadsStand, HeadsAreRead, RecordsAreRead, EndsAreRead, TextsAreTheirLines, TextsAreRead, TextsDiffer, AcceptedAreReadable, ClosingsAreReadable, LevelsAreReadable, AcceptedAreHeld, AcceptedAreRead, ShortenedAreRead};
 ghost use Rattle.evidence_text.specs.Alone.{TextsAreOfRecords, TextsAreOfOne, AcceptedHaveTexts};
 
 /// What is read stands in just the lines that write it.
@@ -22,6 +22,8 @@ pub fn written_is_read()
 pub fn accepted_is_read()
     ensures record { AcceptedAreReadable }
     ensures closing { ClosingsAreReadable }
+    ensures level { LevelsAreReadable }
+    ensures held { AcceptedAreHeld }
     ensures texts { AcceptedAreRead }
     ensures shortened { ShortenedAreRead }
 {}

@@ -16,19 +16,21 @@
 //! e complete
 //! ```
 //!
-//! A text of version 1 has no line that names an earlier record (`t`). Both versions are read, and version 2 is written.
+//! A text of version 1 has no line that names an earlier record (`t`). One of version 3 may end with a level, `e conflicts k` or
+//! `e corrections k`: no minimal set of that kind with at most k groups is missing. All versions are read, and from 2 on they are
+//! written.
 //!
 //! [`write_head`], [`write_record`] and [`write_end`] append to a text; who has no room for a whole text calls
 //! [`put_evidence`] with a [`LineSink`], which takes the lines out of a buffer as they come. What is written of a correction
 //! names an earlier conflict where one serves. An [`EvidenceReader`] goes over a text once, and answers a record at a time:
 //!
 //! ```text
-//! let mut reader = EvidenceReader::new(&problem, text);
+//! let mut reader = EvidenceReader::new(alloc, &problem, text);
 //! reader.head()?;
 //! loop {
 //!     match reader.next(alloc)? {
 //!         Answer::Record(record) => ..,              // it begins at line reader.line()
-//!         Answer::End(closing) => break,
+//!         Answer::End(ending) => break,
 //!         Answer::Offence(Offence { line, why }) => ..,
 //!     }
 //! }
@@ -44,6 +46,7 @@
 
 mod alone;
 mod answer;
+mod end;
 mod fields;
 mod fitting;
 mod goal;
@@ -51,6 +54,7 @@ mod head;
 pub mod laws;
 mod line_sink;
 mod lines;
+mod namings;
 mod offence;
 mod proof;
 mod putting;
@@ -64,6 +68,7 @@ mod writing;
 
 pub use alone::{FRONT, RecordAnswer, RecordText, TextParts, record_of};
 pub use answer::Answer;
+pub use end::{End, closed_by};
 pub use fitting::{count_fits, problem_fits, record_fits};
 pub use line_sink::{LineSink, PutError};
 pub use offence::Offence;

@@ -9,41 +9,42 @@
 //! an index of the conflicts that were put so far; a record by itself is compared with each record before it.
 ghost use Rattle.std.specs.Prelude.{◌≡◌, ◌+◌, ◌<◌, ℕ, true, List, [], ◌∷◌, ◌++◌, codes, length, map, IfSome, OnOk};
 ghost use Rattle.std.specs.List.{flat_map};
-ghost use Rattle.std.specs.Option.{option_map};
 ghost use Rattle.sat_base.specs.Hints.{ids_of};
 ghost use Rattle.gm_base.specs.Sets.{has};
 ghost use Rattle.evidence_rec.specs.Records.{set_of, AllAccepted};
 ghost use Rattle.evidence_rec.specs.Shorten.{least_serving, naming, shortened_refutations, shortened, shorten};
 ghost use Rattle.evidence_rec.specs.Serving.{IsIndexOf, FindsServing, CanShorten};
-ghost use Rattle.evidence_text.specs.Text.{line_text, head_text, record_text, end_text, evidence_text, set_line, step_line, goal_line, reference_line, witness_line, exhaustion_line, end_line, set_letter, text_of, derivation_lines, refutation_lines, refutations_lines, witnesses_lines};
+ghost use Rattle.evidence_text.specs.Text.{line_text, head_text, record_text, end_text, evidence_text, set_line, step_line, goal_line, reference_line, witness_line, exhaustion_line, end_line, level_line, set_letter, end_map, closing_lines, text_of, derivation_lines, refutation_lines, refutations_lines, witnesses_lines};
 ghost use Rattle.evidence_text.specs.Putting.{Puts};
-ghost use Rattle.evidence_text.specs.declared.version.Version.TheVariants.{Two};
 
+use crate::end::End;
 use crate::line_sink::{LineSink, PutError};
+use crate::version::Version;
 use crate::writing::{
-    write_complete, write_exhaustion, write_goal, write_head, write_partial, write_reference,
-    write_set, write_step, write_witness,
+    write_complete, write_exhaustion, write_goal, write_head, write_level, write_partial,
+    write_reference, write_set, write_step, write_witness,
 };
 use evidence_rec::{ConflictIndex, Proofs, Record, Refutation, Witnesses, least_serving};
 use gm_base::{Assign, Derivation, GroupSet, Kind, Problem, Step};
 use std::alloc::{AllocError, Global};
 
-/// Puts the text of these records about the problem, and what closes them, in version 2. Each correction names an earlier
-/// conflict where one serves.
+/// Puts the text of these records about the problem, with this ending, in a version that can hold them: from 2 on, and 3 for a
+/// level. Each correction names an earlier conflict where one serves.
 pub fn put_evidence<S: LineSink>(
     alloc: Global,
+    version: Version,
     problem: &Problem,
     records: &[Record],
-    closing: Option<&Derivation>,
+    ending: End<&Derivation>,
     sink: &mut S,
     waiting: &mut Vec<u8>,
 ) -> Result<(), PutError<S::Error>>
     requires { AllAccepted problem.now records.now }
-    ensures { Puts (S.took sink.old sink.new) (S.stopped sink.old sink.new) waiting.old.items waiting.new.items (evidence_text Two problem.now (shorten records.now) (option_map (λ d. d.now) closing.entry)) result }
+    ensures { Puts (S.took sink.old sink.new) (S.stopped sink.old sink.new) waiting.old.items waiting.new.items (evidence_text version problem.now (shorten records.now) (end_map (λ d. d.now) ending.entry)) result }
 {
-    put_head(problem, sink, waiting)?;
+    put_head(version, problem, sink, waiting)?;
     put_records(alloc, problem, records, sink, waiting)?;
-    put_end(closing, sink, waiting)
+    put_end(ending, sink, waiting)
 }
 
 /// The records, in their order.
@@ -233,31 +234,59 @@ fn put_steps<S: LineSink>(
 
 /// Puts the closing part and the end, or that nothing is closed.
 pub(crate) fn put_end<S: LineSink>(
-    closing: Option<&Derivation>,
+    ending: End<&Derivation>,
     sink: &mut S,
     waiting: &mut Vec<u8>,
 ) -> Result<(), PutError<S::Error>>
-    ensures { Puts (S.took sink.old sink.new) (S.stopped sink.old sink.new) waiting.old.items waiting.new.items (end_text (option_map (λ d. d.now) closing.entry)) result }
+    ensures { Puts (S.took sink.old sink.new) (S.stopped sink.old sink.new) waiting.old.items waiting.new.items (end_text (end_map (λ d. d.now) ending.entry)) result }
 {
-    let Some(closing) = closing else {
-        return put_partial(sink, waiting);
-    };
-    put_steps(closing, sink, waiting)?;
-    put_exhaustion(closing.goal(), sink, waiting)?;
-    put_complete(sink, waiting)
+    match ending {
+        End::Partial => put_partial(sink, waiting),
+        End::Complete(proof) => put_complete(proof, sink, waiting),
+        End::Level { kind, most, proof } => put_level(kind, most, proof, sink, waiting),
+    }
+}
+
+/// A closing part, and that all is there.
+fn put_complete<S: LineSink>(
+    proof: &Derivation,
+    sink: &mut S,
+    waiting: &mut Vec<u8>,
+) -> Result<(), PutError<S::Error>>
+    ensures { Puts (S.took sink.old sink.new) (S.stopped sink.old sink.new) waiting.old.items waiting.new.items (text_of (closing_lines proof.now (end_line (codes "complete")))) result }
+{
+    put_steps(proof, sink, waiting)?;
+    put_exhaustion(proof.goal(), sink, waiting)?;
+    put_last(sink, waiting)
+}
+
+/// A closing part, and that all sets of a kind with at most so many groups are there.
+fn put_level<S: LineSink>(
+    kind: Kind,
+    most: u32,
+    proof: &Derivation,
+    sink: &mut S,
+    waiting: &mut Vec<u8>,
+) -> Result<(), PutError<S::Error>>
+    ensures { Puts (S.took sink.old sink.new) (S.stopped sink.old sink.new) waiting.old.items waiting.new.items (text_of (closing_lines proof.now (level_line kind most))) result }
+{
+    put_steps(proof, sink, waiting)?;
+    put_exhaustion(proof.goal(), sink, waiting)?;
+    put_last_level(kind, most, sink, waiting)
 }
 
 // ---- single lines
 
 /// The head of a text about this problem.
 fn put_head<S: LineSink>(
+    version: Version,
     problem: &Problem,
     sink: &mut S,
     waiting: &mut Vec<u8>,
 ) -> Result<(), PutError<S::Error>>
-    ensures { Puts (S.took sink.old sink.new) (S.stopped sink.old sink.new) waiting.old.items waiting.new.items (head_text Two problem.now) result }
+    ensures { Puts (S.took sink.old sink.new) (S.stopped sink.old sink.new) waiting.old.items waiting.new.items (head_text version problem.now) result }
 {
-    let written = write_head(problem, waiting);
+    let written = write_head(version, problem, waiting);
     finish(written, sink, waiting)
 }
 
@@ -331,10 +360,22 @@ fn put_exhaustion<S: LineSink>(
     finish(written, sink, waiting)
 }
 
-fn put_complete<S: LineSink>(sink: &mut S, waiting: &mut Vec<u8>) -> Result<(), PutError<S::Error>>
+fn put_last<S: LineSink>(sink: &mut S, waiting: &mut Vec<u8>) -> Result<(), PutError<S::Error>>
     ensures { Puts (S.took sink.old sink.new) (S.stopped sink.old sink.new) waiting.old.items waiting.new.items (line_text (end_line (codes "complete"))) result }
 {
     let written = write_complete(waiting);
+    finish(written, sink, waiting)
+}
+
+fn put_last_level<S: LineSink>(
+    kind: Kind,
+    most: u32,
+    sink: &mut S,
+    waiting: &mut Vec<u8>,
+) -> Result<(), PutError<S::Error>>
+    ensures { Puts (S.took sink.old sink.new) (S.stopped sink.old sink.new) waiting.old.items waiting.new.items (line_text (level_line kind most)) result }
+{
+    let written = write_level(kind, most, waiting);
     finish(written, sink, waiting)
 }
 

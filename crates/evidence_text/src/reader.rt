@@ -3,12 +3,13 @@ ghost use Rattle.std.specs.Prelude.{◌≡◌, false, true, None, Some, Ok, List
 ghost use Rattle.evidence_rec.specs.declared.record.Record.{Record as Kept};
 ghost use Rattle.evidence_text.specs.Text.{Line, head_line, record_lines};
 ghost use Rattle.evidence_text.specs.Reading.{below};
-ghost use Rattle.evidence_text.specs.Readable.{IsReadable};
 ghost use Rattle.evidence_text.specs.Reader.{reader_of, head_of, head_answer, behind_head, head_again, piece_of, piece_answer, behind_piece, StandsAt};
 
 use crate::answer::Answer;
+use crate::fitting::problem_fits;
 use crate::head::read_head;
 use crate::lines::Lines;
+use crate::namings::Namings;
 use crate::offence::{Offence, Stop};
 use crate::record::read_piece;
 use crate::version::Version;
@@ -21,6 +22,7 @@ use std::marker::Model;
 pub struct EvidenceReader<'a> {
     problem: &'a Problem,
     version: Version,
+    namings: Namings,
     lines: Lines<'a>,
     line: u64,
     begun: bool,
@@ -33,17 +35,22 @@ impl<'a> Model for EvidenceReader<'a> {
 
     ghost Value = { Reader };
 
-    ghost view = { λ r. record { problem = r.problem.now; version = r.version; left = left_of r.lines; rest = rest_of r.lines; line = r.line; begun = r.begun; offence = r.offence } };
+    ghost view = { λ r. record { problem = r.problem.now; version = r.version; namings = r.namings; left = left_of r.lines; rest = rest_of r.lines; line = r.line; begun = r.begun; offence = r.offence } };
+
+    ghost use Rattle.evidence_text.specs.Namings.{AreWithin};
+
+    ghost invariant = { λ r. AreWithin r.problem.now.groups r.namings };
 }
 
 impl<'a> EvidenceReader<'a> {
     /// A reader of a text about this problem. It takes no memory.
-    pub fn new(problem: &'a Problem, bytes: &'a [u8]) -> EvidenceReader<'a>
+    pub fn new(alloc: Global, problem: &'a Problem, bytes: &'a [u8]) -> EvidenceReader<'a>
         ensures { result ≡ reader_of problem.now bytes.now }
     {
         EvidenceReader {
             problem,
             version: Version::One,
+            namings: Namings::new(alloc),
             lines: Lines::new(bytes),
             line: 1,
             begun: false,
@@ -91,10 +98,13 @@ impl<'a> EvidenceReader<'a> {
         if let Some(offence) = self.offence {
             return Ok(Answer::Offence(offence));
         }
+        // This also tells that the problem's numbers are small, so that what is read as a set is one of its groups.
+        problem_fits(self.problem);
         let mut lines = self.lines;
         let first = lines.at;
-        match read_piece(alloc, &mut lines, self.problem, self.version) {
+        match read_piece(alloc, &mut lines, self.problem, self.version, &self.namings) {
             Ok(Answer::Record(r)) => {
+                self.namings.add(self.version, &r)?;
                 self.line = first;
                 self.lines = lines;
                 Ok(Answer::Record(r))

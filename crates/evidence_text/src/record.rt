@@ -1,12 +1,17 @@
 //! Records.
 ghost use Rattle.std.specs.Prelude.{◌≡◌, ◌<◌, ◌+◌, ◌^◌, OnOk};
-ghost use Rattle.evidence_text.specs.Reading.{at_line, set_at, last_word_at, witness_line_at, witnesses_at, steps_at, refutation_at, refutations_at, conflict_at, correction_at, closing_at, complete_at, piece_at, is_nothing};
-ghost use Rattle.evidence_text.specs.Cursors.{left_of, rest_of, words_left, Gives, GivesBelow, GivesLine, ReadsNothing, conflict_behind, correction_behind, partial_behind, closing_ahead};
+ghost use Rattle.evidence_text.specs.Text.{end_map};
+ghost use Rattle.evidence_text.specs.Namings.{AreWithin};
+ghost use Rattle.evidence_text.specs.Readable.{closing_vars};
+ghost use Rattle.evidence_text.specs.Reading.{at_line, set_at, last_word_at, witness_line_at, witnesses_at, steps_at, reference_or_steps_at, refutation_at, refutations_at, conflict_at, correction_at, closing_at, last_line_at, piece_at, is_nothing};
+ghost use Rattle.evidence_text.specs.Cursors.{left_of, rest_of, words_left, Gives, GivesLine, ReadsNothing, conflict_behind, correction_behind, partial_behind, closing_ahead};
 
 use crate::answer::Answer;
-use crate::fields::{read_goal, read_last_word, read_set, read_witness};
+use crate::end::End;
+use crate::fields::{read_ending, read_goal, read_last_word, read_set, read_witness};
 use crate::goal::Goal;
 use crate::lines::Lines;
+use crate::namings::Namings;
 use crate::offence::{Stop, on_line, refusal};
 use crate::proof::read_proof;
 use crate::version::Version;
@@ -75,8 +80,8 @@ fn read_steps(
     Ok(Refutation::Steps(proof))
 }
 
-/// A group's refutation in version 2: the number of an earlier record, or steps.
-#[tactic(auto, unfolding(crate::specs::Reading::refutation_at))]
+/// A group's refutation from version 2 on: the number of an earlier record, or steps.
+#[tactic(auto, unfolding(crate::specs::Reading::reference_or_steps_at))]
 fn read_reference_or_steps(
     alloc: Global,
     lines: &mut Lines<'_>,
@@ -84,7 +89,7 @@ fn read_reference_or_steps(
     group: u32,
 ) -> Result<Refutation, Stop>
     requires { vars < 2 ^ 31 }
-    ensures refutation { Gives (λ r. r) result (left_of lines.new) (refutation_at Version.Two vars group (left_of lines.old).at (left_of lines.old).lines) }
+    ensures refutation { Gives (λ r. r) result (left_of lines.new) (reference_or_steps_at vars group (left_of lines.old).at (left_of lines.old).lines) }
     ensures rest { OnOk result (rest_of lines.new ≡ rest_of lines.old) }
 {
     let mut ahead = *lines;
@@ -119,6 +124,7 @@ fn read_refutation(
     match version {
         Version::One => read_steps(alloc, lines, vars, group),
         Version::Two => read_reference_or_steps(alloc, lines, vars, group),
+        Version::Three => read_reference_or_steps(alloc, lines, vars, group),
     }
 }
 
@@ -202,19 +208,61 @@ pub(crate) fn read_closing(
     alloc: Global,
     lines: &mut Lines<'_>,
     problem: &Problem,
-) -> Result<Derivation, Stop>
-    ensures closing { Gives (λ d. d) result (left_of lines.new) (closing_at problem.now (left_of lines.old).at (left_of lines.old).lines) }
+    version: Version,
+    namings: &Namings,
+) -> Result<End<Derivation>, Stop>
+    requires { AreWithin problem.now.groups namings.now }
+    ensures closing { Gives (λ ending. ending) result (left_of lines.new) (closing_at version problem.now namings.now (left_of lines.old).at (left_of lines.old).lines) }
     ensures rest { OnOk result (rest_of lines.new ≡ rest_of lines.old) }
 {
-    let closing = read_proof(alloc, lines, problem.groups(), Goal::Exhausts)?;
-    read_complete(lines)?;
-    Ok(closing)
+    let groups = problem.groups();
+    let proof = read_proof(alloc, lines, closing_vars(version, groups), Goal::Exhausts)?;
+    let says = read_last_line(alloc, lines, version, groups, namings)?;
+    Ok(with_proof(says, proof))
 }
 
-/// The last line, behind the closing part.
-#[tactic(auto, unfolding(crate::specs::Reading::complete_at))]
-fn read_complete(lines: &mut Lines<'_>) -> Result<(), Stop>
-    ensures complete { GivesBelow result (left_of lines.new) (complete_at (left_of lines.old).at (left_of lines.old).lines) }
+/// How many variables a closing part has.
+fn closing_vars(version: Version, groups: u32) -> u32
+    requires { groups < 2 ^ 31 }
+    ensures vars { result ≡ closing_vars version groups }
+    ensures small { result < 2 ^ 31 }
+{
+    match version {
+        Version::One => groups,
+        Version::Two => groups,
+        Version::Three => 0x7fff_ffff,
+    }
+}
+
+/// What a last line says, with the derivation that stands before it.
+fn with_proof(says: End<()>, proof: Derivation) -> End<Derivation>
+    ensures { result ≡ end_map (λ x. proof) says }
+{
+    match says {
+        End::Partial => {
+            drop(proof);
+            End::Partial
+        }
+        End::Complete(_) => End::Complete(proof),
+        End::Level {
+            kind,
+            most,
+            proof: _,
+        } => End::Level { kind, most, proof },
+    }
+}
+
+/// The last line, behind a closing part.
+#[tactic(auto, unfolding(crate::specs::Reading::last_line_at))]
+fn read_last_line(
+    alloc: Global,
+    lines: &mut Lines<'_>,
+    version: Version,
+    groups: u32,
+    namings: &Namings,
+) -> Result<End<()>, Stop>
+    requires { AreWithin groups namings.now }
+    ensures says { Gives (λ says. says) result (left_of lines.new) (last_line_at version groups namings.now (left_of lines.old).at (left_of lines.old).lines) }
     ensures rest { OnOk result (rest_of lines.new ≡ rest_of lines.old) }
 {
     let at = lines.at;
@@ -225,9 +273,9 @@ fn read_complete(lines: &mut Lines<'_>) -> Result<(), Stop>
     if letter != b'e' {
         return Err(refusal(at, Why::BadLine));
     }
-    match read_last_word(words, b"complete") {
-        Ok(()) => Ok(()),
-        Err(why) => Err(refusal(at, why)),
+    match read_ending(alloc, words, version, groups, namings) {
+        Ok(says) => Ok(says),
+        Err(halt) => Err(on_line(at, halt)),
     }
 }
 
@@ -283,7 +331,7 @@ fn read_partial_behind(lines: &Lines<'_>, at: u64, words: Words<'_>) -> Result<A
         return Err(refusal(at, why));
     }
     read_nothing(lines)?;
-    Ok(Answer::End(None))
+    Ok(Answer::End(End::Partial))
 }
 
 /// The closing part and the end.
@@ -291,24 +339,29 @@ fn read_closing_ahead(
     alloc: Global,
     lines: &mut Lines<'_>,
     problem: &Problem,
+    version: Version,
+    namings: &Namings,
 ) -> Result<Answer, Stop>
-    ensures piece { Gives (λ a. a) result (left_of lines.new) (closing_ahead problem.now (rest_of lines.old) (left_of lines.old)) }
+    requires { AreWithin problem.now.groups namings.now }
+    ensures piece { Gives (λ a. a) result (left_of lines.new) (closing_ahead version problem.now namings.now (rest_of lines.old) (left_of lines.old)) }
     ensures rest { OnOk result (rest_of lines.new ≡ rest_of lines.old) }
 {
-    let closing = read_closing(alloc, lines, problem)?;
+    let ending = read_closing(alloc, lines, problem, version, namings)?;
     read_nothing(lines)?;
-    Ok(Answer::End(Some(closing)))
+    Ok(Answer::End(ending))
 }
 
-/// A record or the end.
+/// A record or the end, where this was named.
 #[tactic(auto, unfolding(crate::specs::Reading::piece_at))]
 pub(crate) fn read_piece(
     alloc: Global,
     lines: &mut Lines<'_>,
     problem: &Problem,
     version: Version,
+    namings: &Namings,
 ) -> Result<Answer, Stop>
-    ensures piece { Gives (λ a. a) result (left_of lines.new) (piece_at version problem.now (rest_of lines.old) (left_of lines.old).at (left_of lines.old).lines) }
+    requires { AreWithin problem.now.groups namings.now }
+    ensures piece { Gives (λ a. a) result (left_of lines.new) (piece_at version problem.now namings.now (rest_of lines.old) (left_of lines.old).at (left_of lines.old).lines) }
     ensures rest { OnOk result (rest_of lines.new ≡ rest_of lines.old) }
 {
     let mut ahead = *lines;
@@ -330,6 +383,6 @@ pub(crate) fn read_piece(
             *lines = ahead;
             read_partial_behind(lines, at, words)
         },
-        _ => read_closing_ahead(alloc, lines, problem),
+        _ => read_closing_ahead(alloc, lines, problem, version, namings),
     }
 }

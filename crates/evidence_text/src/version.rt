@@ -10,17 +10,21 @@ pub enum Version {
     One,
     /// A refutation of a correction may be the number of an earlier record.
     Two,
+    /// That, and the text may end with a level.
+    Three,
 }
 
 impl Version {
-    /// The version of a number that is 1 or 2.
+    /// The version of a number from 1 to 3.
     pub(crate) fn of_number(number: u64) -> Version
         ensures { result ≡ version_of number }
     {
         if number == 1 {
             Version::One
-        } else {
+        } else if number == 2 {
             Version::Two
+        } else {
+            Version::Three
         }
     }
 
@@ -31,6 +35,7 @@ impl Version {
         match self {
             Version::One => 1,
             Version::Two => 2,
+            Version::Three => 3,
         }
     }
 }

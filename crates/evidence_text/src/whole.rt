@@ -1,10 +1,10 @@
 //! A text that is held whole: its sink takes nothing.
 ghost use Rattle.std.specs.Prelude.{◌≡◌, ℕ, [], ◌++◌, OnOk};
-ghost use Rattle.std.specs.Option.{option_map};
 ghost use Rattle.std.proofs.Common.{refl, ap, ◌∙◌};
 ghost use Rattle.evidence_rec.specs.Shorten.{shortened};
-ghost use Rattle.evidence_text.specs.Text.{record_text, end_text};
+ghost use Rattle.evidence_text.specs.Text.{end_map, record_text, end_text};
 
+use crate::end::End;
 use crate::line_sink::{LineSink, PutError};
 use crate::putting::{put_end, put_record};
 use evidence_rec::{Record, Records};
@@ -40,10 +40,10 @@ pub fn write_record(earlier: &Records, r: &Record, out: &mut Vec<u8>) -> Result<
 }
 
 /// Appends the closing part and the end, or that nothing is closed.
-pub fn write_end(closing: Option<&Derivation>, out: &mut Vec<u8>) -> Result<(), AllocError>
-    ensures { OnOk result (out.new.items ≡ out.old.items ++ end_text (option_map (λ d. d.now) closing.entry)) }
+pub fn write_end(ending: End<&Derivation>, out: &mut Vec<u8>) -> Result<(), AllocError>
+    ensures { OnOk result (out.new.items ≡ out.old.items ++ end_text (end_map (λ d. d.now) ending.entry)) }
 {
-    whole_or_none(put_end(closing, &mut Held, out))
+    whole_or_none(put_end(ending, &mut Held, out))
 }
 
 /// Whether there was memory for all lines.

@@ -5,7 +5,7 @@ ghost use Rattle.std.specs.Prelude.{◌≡◌, ◌+◌, ◌<◌, [], ◌∷◌, 
 ghost use Rattle.std.specs.List.{flat_map};
 ghost use Rattle.std.specs.Fmt.{decimal, signed_decimal};
 ghost use Rattle.sat_base.specs.Hints.{ids_of};
-ghost use Rattle.evidence_text.specs.Text.{line_text, head_text, set_line, step_line, goal_line, reference_line, witness_line, exhaustion_line, end_line, set_letter, trues_from};
+ghost use Rattle.evidence_text.specs.Text.{line_text, head_text, set_line, step_line, goal_line, reference_line, witness_line, exhaustion_line, end_line, kind_word, level_line, set_letter, trues_from};
 
 use crate::version::Version;
 use gm_base::{Assign, GroupSet, Hints, Kind, Lit, Problem, Step};
@@ -89,12 +89,12 @@ fn push_if_true(out: &mut Vec<u8>, witness: &Assign, at: usize) -> Result<(), Al
     }
 }
 
-/// Appends the head of a text of version 2 about this problem.
-pub fn write_head(problem: &Problem, out: &mut Vec<u8>) -> Result<(), AllocError>
-    ensures { OnOk result (out.new.items ≡ out.old.items ++ head_text Version.Two problem.now) }
+/// Appends the head of a text of this version about this problem.
+pub fn write_head(version: Version, problem: &Problem, out: &mut Vec<u8>) -> Result<(), AllocError>
+    ensures { OnOk result (out.new.items ≡ out.old.items ++ head_text version problem.now) }
 {
     push_text(out, "p gmev")?;
-    push_number(out, Version::Two.number())?;
+    push_number(out, version.number())?;
     push_number(out, u64::from(problem.vars()))?;
     push_number(out, problem.len() as u64)?;
     push_number(out, u64::from(problem.groups()))?;
@@ -178,7 +178,7 @@ pub(crate) fn write_witness(
     Ok(())
 }
 
-/// Appends the line behind the steps of the closing part: the id of the empty clause.
+/// Appends the line behind the steps of the closing part: the id of its goal.
 pub(crate) fn write_exhaustion(id: u64, out: &mut Vec<u8>) -> Result<(), AllocError>
     ensures { OnOk result (out.new.items ≡ out.old.items ++ line_text (exhaustion_line id)) }
 {
@@ -193,6 +193,26 @@ pub(crate) fn write_complete(out: &mut Vec<u8>) -> Result<(), AllocError>
     ensures { OnOk result (out.new.items ≡ out.old.items ++ line_text (end_line (codes "complete"))) }
 {
     push_text(out, "e complete\n")
+}
+
+/// The word of a kind.
+fn word_of(kind: Kind) -> &'static str
+    ensures { result.now ≡ kind_word kind }
+{
+    match kind {
+        Kind::Conflict => "conflicts",
+        Kind::Correction => "corrections",
+    }
+}
+
+/// Appends the last line of a text whose closing part is of a level.
+pub(crate) fn write_level(kind: Kind, most: u32, out: &mut Vec<u8>) -> Result<(), AllocError>
+    ensures { OnOk result (out.new.items ≡ out.old.items ++ line_text (level_line kind most)) }
+{
+    push_text(out, "e ")?;
+    push_text(out, word_of(kind))?;
+    push_number(out, u64::from(most))?;
+    push_text(out, "\n")
 }
 
 /// Appends the last line of a text without a closing part.

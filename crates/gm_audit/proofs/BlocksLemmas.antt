@@ -1,13 +1,14 @@
 -- The block clauses of records, one after another, and what closes them.
 use Rattle.std.proofs.Common.{◌≡◌, ℕ, zero, suc, ◌+◌, ◌<◌, ◌≤◌, true, false, List, [], ◌∷◌, ◌++◌, map, length, take, Option, Some, None, refl, ◌∙◌, ap, subst, arith}
-use Rattle.std.specs.Prelude.{ℤ, slice_get, if◌then◌else◌}
+use Rattle.std.specs.Prelude.{ℤ, Bool, cond, slice_get, if◌then◌else◌}
 use Rattle.std.specs.List.{list_all, AllByRecursion}
 use Rattle.std.specs.Option.{option_map_or}
-use Rattle.std.proofs.lemmas.Bool.{and_from}
+use Rattle.std.proofs.lemmas.Bool.{false≢true, and_parts, and_from}
 use Rattle.std.proofs.lemmas.List.{take_all, length-map, get_or-map}
 use Rattle.std.proofs.lemmas.Option.{slice_get_within, get_or_from_slice_get}
-use Rattle.sat_base.specs.Derivation.{Derivation, numbered, clause_of, all_known, is_nil, steps_follow, is_derivation}
+use Rattle.sat_base.specs.Derivation.{Derivation, numbered, clause_of, all_known, steps_follow, is_derivation, derives_within}
 use Rattle.gm_base.specs.Sets.{IsSubset, all_groups}
+use Rattle.gm_base.proofs.SetLemmas.{all_groups-has, has-all_groups}
 use Rattle.gm_base.specs.Problem.{Problem}
 use Rattle.gm_base.specs.Explored.{Found, block_clause}
 use Rattle.lrat_check.specs.declared.why.Why.{Why}
@@ -16,10 +17,9 @@ use Rattle.lrat_check.proofs.KnownLemmas.{length-numbered, numbered_next, last_i
 use Rattle.evidence_rec.specs.declared.record.Record.{Record}
 use Rattle.evidence_rec.specs.Records.{found_of, founds, set_of, AllAccepted}
 use Rattle.evidence_rec.specs.Refusals.{at_line, steps_refusal}
-use Rattle.evidence_rec.specs.Seeding.{shows_all_explored}
 use Rattle.evidence_rec.proofs.AcceptedLemmas.{accepted-at}
-use Rattle.evidence_rec.proofs.VerdictLemmas.{none-parts, steps-none}
-use Rattle.gm_audit.specs.Refusals.{empty_refusal, closing_refusal}
+use Rattle.evidence_rec.proofs.VerdictLemmas.{none-parts, or-goes, steps-none}
+use Rattle.gm_audit.specs.Refusals.{goal_refusal, derivation_refusal}
 
 abbrev pub blocks : List Record → List (List ℤ)
 blocks rs = map block_clause (founds rs)
@@ -49,33 +49,53 @@ pub within-at : (p : Problem) (rs : List Record) (at : ℕ) (r : Record) → All
     → slice_get rs at ≡ Some r → IsSubset (set_of r) (all_groups p.groups)
 within-at p rs at r all is = (accepted-at p rs at r all is).1.within
 
--- ---- a closing part in which nothing is refused
+-- a set of some groups is one of more
+pub subset-wider : (groups vars : ℕ) (set : List ℕ) → groups ≤ vars → IsSubset set (all_groups groups) → IsSubset set (all_groups vars)
+subset-wider groups vars set le within g inside =
+    let range = all_groups-has groups g (within g inside) in has-all_groups vars g range.0 (omega (arith, range.1, le))
 
-goal-empty : (o : Option (List ℤ))
-    → option_map_or (λ (c : List ℤ). if is_nil c then None else Some NotRefuting) o (Some UnknownClause) ≡ None
-    → option_map_or (λ (c : List ℤ). list_all (λ l. false) c) o false ≡ true
-goal-empty None h = absurd (some_none UnknownClause h)
+-- ---- a derivation in which nothing is refused
+
+goal-within : (o : Option (List ℤ)) (allowed : ℤ → Bool)
+    → option_map_or (λ (c : List ℤ). if list_all allowed c then None else Some NotRefuting) o (Some UnknownClause) ≡ None
+    → option_map_or (λ (c : List ℤ). list_all allowed c) o false ≡ true
+goal-within None allowed h = absurd (some_none UnknownClause h)
   where
     some_none : (w : Why) → Some w ≡ None → ⊥
     some_none w e = cc
-goal-empty (Some []) h = refl
-goal-empty (Some (l ∷ ls)) h = absurd (some_none NotRefuting h)
+goal-within (Some c) allowed h = by (list_all allowed c) h
   where
-    some_none : (w : Why) → Some w ≡ None → ⊥
-    some_none w e = cc
+    by : (t : Bool) → cond t None (Some NotRefuting) ≡ None → t ≡ true
+    by true h = refl
+    by false h = cc
+
+within-goal : (o : Option (List ℤ)) (allowed : ℤ → Bool) → option_map_or (λ (c : List ℤ). list_all allowed c) o false ≡ true
+    → option_map_or (λ (c : List ℤ). if list_all allowed c then None else Some NotRefuting) o (Some UnknownClause) ≡ None
+within-goal None allowed h = absurd (false≢true h)
+within-goal (Some c) allowed h = ap (λ t. cond t None (Some NotRefuting)) h
 
 at_line-none : (line : ℕ) (why : Option Why) → at_line line why ≡ None → why ≡ None
 at_line-none line None h = refl
 at_line-none line (Some w) h = cc
 
--- it derives the empty clause
-pub closing-shows : (groups : ℕ) (found : List Found) (d : Derivation) → closing_refusal groups found d ≡ None
-    → shows_all_explored groups found d ≡ true
-closing-shows groups found d h =
-    let cs : List (List ℤ) = map block_clause found in
-    let why : Option Why = empty_refusal (all_known cs d.steps) d.goal in
-    let parts = none-parts (steps_refusal groups (numbered 1 cs) 0 d.steps) (at_line (length d.steps) why) h in
-    and_from (is_derivation groups cs d) (option_map_or (λ (c : List ℤ). list_all (λ l. false) c) (clause_of (all_known cs d.steps) d.goal) false)
-    (subst (λ n. steps_follow groups n (numbered 1 cs) d.steps ≡ true) (last_id-numbered cs)
-    ((steps-none groups (numbered 1 cs) 0 d.steps).0 parts.0))
-    (goal-empty (clause_of (all_known cs d.steps) d.goal) (at_line-none (length d.steps) why parts.1))
+-- it derives a clause that has no other literals
+pub derivation-shows : (vars : ℕ) (clauses : List (List ℤ)) (allowed : ℤ → Bool) (d : Derivation) → derivation_refusal vars clauses allowed d ≡ None
+    → derives_within vars clauses d allowed ≡ true
+derivation-shows vars clauses allowed d h =
+    let why : Option Why = goal_refusal (all_known clauses d.steps) allowed d.goal in
+    let parts = none-parts (steps_refusal vars (numbered 1 clauses) 0 d.steps) (at_line (length d.steps) why) h in
+    and_from (is_derivation vars clauses d) (option_map_or (λ (c : List ℤ). list_all allowed c) (clause_of (all_known clauses d.steps) d.goal) false)
+    (subst (λ n. steps_follow vars n (numbered 1 clauses) d.steps ≡ true) (last_id-numbered clauses)
+    ((steps-none vars (numbered 1 clauses) 0 d.steps).0 parts.0))
+    (goal-within (clause_of (all_known clauses d.steps) d.goal) allowed (at_line-none (length d.steps) why parts.1))
+
+-- and the other way round
+pub shows-none : (vars : ℕ) (clauses : List (List ℤ)) (allowed : ℤ → Bool) (d : Derivation) → derives_within vars clauses d allowed ≡ true
+    → derivation_refusal vars clauses allowed d ≡ None
+shows-none vars clauses allowed d h =
+    let why : Option Why = goal_refusal (all_known clauses d.steps) allowed d.goal in
+    let parts = and_parts (is_derivation vars clauses d) (option_map_or (λ (c : List ℤ). list_all allowed c) (clause_of (all_known clauses d.steps) d.goal) false) h in
+    or-goes (steps_refusal vars (numbered 1 clauses) 0 d.steps) (at_line (length d.steps) why)
+    ((steps-none vars (numbered 1 clauses) 0 d.steps).1
+    (subst (λ n. steps_follow vars n (numbered 1 clauses) d.steps ≡ true) (sym (last_id-numbered clauses)) parts.0))
+    ∙ ap (λ (w : Option Why). at_line (length d.steps) w) (within-goal (clause_of (all_known clauses d.steps) d.goal) allowed parts.1)

@@ -42,7 +42,7 @@ fn audit_text(alloc: Global, problem: &Problem, bytes: &[u8]) -> Result<Audited,
 {
     // This also tells that the problem's numbers are small, so that a text can hold them.
     let _groups = problem.groups();
-    let mut reader = EvidenceReader::new(problem, bytes);
+    let mut reader = EvidenceReader::new(alloc, problem, bytes);
     if let Err(offence) = reader.head() {
         return Ok(Audited::refused(offence));
     }
@@ -54,7 +54,7 @@ fn audit_text(alloc: Global, problem: &Problem, bytes: &[u8]) -> Result<Audited,
                     return Ok(Audited::refused(offence));
                 }
             }
-            Answer::End(closing) => return auditor.close(alloc, problem, closing, reader.line()),
+            Answer::End(ending) => return auditor.close(alloc, problem, ending, reader.line()),
             Answer::Offence(offence) => return Ok(Audited::refused(offence)),
         }
     }

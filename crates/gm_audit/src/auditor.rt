@@ -1,13 +1,16 @@
 //! What is kept of a text from record to record: one checker for all records, the sets that stood there, and the records.
 ghost use Rattle.std.specs.Prelude.{◌≡◌, ◌∷◌, ◌++◌, [], IfOk, None, Ok};
+ghost use Rattle.evidence_rec.specs.Records.{founds, AllAccepted};
+ghost use Rattle.gm_audit.specs.Inside.{HasLiterals};
 ghost use Rattle.gm_audit.specs.Refusals.{placed_refusal, ending_refusal};
 ghost use Rattle.gm_audit.specs.Audits.{refusal_of, TellsKept};
+ghost use Rattle.evidence_text.specs.declared.end.End.TheVariants as ends;
 
 use crate::answer::Audited;
-use crate::closing::{closing_offence, offence_of};
+use crate::closing::{closing_offence, level_offence, offence_of};
 use evidence_rec::{Held, Record, RecordChecker, Records};
-use evidence_text::Offence;
-use gm_base::{Derivation, Problem};
+use evidence_text::{End, Offence};
+use gm_base::{Derivation, Kind, Problem};
 use lrat_check::Why;
 use std::alloc::{AllocError, Global};
 
@@ -91,27 +94,24 @@ impl Auditor {
         self,
         alloc: Global,
         problem: &Problem,
-        closing: Option<Derivation>,
+        ending: End<Derivation>,
         line: u64,
     ) -> Result<Audited, AllocError>
         requires auditing { IsAuditing problem.now self }
-        ensures refusal { IfOk result (λ a. refusal_of a ≡ ending_refusal problem.now self.records (Ok (line, closing))) }
-        ensures records { IfOk result (TellsKept self.records closing) }
+        requires literals { HasLiterals problem.now.groups (founds self.records) ending }
+        ensures refusal { IfOk result (λ a. refusal_of a ≡ ending_refusal problem.now self.records (Ok (line, ending))) }
+        ensures records { IfOk result (TellsKept self.records ending) }
     {
         let records = self.into_records();
-        let Some(proof) = closing else {
-            return Ok(Audited::Yes {
-                complete: false,
-                records,
-            });
-        };
-        let refusal = closing_offence(alloc, problem, &records, line, &proof)?;
-        match refusal {
-            Some(offence) => Ok(Audited::refused(offence)),
-            None => Ok(Audited::Yes {
-                complete: true,
+        match ending {
+            End::Partial => Ok(Audited::Yes {
+                ending: End::Partial,
                 records,
             }),
+            End::Complete(proof) => close_complete(alloc, problem, records, line, proof),
+            End::Level { kind, most, proof } => {
+                close_level(alloc, problem, records, line, kind, most, proof)
+            }
         }
     }
 
@@ -125,4 +125,55 @@ impl Auditor {
         } = self;
         records
     }
+}
+
+// All records, unless the closing part is refused that shows that none is missing.
+fn close_complete(
+    alloc: Global,
+    problem: &Problem,
+    records: Records,
+    line: u64,
+    proof: Derivation,
+) -> Result<Audited, AllocError>
+    requires { AllAccepted problem.now records }
+    ensures refusal { IfOk result (λ a. refusal_of a ≡ ending_refusal problem.now records (Ok (line, ends.Complete proof))) }
+    ensures records { IfOk result (TellsKept records (ends.Complete proof)) }
+{
+    let refusal = closing_offence(alloc, problem, &records, line, &proof)?;
+    match refusal {
+        Some(offence) => Ok(Audited::refused(offence)),
+        None => Ok(Audited::Yes {
+            ending: End::Complete(()),
+            records,
+        }),
+    }
+}
+
+// All records, unless the closing part is refused that shows a level.
+fn close_level(
+    alloc: Global,
+    problem: &Problem,
+    records: Records,
+    line: u64,
+    kind: Kind,
+    most: u32,
+    proof: Derivation,
+) -> Result<Audited, AllocError>
+    requires accepted { AllAccepted problem.now records }
+    requires literals { HasLiterals problem.now.groups (founds records) (ends.Level kind most proof) }
+    ensures refusal { IfOk result (λ a. refusal_of a ≡ ending_refusal problem.now records (Ok (line, ends.Level kind most proof))) }
+    ensures records { IfOk result (TellsKept records (ends.Level kind most proof)) }
+{
+    let refusal = level_offence(alloc, problem, &records, line, kind, most, &proof)?;
+    if let Some(offence) = refusal {
+        return Ok(Audited::refused(offence));
+    }
+    Ok(Audited::Yes {
+        ending: End::Level {
+            kind,
+            most,
+            proof: (),
+        },
+        records,
+    })
 }

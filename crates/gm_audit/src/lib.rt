@@ -5,8 +5,9 @@
 //!
 //! ```text
 //! match audit(alloc, &problem, bytes)? {
-//!     Audited::Yes { complete: true, records } => ..,  // their sets are exactly all minimal ones, by the contract
-//!     Audited::Yes { complete: false, records } => .., // their sets are minimal
+//!     Audited::Yes { ending: End::Complete(()), records } => ..,  // their sets are exactly all minimal ones, by the contract
+//!     Audited::Yes { ending: End::Level { kind, most, .. }, records } => .., // all of the kind with so many groups are there
+//!     Audited::Yes { ending: End::Partial, records } => .., // their sets are minimal
 //!     Audited::No { line, why } => ..,                 // the first refusal
 //! }
 //! ```
@@ -21,6 +22,7 @@ mod auditing;
 mod auditor;
 mod closing;
 pub mod laws;
+mod named;
 
 pub use answer::Audited;
 pub use auditing::audit;

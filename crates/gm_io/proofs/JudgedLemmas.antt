@@ -25,7 +25,7 @@ held-whole (Some (Some text)) limit left bytes read told is = sym (is ∙ told.0
 pub judges-audited : (p : Problem) (held : Option (Option (List ℕ))) (limit : ℕ) (left : Option (List ℕ)) (bytes : Vec ℕ Global) (read : List ℕ) (answer : Answer)
     → IfSome held (λ file. SaysOfName limit file left (Whole bytes)) → read ≡ bytes.items → refusal_of answer ≡ first_refusal p read
     → TellsRecords p read answer → TellsAll p answer → Judges p held (Audited answer)
-judges-audited p held limit left bytes read (Yes complete records) told is refusal shown all = record {
+judges-audited p held limit left bytes read (Yes end records) told is refusal shown all = record {
   text = read;
   is_held = held-whole held limit left bytes read told is;
   unrefused = sym refusal;

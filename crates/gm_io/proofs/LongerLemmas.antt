@@ -60,8 +60,8 @@ module _ (file known longer : List ℕ) (first second third new : FilesState) (o
   longer-behind (Ok begun) h = record {
     read = subst (λ held. AreRead held file longer begun.old begun.new) names h.read;
     extends = h.extends;
-    complete = h.complete;
-    shown = subst (λ held. AreShown begun.old (held known) h.complete begun.records) names h.shown;
+    end = h.end;
+    shown = subst (λ held. AreShown begun.old (held known) h.end begun.records) names h.shown;
     quiet = h.quiet ∙ quiet;
   }
   longer-behind (Err e) h = tt

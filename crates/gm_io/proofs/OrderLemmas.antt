@@ -236,7 +236,7 @@ Ascends-subsets groups = (
     short [] above = absurd above
     short (h ∷ t) above = refl
 
-Ascends-filter : (test : List ℕ → Bool) (ss : List (List ℕ)) → Ascends ss → Ascends (filter test ss)
+pub Ascends-filter : (test : List ℕ → Bool) (ss : List (List ℕ)) → Ascends ss → Ascends (filter test ss)
 Ascends-filter test [] up = tt
 Ascends-filter test (s ∷ ss) up =
     elim (cases_Bool (test s)) [
@@ -251,16 +251,16 @@ times-sum s [] = refl
 times-sum s (t ∷ ts) = ap (λ n. one_if (pointwise nat_eq t s) + n) (times-sum s ts) ∙ sym (sum_by-cons (λ u. one_if (pointwise nat_eq u s)) t ts)
 
 -- sets that are sorted are the list in order of the same sets
-sorted_is : (found us ts : List (List ℕ)) → IsSortedOf found us → Ascends ts → SameSets found ts → us ≡ ts
+pub sorted_is : (found us ts : List (List ℕ)) → IsSortedOf found us → Ascends ts → SameSets found ts → us ≡ ts
 sorted_is found us ts sorted up same =
     one_order us ts (Rises-from_sorted us (sorted_far below (ranks_by nat_list_cmp_total (λ x. x)) us sorted.order)) (Rises-from_ascends ts up)
     (λ s. times-sum s us ∙ sum_by-IsPermutation (λ t. one_if (pointwise nat_eq t s)) found us sorted.same ∙ sym (times-sum s found) ∙ same s)
 
-Ascends-conflicts : (p : Problem) → Ascends (conflicts p)
+pub Ascends-conflicts : (p : Problem) → Ascends (conflicts p)
 unfolding conflicts
 Ascends-conflicts p = Ascends-filter (is_conflict p) (subsets p.groups) (Ascends-subsets p.groups)
 
-Ascends-corrections : (p : Problem) → Ascends (corrections p)
+pub Ascends-corrections : (p : Problem) → Ascends (corrections p)
 unfolding corrections
 Ascends-corrections p = Ascends-filter (is_correction p) (subsets p.groups) (Ascends-subsets p.groups)
 

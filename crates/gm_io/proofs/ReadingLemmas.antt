@@ -1,5 +1,5 @@
 -- What a command begins with, and what stops it before.
-use Rattle.std.proofs.Common.{◌≡◌, ℕ, Bool, List, [], Option, Some, None, refl, sym, ◌∙◌, ap, subst}
+use Rattle.std.proofs.Common.{◌≡◌, ℕ, List, [], Option, Some, None, refl, sym, ◌∙◌, ap, subst}
 use Rattle.std.specs.Prelude.{Result, Ok, Err, IfOk, IfErr}
 use Rattle.gm_base.specs.Problem.{Problem}
 use Rattle.gm_ports.specs.Faults.{Rose}
@@ -9,6 +9,7 @@ use Rattle.gcnf_text.specs.declared.offence.Offence.{Offence}
 use Rattle.gcnf_text.specs.declared.reader.Read.{Read}
 use Rattle.gcnf_text.specs.declared.reader.Read.TheVariants as read
 use Rattle.evidence_rec.specs.declared.record.Record.{Record}
+use Rattle.evidence_text.specs.declared.end.End.{End}
 use Rattle.evidence_text.specs.declared.offence.Offence.{Offence as Refusal}
 use Rattle.gm_audit.specs.Refusals.{first_refusal}
 use Rattle.gm_io.specs.declared.beginning.Beginning.{Beginning}
@@ -22,10 +23,10 @@ use Rattle.gm_io.specs.Beginnings.{IsBegun, Refuses, RefusesEvidence, Stops, Sto
 
 -- ---- the records that are gone on from
 
-pub good-from : (p : Problem) (evidence : Option (List ℕ)) (held : List ℕ → Option (Option (List ℕ))) (complete : Bool) (first : List Record)
-    → GoesOnFrom p evidence held complete first → AreGoodFirst p first
-good-from p None held complete first none = subst (AreGoodFirst p) (sym none) (record { accepted = tt; distinct = tt })
-good-from p (Some name) held complete first shows = record { accepted = shows.shown.accepted; distinct = shows.shown.distinct }
+pub good-from : (p : Problem) (evidence : Option (List ℕ)) (held : List ℕ → Option (Option (List ℕ))) (end : End (Unit {0})) (first : List Record)
+    → GoesOnFrom p evidence held end first → AreGoodFirst p first
+good-from p None held end first none = subst (AreGoodFirst p) (sym none) (record { accepted = tt; distinct = tt })
+good-from p (Some name) held end first shows = record { accepted = shows.shown.accepted; distinct = shows.shown.distinct }
 
 -- ---- the file
 
@@ -56,12 +57,12 @@ module _ (p : Problem) (focus evidence : Option (List ℕ)) (old new : FilesStat
     reads =
         subst (λ q. OfFile (old.held file) (IsReadFor focus None evidence q old.unread)) (sym same)
         (file-by (old.held file) (IsReadAs focus p old.unread) (IsReadFor focus None evidence p old.unread) (λ text r. (r.0, λ _ _. r.1)) reads);
-    goes_on = subst (λ e. GoesOnFrom begun.problem e old.held begun.complete begun.records) (sym none) empty;
+    goes_on = subst (λ e. GoesOnFrom begun.problem e old.held begun.end begun.records) (sym none) empty;
     quiet = refl;
   }
 
   -- it shows these records
-  pub begun-shown : (begun : Beginning) (name : List ℕ) → begun.problem ≡ p → evidence ≡ Some name → AreShown p (old.held name) begun.complete begun.records
+  pub begun-shown : (begun : Beginning) (name : List ℕ) → begun.problem ≡ p → evidence ≡ Some name → AreShown p (old.held name) begun.end begun.records
       → new.read_faults ≡ old.read_faults → OfFile (old.held file) (IsReadAs focus p old.unread) → IsBegun file focus evidence old new begun
   begun-shown begun name same named shows quiet reads = record {
     reads =
@@ -69,8 +70,8 @@ module _ (p : Problem) (focus evidence : Option (List ℕ)) (old new : FilesStat
         (file-by (old.held file) (IsReadAs focus p old.unread) (IsReadFor focus None evidence p new.unread)
         (λ text r. (r.0, λ _ none. let never : Some name ≡ None = sym named ∙ none in cc)) reads);
     goes_on =
-        subst (λ e. GoesOnFrom begun.problem e old.held begun.complete begun.records) (sym named)
-        (subst (λ q. AreShown q (old.held name) begun.complete begun.records) (sym same) shows);
+        subst (λ e. GoesOnFrom begun.problem e old.held begun.end begun.records) (sym named)
+        (subst (λ q. AreShown q (old.held name) begun.end begun.records) (sym same) shows);
     quiet = quiet;
   }
 
@@ -111,7 +112,7 @@ module _ (file : List ℕ) (focus evidence : Option (List ℕ)) (old mid new : F
   pub begun-behind : (begun : Beginning) → IsBegun file focus evidence mid new begun → IsBegun file focus evidence old new begun
   begun-behind begun h = record {
     reads = subst (λ held. OfFile (held file) (IsReadFor focus None evidence begun.problem new.unread)) leaves.names h.reads;
-    goes_on = subst (λ held. GoesOnFrom begun.problem evidence held begun.complete begun.records) leaves.names h.goes_on;
+    goes_on = subst (λ held. GoesOnFrom begun.problem evidence held begun.end begun.records) leaves.names h.goes_on;
     quiet = h.quiet ∙ quiet;
   }
 

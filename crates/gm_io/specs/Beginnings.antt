@@ -1,10 +1,11 @@
 -- What a command begins with, and what stops it before: what each call that reads promises, by the ending that it comes to.
-use Rattle.std.specs.Prelude.{◌≡◌, ℕ, Bool, List, Option, Some, None}
+use Rattle.std.specs.Prelude.{◌≡◌, ℕ, List, Option, Some, None}
 use Rattle.gm_base.specs.Problem.{Problem}
 use Rattle.gm_ports.specs.Faults.{Rose}
 use Rattle.gm_ports.specs.FilesState.{FilesState}
 use Rattle.gcnf_text.specs.declared.offence.Offence.{Offence}
 use Rattle.edit_session.specs.Extends.{Extends}
+use Rattle.evidence_text.specs.declared.end.End.{End}
 use Rattle.evidence_text.specs.declared.offence.Offence.{Offence as Refusal}
 use Rattle.gm_audit.specs.Refusals.{first_refusal}
 use Rattle.gm_audit.specs.declared.answer.Audited.TheVariants as audited
@@ -33,7 +34,7 @@ StopsReading file old new _ = ⊥
 
 -- what became of the evidence that is held under a name
 abbrev pub Judges : Problem → Option (Option (List ℕ)) → Judged → Type 0
-Judges p held (judged.Audited (audited.Yes complete records)) = AreShown p held complete records
+Judges p held (judged.Audited (audited.Yes end records)) = AreShown p held end records
 Judges p held (judged.Audited (audited.No line why)) = OfFile held (λ text. first_refusal p text ≡ Some (record { line = line; why = why }))
 Judges p held judged.Failed = Unit {0}
 Judges p held judged.Memory = Unit {0}
@@ -53,7 +54,7 @@ RefusesEvidence refusal _ = ⊥
 -- a command begins with a problem that the file is a text of, narrowed where some groups are in focus, and with what the evidence, where some is named, shows of it
 pub record IsBegun (file : List ℕ) (focus evidence : Option (List ℕ)) (old new : FilesState) (begun : Beginning) : Type 0 where
   pub reads : OfFile (old.held file) (IsReadFor focus None evidence begun.problem new.unread)
-  pub goes_on : GoesOnFrom begun.problem evidence old.held begun.complete begun.records
+  pub goes_on : GoesOnFrom begun.problem evidence old.held begun.end begun.records
   pub quiet : new.read_faults ≡ old.read_faults
 
 -- or it ends there
@@ -79,8 +80,8 @@ Breaks place _ = ⊥
 pub record IsBegunLonger (file known longer : List ℕ) (old new : FilesState) (begun : Longer) : Type 0 where
   pub read : AreRead old.held file longer begun.old begun.new
   pub extends : Extends begun.old begun.new
-  pub complete : Bool
-  pub shown : AreShown begun.old (old.held known) complete begun.records
+  pub end : End (Unit {0})
+  pub shown : AreShown begun.old (old.held known) end begun.records
   pub quiet : new.read_faults ≡ old.read_faults
 
 -- or it ends there

@@ -11,6 +11,7 @@ use crate::input::read_file;
 use crate::judging::{Judged, judge};
 use crate::refusal::{line_of_evidence, line_of_refusal};
 use evidence_rec::Records;
+use evidence_text::End;
 use gcnf_text::{Offence, Read};
 use gm_audit::Audited;
 use gm_base::{GroupSet, Problem};
@@ -22,8 +23,8 @@ use std::alloc::{AllocError, Global};
 #[derive(Drop)]
 pub struct Beginning {
     pub problem: Problem,
-    /// Whether the evidence is complete.
-    pub complete: bool,
+    /// How the evidence ends; partial where none is named.
+    pub end: End<()>,
     pub records: Records,
 }
 
@@ -81,14 +82,14 @@ fn judge_named<F: Files>(
     let Some(name) = evidence else {
         return Ok(Beginning {
             problem,
-            complete: false,
+            end: End::Partial,
             records: Records::new(alloc),
         });
     };
     match judge(alloc, &problem, name, files) {
-        Judged::Audited(Audited::Yes { complete, records }) => Ok(Beginning {
+        Judged::Audited(Audited::Yes { ending, records }) => Ok(Beginning {
             problem,
-            complete,
+            end: ending,
             records,
         }),
         Judged::Audited(Audited::No { line, why }) => Err(refuse_evidence(alloc, line, &why)),

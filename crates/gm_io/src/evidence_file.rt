@@ -4,21 +4,19 @@
 //! time, and where 256 KiB or more wait, all of them are written. So at each moment what was written is a front part of
 //! the text, and what waits is what comes next.
 ghost use Rattle.std.specs.Prelude.{◌≡◌, [], IfErr, OnOk, OnErr};
-ghost use Rattle.std.specs.Option.{option_map};
 ghost use Rattle.std.proofs.Common.{refl, ◌∙◌};
 ghost use Rattle.gm_ports.specs.Faults.{Rose};
 ghost use Rattle.gm_ports.specs.FilesState.{WritingLeaves};
 ghost use Rattle.gm_ports.specs.Told.{ToldAppends, ToldGrowsWithin};
 ghost use Rattle.evidence_rec.specs.Records.{AllAccepted};
 ghost use Rattle.evidence_rec.specs.Shorten.{shorten};
-ghost use Rattle.evidence_text.specs.declared.version.Version.TheVariants.{Two};
-ghost use Rattle.evidence_text.specs.Text.{evidence_text};
+ghost use Rattle.evidence_text.specs.Text.{end_map, evidence_text};
 ghost use Rattle.evidence_text.specs.Putting.{IsCut};
 ghost use Rattle.gm_io.specs.Writing.{WritesOn, IsTaken, IsTakenToFault, IsCutOff, CutHasCause, IsWritten, IsFront};
 ghost use Rattle.gm_io.specs.Taking.{taken-nothing, taken-more, taken-last};
 
 use evidence_rec::Record;
-use evidence_text::{LineSink, PutError, put_evidence};
+use evidence_text::{End, LineSink, PutError, Version, put_evidence};
 use gm_base::{Derivation, Problem};
 use gm_ports::{Failed, Files};
 use std::alloc::Global;
@@ -33,18 +31,19 @@ pub enum CutOff {
 /// How many bytes may wait before they are written.
 const MOST_WAITING: usize = 262_144;
 
-/// Writes these records and what closes them under this name, as the evidence about the problem.
+/// Writes these records with this ending under this name, as the evidence about the problem, in a version that can hold them.
 pub fn write_evidence<F: Files>(
     alloc: Global,
+    version: Version,
     problem: &Problem,
     records: &[Record],
-    closing: Option<&Derivation>,
+    ending: End<&Derivation>,
     name: &str,
     files: &mut F,
 ) -> Result<(), CutOff>
     requires { AllAccepted problem.now records.now }
-    ensures whole { OnOk result (IsWritten name.now (evidence_text Two problem.now (shorten records.now) (option_map (λ d. d.now) closing.entry)) (F.state files.new)) }
-    ensures front { OnErr result (IsFront (evidence_text Two problem.now (shorten records.now) (option_map (λ d. d.now) closing.entry)) (F.state files.new)) }
+    ensures whole { OnOk result (IsWritten name.now (evidence_text version problem.now (shorten records.now) (end_map (λ d. d.now) ending.entry)) (F.state files.new)) }
+    ensures front { OnErr result (IsFront (evidence_text version problem.now (shorten records.now) (end_map (λ d. d.now) ending.entry)) (F.state files.new)) }
     ensures cause { IfErr result (λ why. CutHasCause why (F.state files.old).write_faults (F.state files.new).write_faults) }
     ensures quiet { OnOk result ((F.state files.new).write_faults ≡ (F.state files.old).write_faults) }
     ensures leaves { WritingLeaves (λ n. n ≡ name.now) (F.state files.old) (F.state files.new) }
@@ -52,7 +51,7 @@ pub fn write_evidence<F: Files>(
     let Ok(()) = files.open_out(name) else {
         return Err(CutOff::Failed);
     };
-    write_text(alloc, problem, records, closing, files)?;
+    write_text(alloc, version, problem, records, ending, files)?;
     match files.finish_out() {
         Ok(()) => Ok(()),
         Err(Failed) => Err(CutOff::Failed),
@@ -62,17 +61,18 @@ pub fn write_evidence<F: Files>(
 /// Writes the whole text to the opened output.
 fn write_text<F: Files>(
     alloc: Global,
+    version: Version,
     problem: &Problem,
     records: &[Record],
-    closing: Option<&Derivation>,
+    ending: End<&Derivation>,
     files: &mut F,
 ) -> Result<(), CutOff>
     requires { AllAccepted problem.now records.now }
-    ensures whole { OnOk result (IsTaken (F.state files.old) (F.state files.new) (evidence_text Two problem.now (shorten records.now) (option_map (λ d. d.now) closing.entry))) }
-    ensures cut_off { IfErr result (IsCutOff (F.state files.old) (F.state files.new) (evidence_text Two problem.now (shorten records.now) (option_map (λ d. d.now) closing.entry))) }
+    ensures whole { OnOk result (IsTaken (F.state files.old) (F.state files.new) (evidence_text version problem.now (shorten records.now) (end_map (λ d. d.now) ending.entry))) }
+    ensures cut_off { IfErr result (IsCutOff (F.state files.old) (F.state files.new) (evidence_text version problem.now (shorten records.now) (end_map (λ d. d.now) ending.entry))) }
 {
     let mut outlet = Outlet { files };
-    outlet.write_text(alloc, problem, records, closing)
+    outlet.write_text(alloc, version, problem, records, ending)
 }
 
 /// The opened output, which gets all that waits where it is much.
@@ -86,17 +86,18 @@ impl<'a, F: Files> Outlet<'a, F> {
     fn write_text(
         &mut self,
         alloc: Global,
+        version: Version,
         problem: &Problem,
         records: &[Record],
-        closing: Option<&Derivation>,
+        ending: End<&Derivation>,
     ) -> Result<(), CutOff>
         requires { AllAccepted problem.now records.now }
         ensures same_files { self.new.files.ghost_name ≡ self.old.files.ghost_name }
-        ensures whole { OnOk result (IsTaken (F.state self.old.files.now) (F.state self.new.files.now) (evidence_text Two problem.now (shorten records.now) (option_map (λ d. d.now) closing.entry))) }
-        ensures cut_off { IfErr result (IsCutOff (F.state self.old.files.now) (F.state self.new.files.now) (evidence_text Two problem.now (shorten records.now) (option_map (λ d. d.now) closing.entry))) }
+        ensures whole { OnOk result (IsTaken (F.state self.old.files.now) (F.state self.new.files.now) (evidence_text version problem.now (shorten records.now) (end_map (λ d. d.now) ending.entry))) }
+        ensures cut_off { IfErr result (IsCutOff (F.state self.old.files.now) (F.state self.new.files.now) (evidence_text version problem.now (shorten records.now) (end_map (λ d. d.now) ending.entry))) }
     {
         let mut waiting = Vec::new(alloc);
-        match put_evidence(alloc, problem, records, closing, self, &mut waiting) {
+        match put_evidence(alloc, version, problem, records, ending, self, &mut waiting) {
             Ok(()) => {}
             Err(PutError::Memory) => return Err(CutOff::Memory),
             Err(PutError::Sink(Failed)) => return Err(CutOff::Failed),

@@ -4,8 +4,8 @@
 //!
 //! ```text
 //! let ending = match begin(alloc, file, focus, Some(evidence), files) { // the file and the evidence, read and judged
-//!     Ok(Beginning { problem, complete, records }) => .., // its work, and then `report_of` and `write_outputs`
-//!     Err(ending) => ending,                              // what stopped it, with the line that tells why
+//!     Ok(Beginning { problem, end, records }) => .., // its work, and then `report_of` and `write_outputs`
+//!     Err(ending) => ending,                         // what stopped it, with the line that tells why
 //! };
 //! write_error_line(err, &ending); // the line on standard error, if one comes with it
 //! finish_of(alloc, ending)        // the status, and what is left of an enumeration
@@ -44,5 +44,5 @@ pub use error_line::write_error_line;
 pub use export_files::write_both;
 pub use longer::{Longer, begin_longer};
 pub use record_ids::ids_fit;
-pub use records_report::{conflict_numbered, counts_of, report_of};
+pub use records_report::{conflict_numbered, counts_of, least_report_of, report_of};
 pub use writing::{Stop, write_outputs};

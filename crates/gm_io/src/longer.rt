@@ -62,7 +62,7 @@ fn judge_known<F: Files>(
     match judge(alloc, &old, known, files) {
         Judged::Audited(
             Audited::Yes {
-                complete: _,
+                ending: _,
                 records,
             },
         ) => Ok(Longer { old, records, new }),

@@ -2,8 +2,10 @@
 ghost use Rattle.std.specs.Prelude.{◌≡◌, ◌<◌, ◌≤◌, IfOk, length};
 ghost use Rattle.gm_base.specs.Problem.{IsProblem, Problem};
 ghost use Rattle.gm_base.specs.declared.kind.Kind.TheVariants.{Conflict};
+ghost use Rattle.report_text.specs.LeastReports.{IsLeastReportOf};
 ghost use Rattle.report_text.specs.Reports.{IsReportOf};
 ghost use Rattle.evidence_rec.specs.Held.{conflicts_in, corrections_in};
+ghost use Rattle.size_levels.specs.Sizes.{sets_of_kind};
 ghost use Rattle.gm_io.specs.Counts.{drill_line};
 ghost use Rattle.gm_io.specs.Resuming.{AreGoodFirst};
 ghost use Rattle.gm_io.specs.Numbered.{IsConflictOf, IsNumberedIn, is_of};
@@ -11,7 +13,7 @@ ghost use Rattle.gm_io.specs.Numbered.{IsConflictOf, IsNumberedIn, is_of};
 use crate::drill_line::line_of_counts;
 use evidence_rec::Record;
 use gm_base::{GroupSet, Kind, Sets};
-use report_text::{in_order, report};
+use report_text::{in_order, least_report, report};
 use std::alloc::{AllocError, Global};
 
 /// The sets of records, by kind. They are lent by the records.
@@ -38,6 +40,23 @@ pub fn report_of(
         &found.conflicts,
         &found.corrections,
     )
+}
+
+/// The text of the sets of a kind that these records have with at most so many groups, where the greatest group is this one.
+pub fn least_report_of(
+    alloc: Global,
+    groups: u32,
+    kind: Kind,
+    most: u32,
+    records: &[Record],
+) -> Result<Vec<u8>, AllocError>
+    ensures { IfOk result (λ text. IsLeastReportOf groups most kind (sets_of_kind records.now kind) text.items) }
+{
+    let found = sets_of(alloc, records)?;
+    match kind {
+        Kind::Conflict => least_report(alloc, groups, most, Kind::Conflict, &found.conflicts),
+        Kind::Correction => least_report(alloc, groups, most, Kind::Correction, &found.corrections),
+    }
 }
 
 /// The line of how many sets of each kind these records have, where the greatest group is this one.

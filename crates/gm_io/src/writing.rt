@@ -8,6 +8,7 @@ ghost use Rattle.gm_io.specs.Writing.{CutHasCause};
 
 use crate::evidence_file::{CutOff, write_evidence};
 use crate::record_ids::ids_fit;
+use evidence_text::{Version, closed_by};
 use gm_base::Problem;
 use gm_ports::{Failed, Files, Sink, write_all};
 use map_core::Closing;
@@ -67,5 +68,6 @@ fn write_asked<F: Files>(
     };
     ids_fit(closing);
     let records = closing.records.as_slice();
-    write_evidence(alloc, problem, records, closing.proof.as_ref(), name, files)
+    let ending = closed_by(closing.proof.as_ref());
+    write_evidence(alloc, Version::Two, problem, records, ending, name, files)
 }

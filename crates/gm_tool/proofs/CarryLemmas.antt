@@ -18,6 +18,8 @@ use Rattle.evidence_rec.specs.declared.record.Record.{Record}
 use Rattle.edit_session.specs.Opening.{IsOpening, TellsCarried}
 use Rattle.edit_session.specs.declared.carried.Carried.{Carried}
 use Rattle.edit_session.specs.declared.carried.Carried.TheVariants as carry
+use Rattle.evidence_text.specs.declared.end.End.TheVariants as ends
+use Rattle.evidence_text.specs.declared.version.Version.TheVariants.{Two}
 use Rattle.gm_audit.proofs.YesLemmas.{shortened-is_yes}
 use Rattle.map_core.specs.declared.closing.Closing.{Closing}
 use Rattle.map_core.specs.declared.closing.Verdict.{Verdict}
@@ -201,7 +203,7 @@ module _ (q : Problem) (c : Carrying) (log : List LogStep) (old : FilesState) (m
 
   -- evidence of no records is valid
   dry-valid : HasSmallIds empty_closing → IsValid q empty_closing
-  dry-valid small = shortened-is_yes q [] None small.few tt small.records tt tt
+  dry-valid small = shortened-is_yes Two q [] ends.Partial tt small.few tt small.records tt tt
 
   dry-run : (written : Result (Unit {0}) Stop) → Writes q c.evidence empty_closing (held_report q []) mid new written
       → IsRun (asked_bounds c) (evidence_output c.evidence) (outside old mid.got mid.faults) new (DryLine written) (dry_finish written)
@@ -318,7 +320,7 @@ module _ (c : Carrying) (old : FilesState) (mid new : Outside) (longer : Longer)
         new_problem = longer.new;
         read = is.read;
         extends = is.extends;
-        complete = is.complete;
+        end = is.end;
         known = longer.records;
         shown = is.shown;
         went = went;

@@ -1,6 +1,6 @@
 -- What is left of an enumeration is valid evidence.
 use Rattle.std.proofs.Common.{◌≡◌, ◌≢◌, true, List, Option, Some, None, refl, sym, ap, subst}
-use Rattle.std.specs.Prelude.{IfSome, MatchOption, is_some}
+use Rattle.std.specs.Prelude.{IfSome, MatchOption}
 use Rattle.sat_base.specs.Derivation.{Derivation, HasIds}
 use Rattle.gm_base.specs.Problem.{Problem}
 use Rattle.lrat_steps.specs.Log.{LogStep}
@@ -8,28 +8,30 @@ use Rattle.evidence_rec.specs.declared.record.Record.{Record}
 use Rattle.evidence_rec.specs.Records.{founds}
 use Rattle.evidence_rec.specs.Seeding.{shows_all_explored}
 use Rattle.evidence_rec.specs.Shorten.{shorten}
-use Rattle.gm_audit.specs.Audits.{AuditYes}
+use Rattle.evidence_text.specs.declared.version.Version.TheVariants.{Two}
+use Rattle.evidence_text.specs.Text.{closed_by}
+use Rattle.gm_audit.specs.Audits.{AuditYes, CanClose, without_proof}
 use Rattle.gm_audit.proofs.YesLemmas.{shortened-is_yes}
 use Rattle.map_core.specs.declared.closing.Verdict.{Verdict}
 use Rattle.map_core.specs.declared.closing.Verdict.TheVariants as verdict
 use Rattle.map_core.specs.declared.closing.Closing.{Closing}
 use Rattle.gm_io.specs.declared.bounds.Bounds.{Bounds}
 use Rattle.gm_io.specs.Evidence.{evidence_of, HasSmallIds}
-use Rattle.gm_tool.specs.Closed.{IsClosedFor, is_complete, IsValid}
+use Rattle.gm_tool.specs.Closed.{IsClosedFor, end_by, is_complete, IsValid}
 use Rattle.gm_tool.proofs.ReportLemmas.{of-problem, accepted-in, distinct-in}
 
 -- ---- what is left is valid
 
 -- it is complete exactly where something closes it
 complete-by : (v : Verdict) (o : Option Derivation) (P : Derivation → Type 0)
-    → MatchOption o (v ≢ verdict.Complete) (λ d. (v ≡ verdict.Complete) × P d) → is_complete v ≡ is_some o
+    → MatchOption o (v ≢ verdict.Complete) (λ d. (v ≡ verdict.Complete) × P d) → end_by (is_complete v) ≡ without_proof (closed_by o)
 complete-by verdict.Complete None P m = absurd (m refl)
 complete-by verdict.Settled None P m = refl
 complete-by verdict.Journal None P m = refl
 complete-by verdict.Memory None P m = refl
 complete-by verdict.Limit None P m = refl
 complete-by verdict.Budget None P m = refl
-complete-by v (Some d) P m = ap is_complete m.0
+complete-by v (Some d) P m = ap (λ w. end_by (is_complete w)) m.0
 
 shown-by : (v : Verdict) (o : Option Derivation) (P Q : Derivation → Type 0)
     → MatchOption o (v ≢ verdict.Complete) (λ d. (v ≡ verdict.Complete) × P d) → ((d : Derivation) → P d → Q d) → IfSome o Q
@@ -38,7 +40,7 @@ shown-by v (Some d) P Q m f = f d m.1
 
 -- what closes it, with its ids
 closes-by : (p : Problem) (rs : List Record) (o : Option Derivation) → IfSome o (λ d. shows_all_explored p.groups (founds rs) d ≡ true) → IfSome o HasIds
-    → IfSome o (λ d. (shows_all_explored p.groups (founds rs) d ≡ true) × HasIds d)
+    → CanClose Two p rs (closed_by o)
 closes-by p rs None shows ids = tt
 closes-by p rs (Some d) shows ids = (shows, ids)
 
@@ -46,7 +48,7 @@ pub valid-from : {p : Problem} {first : List Record} {b : Bounds} {logs : List (
     → HasSmallIds closing → IsValid p closing
 valid-from {p} closing h small =
     subst (AuditYes p (evidence_of p closing) (shorten closing.records)) (sym (complete-by closing.verdict closing.proof Shows h.left.closing_is.proof))
-    (shortened-is_yes p closing.records closing.proof small.few (accepted-in h) small.records (distinct-in h)
+    (shortened-is_yes Two p closing.records (closed_by closing.proof) tt small.few (accepted-in h) small.records (distinct-in h)
     (closes-by p closing.records closing.proof closes small.proof))
   where
     Shows : Derivation → Type 0

@@ -98,7 +98,7 @@ module _ (x : Exporting) (old mid new : FilesState) (got : Option (List ℕ)) (f
               record {
                 problem = begun.problem;
                 reads = read-alone (old.held x.file) begun.problem None None (Some x.evidence) mid.unread is.reads;
-                complete = begun.complete;
+                end = begun.end;
                 records = begun.records;
                 shown = is.goes_on;
                 found = found;
@@ -153,7 +153,7 @@ module _ (x : Exporting) (old mid new : FilesState) (got : Option (List ℕ)) (f
                   record {
                     problem = begun.problem;
                     reads = read-alone (old.held x.file) begun.problem None None (Some x.evidence) mid.unread is.reads;
-                    complete = begun.complete;
+                    end = begun.end;
                     records = begun.records;
                     shown = is.goes_on;
                     fewer = h.0;
@@ -167,7 +167,7 @@ module _ (x : Exporting) (old mid new : FilesState) (got : Option (List ℕ)) (f
               within =
                   λ none ok has.
                   absurd
-                  (let enough = has begun.problem begun.complete begun.records (read-alone (old.held x.file) begun.problem None None (Some x.evidence) mid.unread is.reads) is.goes_on in
+                  (let enough = has begun.problem begun.end begun.records (read-alone (old.held x.file) begun.problem None None (Some x.evidence) mid.unread is.reads) is.goes_on in
                   let fewer = h.0 in
                   omega arith);
             };

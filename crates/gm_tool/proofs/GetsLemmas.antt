@@ -101,7 +101,7 @@ module _ (Gets Has : List ℕ → Type 0) (f : (line : List ℕ) → Gets line �
     problem = h.problem;
     reads = h.reads;
     first = h.first;
-    complete = h.complete;
+    end = h.end;
     goes_on = h.goes_on;
     listed = listed-gets h.problem h.first (bounds_for l) finish.logs l.evidence old new finish h.listed;
   }
@@ -166,7 +166,7 @@ module _ (Gets Has : List ℕ → Type 0) (f : (line : List ℕ) → Gets line �
     new_problem = h.new_problem;
     read = h.read;
     extends = h.extends;
-    complete = h.complete;
+    end = h.end;
     known = h.known;
     shown = h.shown;
     went =
@@ -194,7 +194,7 @@ module _ (Gets Has : List ℕ → Type 0) (f : (line : List ℕ) → Gets line �
         record {
           problem = k.problem;
           reads = k.reads;
-          complete = k.complete;
+          end = k.end;
           records = k.records;
           shown = k.shown;
           whole = k.whole;
@@ -230,7 +230,7 @@ module _ (Gets Has : List ℕ → Type 0) (f : (line : List ℕ) → Gets line �
         record {
           problem = k.problem;
           reads = k.reads;
-          complete = k.complete;
+          end = k.end;
           records = k.records;
           shown = k.shown;
           found = k.found;
@@ -246,7 +246,7 @@ module _ (Gets Has : List ℕ → Type 0) (f : (line : List ℕ) → Gets line �
         record {
           problem = k.problem;
           reads = k.reads;
-          complete = k.complete;
+          end = k.end;
           records = k.records;
           shown = k.shown;
           fewer = k.fewer;
@@ -283,7 +283,7 @@ module _ (Gets Has : List ℕ → Type 0) (f : (line : List ℕ) → Gets line �
     judged = judged-gets a.file a.focus None old.files new.files finish.status h.judged;
     unwritten = h.unwritten;
     accepted = h.accepted;
-    complete = h.complete;
+    end = h.end;
   }
   done-gets (Some (carrying c)) old new finish h = record {
     statuses = h.statuses;

@@ -279,7 +279,7 @@ module _ (l : Listing) (old : FilesState) (mid new : Outside) (begun : Beginning
         problem = begun.problem;
         reads = read-for (old.held l.file) begun.problem l.focus l.evidence l.resume mid.files new.files is.reads same;
         first = begun.records;
-        complete = begun.complete;
+        end = begun.end;
         goes_on = is.goes_on;
         listed = h;
       }
@@ -314,7 +314,7 @@ module _ (l : Listing) (old : FilesState) (mid new : Outside) (begun : Beginning
 module _ (c : Checking) (old : FilesState) (mid new : Outside) (begun : Beginning) (reads : ReadingLeaves old mid.files)
     (is : IsBegun c.file c.focus (Some c.evidence) old mid.files begun) (untouched : new.files ≡ mid.files) where
   abbrev report : List ℕ
-  report = shown_report begun.problem begun.complete begun.records
+  report = shown_report begun.problem begun.end begun.records
 
   run-checked : (Gets : List ℕ → Type 0) (status : ℕ) → IsAmong (0 ∷ 7 ∷ []) status → (status ≡ 0 → (new.faults ≡ mid.faults) × ToldAppends mid.got new.got report)
       → (status ≡ 7 → IsReportFault Gets (outside old mid.got mid.faults) new × ToldGrowsWithin mid.got new.got report)
@@ -339,7 +339,7 @@ module _ (c : Checking) (old : FilesState) (mid new : Outside) (begun : Beginnin
               record {
                 problem = begun.problem;
                 reads = read-alone (old.held c.file) begun.problem c.focus None (Some c.evidence) mid.files.unread is.reads;
-                complete = begun.complete;
+                end = begun.end;
                 records = begun.records;
                 shown = is.goes_on;
                 whole = λ e. (whole e).1;

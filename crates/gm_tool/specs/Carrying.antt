@@ -1,5 +1,5 @@
 -- What a carrying tells: what each status says, its cause, and what has to come.
-use Rattle.std.specs.Prelude.{◌≡◌, ◌⊎◌, ℕ, ◌+◌, ◌<◌, Bool, false, List, [], ◌∷◌, length, Some, None, IfSome}
+use Rattle.std.specs.Prelude.{◌≡◌, ◌⊎◌, ℕ, ◌+◌, ◌<◌, false, List, [], ◌∷◌, length, Some, None, IfSome}
 use Rattle.gm_base.specs.Sets.{IsGroupSet, IsSubset, all_groups}
 use Rattle.gm_base.specs.Problem.{Problem}
 use Rattle.gm_ports.specs.FilesState.{ReadingLeaves}
@@ -9,6 +9,7 @@ use Rattle.lrat_steps.specs.Log.{LogStep, db_of, learned_count}
 use Rattle.lrat_steps.specs.Undecided.{Undecided}
 use Rattle.evidence_rec.specs.Asking.{IsHonestOver, selectors}
 use Rattle.evidence_rec.specs.declared.record.Record.{Record}
+use Rattle.evidence_text.specs.declared.end.End.{End}
 use Rattle.edit_session.specs.Extends.{Extends}
 use Rattle.edit_session.specs.Opening.{IsOpening}
 use Rattle.map_core.specs.declared.closing.Closing.{Closing}
@@ -70,9 +71,9 @@ pub record IsCarried (c : Carrying) (old new : Outside) (Gets : List ℕ → Typ
   pub new_problem : Problem
   pub read : AreRead old.files.held c.old c.new old_problem new_problem
   pub extends : Extends old_problem new_problem
-  pub complete : Bool
+  pub end : End (Unit {0})
   pub known : List Record
-  pub shown : AreShown old_problem (old.files.held c.known) complete known
+  pub shown : AreShown old_problem (old.files.held c.known) end known
   pub went : IsCarriedOn c old_problem new_problem known old new Gets finish ⊎ IsDried c new_problem old new Gets finish
 
 -- fewer records than the greatest limit are held, where an enumeration is closed

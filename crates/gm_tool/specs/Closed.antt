@@ -24,6 +24,8 @@ use Rattle.map_core.specs.Closings.{HoldsAll}
 use Rattle.map_core.specs.Core.{is_held, is_told}
 use Rattle.map_core.specs.Own.{calls_of}
 use Rattle.map_core.specs.Sound.{AreNew}
+use Rattle.evidence_text.specs.declared.end.End.{End}
+use Rattle.evidence_text.specs.declared.end.End.TheVariants as ends
 use Rattle.gm_audit.specs.Audits.{AuditYes}
 use Rattle.worker_pool.specs.Course.{EndsUndecided}
 pub use Rattle.worker_pool.specs.Outcomes.{learned_in}
@@ -113,6 +115,11 @@ pub record IsEnumerated (p : Problem) (first : List Record) (b : Bounds) (logs :
 abbrev pub report_for : Problem → Closing → List ℕ
 report_for p closing = if is_complete closing.verdict then full_report p else held_report p closing.records
 
+-- how the evidence of an enumeration ends, complete or not
+abbrev pub end_by : Bool → End (Unit {0})
+end_by true = ends.Complete tt
+end_by false = ends.Partial
+
 -- as evidence it shows what each record says, and that none is missing where the enumeration is complete
 abbrev pub IsValid : Problem → Closing → Type 0
-IsValid p closing = AuditYes p (evidence_of p closing) (shorten closing.records) (is_complete closing.verdict)
+IsValid p closing = AuditYes p (evidence_of p closing) (shorten closing.records) (end_by (is_complete closing.verdict))

@@ -1,11 +1,12 @@
 -- What an export tells: what each status says, its cause, and what has to come.
-use Rattle.std.specs.Prelude.{◌≡◌, ◌<◌, ◌≤◌, ℕ, Bool, List, [], ◌∷◌, length, Some, None}
+use Rattle.std.specs.Prelude.{◌≡◌, ◌<◌, ◌≤◌, ℕ, List, [], ◌∷◌, length, Some, None}
 use Rattle.gm_base.specs.Problem.{Problem}
 use Rattle.gm_ports.specs.FilesState.{ReadingLeaves}
 use Rattle.gcnf_text.specs.Grammar.{Reads}
 use Rattle.gm_words.specs.Reading.{Exporting}
 use Rattle.evidence_rec.specs.declared.record.Record.{Record}
 use Rattle.evidence_rec.specs.Records.{set_of}
+use Rattle.evidence_text.specs.declared.end.End.{End}
 use Rattle.lrat_export.specs.Cnf.{clauses_of, cnf_text}
 use Rattle.lrat_export.specs.Conflict.{proof_of}
 use Rattle.lrat_export.specs.Export.{exported as exported_steps, lrat_text}
@@ -39,9 +40,9 @@ IsRefuted p found = IsRefutation p.vars (clauses_of p (set_of found)) (exported_
 pub record IsExported (x : Exporting) (old new : Outside) (Gets : List ℕ → Type 0) (status : ℕ) : Type 0 where
   pub problem : Problem
   pub reads : OfFile (old.files.held x.file) (λ text. Reads text problem)
-  pub complete : Bool
+  pub end : End (Unit {0})
   pub records : List Record
-  pub shown : AreShown problem (old.files.held x.evidence) complete records
+  pub shown : AreShown problem (old.files.held x.evidence) end records
   pub found : Record
   pub numbered : IsNumberedRecord problem records x.number found
   pub refuted : IsRefuted problem found
@@ -53,18 +54,18 @@ pub record IsExported (x : Exporting) (old new : Outside) (Gets : List ℕ → T
 pub record IsMissing (x : Exporting) (old : Outside) (Gets : List ℕ → Type 0) : Type 0 where
   pub problem : Problem
   pub reads : OfFile (old.files.held x.file) (λ text. Reads text problem)
-  pub complete : Bool
+  pub end : End (Unit {0})
   pub records : List Record
-  pub shown : AreShown problem (old.files.held x.evidence) complete records
+  pub shown : AreShown problem (old.files.held x.evidence) end records
   pub fewer : length (shown_conflicts problem records) < x.number
   pub line : Gets (no_conflict_line x.number)
 
 -- whatever problem the file is a text of, and whatever records the evidence shows, there are as many conflicts
 abbrev pub HasNumber : Exporting → Outside → Type 0
 HasNumber x old =
-    (p : Problem) (complete : Bool) (records : List Record)
+    (p : Problem) (end : End (Unit {0})) (records : List Record)
     → OfFile (old.files.held x.file) (λ text. Reads text p)
-    → AreShown p (old.files.held x.evidence) complete records
+    → AreShown p (old.files.held x.evidence) end records
     → x.number ≤ length (shown_conflicts p records)
 
 pub record IsExporting (x : Exporting) (old new : Outside) (Gets : List ℕ → Type 0) (finish : Finish) : Type 0 where

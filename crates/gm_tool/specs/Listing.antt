@@ -1,11 +1,12 @@
 -- What a listing tells: what each status says, its cause, and what has to come.
-use Rattle.std.specs.Prelude.{◌≡◌, ◌≢◌, ◌⊎◌, ℕ, Bool, List, [], ◌∷◌, Option, Some, None, IfSome, is_some}
+use Rattle.std.specs.Prelude.{◌≡◌, ◌≢◌, ◌⊎◌, ℕ, List, [], ◌∷◌, Option, Some, None, IfSome, is_some}
 use Rattle.gm_base.specs.Problem.{Problem}
 use Rattle.gm_ports.specs.FilesState.{ReadingLeaves}
 use Rattle.gm_ports.specs.Told.{ToldAppends, ToldGrowsWithin}
 use Rattle.gm_words.specs.Reading.{Listing}
 use Rattle.lrat_steps.specs.Log.{LogStep}
 use Rattle.evidence_rec.specs.declared.record.Record.{Record}
+use Rattle.evidence_text.specs.declared.end.End.{End}
 use Rattle.map_core.specs.declared.closing.Closing.{Closing}
 use Rattle.map_core.specs.declared.entry.Goal.TheVariants.{All}
 use Rattle.gm_io.specs.declared.bounds.Bounds.{Bounds}
@@ -65,9 +66,9 @@ pub record IsListedFrom (l : Listing) (old new : Outside) (Gets : List ℕ → T
   pub problem : Problem
   pub reads : OfFile (old.files.held l.file) (IsReadFor l.focus l.evidence l.resume problem new.files.unread)
   pub first : List Record
-  -- whether the evidence that it goes on from, if any, is complete
-  pub complete : Bool
-  pub goes_on : GoesOnFrom problem l.resume old.files.held complete first
+  -- how the evidence that it goes on from, if any, ends
+  pub end : End (Unit {0})
+  pub goes_on : GoesOnFrom problem l.resume old.files.held end first
   pub listed : IsListed problem first (bounds_for l) finish.logs l.evidence old new Gets finish
 
 pub record IsListing (l : Listing) (old new : Outside) (Gets : List ℕ → Type 0) (finish : Finish) : Type 0 where

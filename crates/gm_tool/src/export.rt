@@ -36,7 +36,7 @@ pub fn export_conflict<F: Files>(alloc: Global, exporting: Exporting<'_>, files:
         Ok(
             Beginning {
                 problem,
-                complete: _,
+                end: _,
                 records,
             },
         ) => {

@@ -97,7 +97,7 @@ fn list_file<F: Files, O: Sink, G: Gate, R: Threads + Wait + Sync>(
         Ok(
             Beginning {
                 problem,
-                complete: _,
+                end: _,
                 records,
             },
         ) => {

@@ -47,7 +47,7 @@ pub fn ask_file<F: Files, O: Sink, G: Gate, R: Threads + Wait + Sync>(
         Ok(
             Beginning {
                 problem,
-                complete: _,
+                end: _,
                 records: _,
             },
         ) => ask_problem(rt, alloc, &problem, bounds, out, gate),

@@ -47,7 +47,7 @@ impl Model for Checker {
 }
 
 impl Checker {
-    ghost use Rattle.lrat_check.specs.Refusal.{step_refusal, IsStep};
+    ghost use Rattle.lrat_check.specs.Refusal.{last_id, step_refusal, IsStep};
     ghost use Rattle.lrat_check.specs.State.{HasRoomFor, IdsAscend, refusal_of, known_after};
 
     /// A checker of steps from these clauses, whose ids are 1, 2 and so on, over the variables 1 to `vars`.
@@ -92,6 +92,21 @@ impl Checker {
         ensures literal_room { self.old.literal_room ≤ self.new.literal_room + length lits.now }
     {
         self.clauses.add_input(lits)
+    }
+
+    /// Adds a clause under an id of its own, above all so far. It is not checked: who adds it answers for it.
+    pub fn add_clause(&mut self, id: u64, lits: &[Lit]) -> Result<(), AllocError>
+        requires over { AreLiterals self.old.vars lits.now }
+        requires rises { last_id self.old.known < id }
+        ensures added { OnOk result (self.new.known ≡ self.old.known ++ (id, lits.now) ∷ []) }
+        ensures err { OnErr result (self.new.known ≡ self.old.known) }
+        ensures succeeds { HasRoomFor self.old 1 (length lits.now) → IsOk result }
+        ensures vars { self.new.vars ≡ self.old.vars }
+        ensures inputs { self.new.inputs ≡ self.old.inputs }
+        ensures room { self.old.room ≤ self.new.room + 1 }
+        ensures literal_room { self.old.literal_room ≤ self.new.literal_room + length lits.now }
+    {
+        self.clauses.add(id, lits)
     }
 
     pub fn vars(&self) -> u32

@@ -1,1 +1,3 @@
 mod RoleLines
+mod SizeOrder
+mod LeastLemmas

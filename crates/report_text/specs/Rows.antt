@@ -34,6 +34,10 @@ pub clashing_background_report :
 unfolding digits report_text conflicts corrections is_conflict is_correction is_sat
 clashing_background_report = refl
 
+-- one clause that can be made true
+abbrev pub one_unit : Problem
+one_unit = record { vars = 1; groups = 1; clauses = in_group 1 (pos 1 ∷ []) ∷ [] }
+
 -- an empty clause
 abbrev pub empty_clause : Problem
 empty_clause = record { vars = 0; groups = 1; clauses = in_group 1 [] ∷ [] }

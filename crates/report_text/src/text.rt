@@ -36,7 +36,8 @@ fn push_set(out: &mut Vec<u8>, letter: &str, set: &GroupSet) -> Result<(), Alloc
     push_text(out, " 0\n")
 }
 
-fn push_sets(out: &mut Vec<u8>, letter: &str, sets: &[&GroupSet]) -> Result<(), AllocError>
+/// A line for each set.
+pub fn push_sets(out: &mut Vec<u8>, letter: &str, sets: &[&GroupSet]) -> Result<(), AllocError>
     ensures { OnOk result (out.new.items ≡ out.old.items ++ flat_map (set_line letter.now) (lists_of sets.now)) }
 {
     for set in sets {

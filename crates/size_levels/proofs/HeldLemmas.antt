@@ -169,7 +169,7 @@ missing-larger kind p bound records set h is_set within is missing =
     ]
 
 -- the minimal sets of a kind are of that kind
-minimal-is : (p : Problem) (kind : Kind) (s : List ℕ) → In s (minimal_sets p kind)
+pub minimal-is : (p : Problem) (kind : Kind) (s : List ℕ) → In s (minimal_sets p kind)
     → IsGroupSet s × IsSubset s (all_groups p.groups) × IsOfKind p kind s
 unfolding conflicts corrections
 minimal-is p kinds.Conflict s i =

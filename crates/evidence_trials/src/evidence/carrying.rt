@@ -44,7 +44,7 @@ fn carry_evidence(
 {
     match audit(alloc, problem, evidence)? {
         Audited::Yes {
-            complete: _,
+            ending: _,
             records,
         } => carry_records(problem, &records, longer, alloc, out),
         Audited::No { line: _, why: _ } => show("the evidence is refused", out),

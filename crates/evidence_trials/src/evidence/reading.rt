@@ -2,7 +2,9 @@
 ghost use Rattle.std.specs.Prelude.{◌≡◌, true, IfOk};
 
 use evidence_rec::{Record, Records};
-use evidence_text::{Answer, EvidenceReader, Offence, write_end, write_head, write_record};
+use evidence_text::{
+    Answer, End, EvidenceReader, Offence, Version, write_end, write_head, write_record,
+};
 use gm_base::{Derivation, Problem};
 use std::alloc::{AllocError, Global};
 
@@ -27,11 +29,11 @@ pub fn read_and_write(
     keeps: bool,
     out: &mut Vec<u8>,
 ) -> Result<Outcome, AllocError> {
-    let mut reader = match begin(problem, text) {
+    let mut reader = match begin(alloc, problem, text) {
         Ok(reader) => reader,
         Err(offence) => return Ok(Outcome::Refused(offence)),
     };
-    write_head(problem, out)?;
+    write_head(version_of(text), problem, out)?;
     let mut earlier = Records::new(alloc);
     for _ in text {
         if let Some(outcome) = write_next(alloc, &mut reader, keeps, &mut earlier, out)? {
@@ -54,7 +56,7 @@ fn write_next(
 {
     match following(alloc, reader)? {
         Answer::Record(record) => write_on(record, keeps, earlier, out),
-        Answer::End(closing) => write_closing(closing, out),
+        Answer::End(end) => write_closing(&end, out),
         Answer::Offence(offence) => outcome_of(alloc, reader, offence),
     }
 }
@@ -91,10 +93,14 @@ fn outcome_of(
 }
 
 /// A reader whose head was answered.
-fn begin<'a>(problem: &'a Problem, text: &'a [u8]) -> Result<EvidenceReader<'a>, Offence>
+fn begin<'a>(
+    alloc: Global,
+    problem: &'a Problem,
+    text: &'a [u8],
+) -> Result<EvidenceReader<'a>, Offence>
     ensures { IfOk result (λ reader. reader.begun ≡ true) }
 {
-    let mut reader = EvidenceReader::new(problem, text);
+    let mut reader = EvidenceReader::new(alloc, problem, text);
     match reader.head() {
         Ok(()) => Ok(reader),
         Err(offence) => Err(offence),
@@ -124,9 +130,26 @@ fn is_told_again(
 }
 
 fn write_closing(
-    closing: Option<Derivation>,
+    end: &End<Derivation>,
     out: &mut Vec<u8>,
 ) -> Result<Option<Outcome>, AllocError> {
-    write_end(closing.as_ref(), out)?;
+    let end = match end {
+        End::Partial => End::Partial,
+        End::Complete(proof) => End::Complete(proof),
+        End::Level { kind, most, proof } => End::Level {
+            kind: *kind,
+            most: *most,
+            proof,
+        },
+    };
+    write_end(end, out)?;
     Ok(Some(Outcome::Whole))
+}
+
+/// The version in which a text is written again: 3, which its head names behind `p gmev `, or else 2.
+fn version_of(text: &[u8]) -> Version {
+    match text.get(7) {
+        Some(b'3') => Version::Three,
+        _ => Version::Two,
+    }
 }

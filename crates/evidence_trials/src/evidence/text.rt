@@ -1,7 +1,7 @@
 //! Calls that are about a text of evidence.
 use crate::evidence::reading::{Outcome, read_and_write};
 use evidence_rec::{Record, Records};
-use evidence_text::{EvidenceReader, Offence, RecordAnswer, RecordText, record_of};
+use evidence_text::{End, EvidenceReader, Offence, RecordAnswer, RecordText, record_of};
 use gm_audit::{Audited, audit};
 use gm_base::{Kind, Problem};
 use lawful_fakes::{Lacking, checked};
@@ -22,7 +22,7 @@ pub fn call_text(
     match step.word(0) {
         "read" => show_reading(problem, alloc, text.as_slice(), out),
         "shorten" => show_shortened(problem, alloc, text.as_slice(), out),
-        "head" => show_head(problem, text.as_slice(), out),
+        "head" => show_head(problem, alloc, text.as_slice(), out),
         "alone" => show_alone(problem, alloc, text.as_slice(), out),
         _ => show_audit(problem, alloc, text.as_slice(), out),
     }
@@ -116,8 +116,13 @@ fn is_raised(text: &[u8], written: &[u8]) -> bool {
 }
 
 /// Tells what the head is answered with, twice.
-fn show_head(problem: &Problem, text: &[u8], out: &mut String) -> Result<bool, AllocError> {
-    let mut reader = EvidenceReader::new(problem, text);
+fn show_head(
+    problem: &Problem,
+    alloc: Global,
+    text: &[u8],
+    out: &mut String,
+) -> Result<bool, AllocError> {
+    let mut reader = EvidenceReader::new(alloc, problem, text);
     show_answer(reader.head(), out)?;
     show_answer(reader.head(), out)
 }
@@ -169,18 +174,31 @@ fn show_audit(
     out: &mut String,
 ) -> Result<bool, AllocError> {
     match audit(alloc, problem, text)? {
-        Audited::Yes { complete, records } => show_counts(complete, &records, out),
+        Audited::Yes { ending, records } => show_counts(ending, &records, out),
         Audited::No { line, why } => show_offence(Offence { line, why }, out),
     }
 }
 
-fn show_counts(complete: bool, records: &Records, out: &mut String) -> Result<bool, AllocError> {
-    let word = if complete { "complete" } else { "partial" };
+fn show_counts(end: End<()>, records: &Records, out: &mut String) -> Result<bool, AllocError> {
+    match end {
+        End::Partial => write!(out, "partial")?,
+        End::Complete(()) => write!(out, "complete")?,
+        End::Level {
+            kind: Kind::Conflict,
+            most,
+            proof: (),
+        } => write!(out, "all conflicts of {most} groups at most")?,
+        End::Level {
+            kind: Kind::Correction,
+            most,
+            proof: (),
+        } => write!(out, "all corrections of {most} groups at most")?,
+    }
     let conflicts = count_of(records, Kind::Conflict);
     let corrections = count_of(records, Kind::Correction);
     known(writeln!(
         out,
-        "{word}, {conflicts} conflicts, {corrections} corrections"
+        ", {conflicts} conflicts, {corrections} corrections"
     ))
 }
 

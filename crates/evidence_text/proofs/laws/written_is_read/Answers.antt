@@ -7,16 +7,16 @@ pub returns-clause-heads : goal.returns-clause-heads
 returns-clause-heads c = head-back
 
 pub returns-clause-records : goal.returns-clause-records
-returns-clause-records c = λ version p r rest at behind small ok. record-back version p r rest at behind small.numbers ok
+returns-clause-records c = λ version p n r rest at behind small ok. record-back version p n r rest at behind small.numbers ok
 
 pub returns-clause-ends : goal.returns-clause-ends
-returns-clause-ends c = λ version p closing at small ok. end-back version p closing at small.numbers ok
+returns-clause-ends c = λ version p n ending at small ok. end-back version p n ending at small.numbers ok
 
 pub returns-clause-lines : goal.returns-clause-lines
 returns-clause-lines c =
-    λ version p records closing h. (
-      lines_of-whole version p records closing h.small h.records h.closing,
-      unended-whole version p records closing h.small h.records h.closing,
+    λ version p records ending h. (
+      lines_of-whole version p records ending h.small h.records h.ending,
+      unended-whole version p records ending h.small h.records h.ending,
     )
 
 pub returns-clause-texts : goal.returns-clause-texts

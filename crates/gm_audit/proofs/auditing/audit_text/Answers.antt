@@ -1,9 +1,10 @@
 use Rattle.std.proofs.Common.{◌∙◌, ℕ, refl, sym, ap, subst}
 use Rattle.std.specs.Prelude.{Ok}
+use Rattle.evidence_rec.specs.Records.{founds}
 use Rattle.evidence_text.specs.Reader.{piece_of}
 use Rattle.gm_audit.specs.Refusals.{placed_refusal, ending_refusal}
 use Rattle.gm_audit.proofs.KeptLemmas.{form-readable}
-use Rattle.gm_audit.proofs.ReadingLemmas.{IsReading, placed, whole_refusal, reading-begun, record-line, record-stands, record-shorter, refused-record, reading-record, ended, end-stands, end-line, offended, refusal-of, yes-of}
+use Rattle.gm_audit.proofs.ReadingLemmas.{IsReading, placed, whole_refusal, reading-begun, record-line, record-stands, record-shorter, refused-record, reading-record, ended, end-stands, end-line, offended, refusal-of, literals-of, yes-of}
 use Rattle.gm_audit.proofs.auditing.audit_text.Goals as goal
 
 -- nothing but the head was read
@@ -59,12 +60,12 @@ returns-in-End-clause-refusal c =
     let old = c.pieces.reader in
     let h = c.pieces.invariant.reading in
     let is = sym c.in-End.is ∙ c.in_ok-found.ensures.answer h.clean in
-    let stands = end-stands p c.args.bytes.now old c.pieces.auditor.records c.in-End.closing (piece_of old) c.groups-groups.ensures.small h refl is in
-    let line = c.line-in-End.ensures ∙ end-line old c.next.new.self c.in-End.closing (piece_of old) is (c.in_ok-found.ensures.behind h.clean) in
+    let stands = end-stands p c.args.bytes.now old c.pieces.auditor.records c.in-End.ending (piece_of old) c.groups-groups.ensures.small h refl is in
+    let line = c.line-in-End.ensures ∙ end-line old c.next.new.self c.in-End.ending (piece_of old) is (c.in_ok-found.ensures.behind h.clean) in
     refusal-of c.close.result (whole_refusal p c.args.bytes.now)
-    (ending_refusal p c.pieces.auditor.records (Ok (c.line-in-End.result, c.in-End.closing)))
-    (ended p c.args.bytes.now old c.pieces.auditor.records c.in-End.closing (piece_of old) h refl is stands.1
-    ∙ sym (ap (λ (n : ℕ). ending_refusal p c.pieces.auditor.records (Ok (n, c.in-End.closing))) line))
+    (ending_refusal p c.pieces.auditor.records (Ok (c.line-in-End.result, c.in-End.ending)))
+    (ended p c.args.bytes.now old c.pieces.auditor.records c.in-End.ending (piece_of old) h refl is stands.1
+    ∙ sym (ap (λ (n : ℕ). ending_refusal p c.pieces.auditor.records (Ok (n, c.in-End.ending))) line))
     c.close.ensures.refusal
 
 pub returns-in-End-clause-yes : goal.returns-in-End-clause-yes
@@ -73,9 +74,19 @@ returns-in-End-clause-yes c =
     let old = c.pieces.reader in
     let h = c.pieces.invariant.reading in
     let is = sym c.in-End.is ∙ c.in_ok-found.ensures.answer h.clean in
-    let stands = end-stands p c.args.bytes.now old c.pieces.auditor.records c.in-End.closing (piece_of old) c.groups-groups.ensures.small h refl is in
-    yes-of p c.args.bytes.now old c.pieces.auditor c.in-End.closing c.line-in-End.result c.close.result
+    let stands = end-stands p c.args.bytes.now old c.pieces.auditor.records c.in-End.ending (piece_of old) c.groups-groups.ensures.small h refl is in
+    yes-of p c.args.bytes.now old c.pieces.auditor c.in-End.ending c.line-in-End.result c.close.result
     h c.pieces.invariant.auditing stands.0 stands.1 stands.2 c.close.ensures.refusal c.close.ensures.records
+
+-- literals can name the variables of the end
+pub close-requires-clause-literals : goal.close-requires-clause-literals
+close-requires-clause-literals c =
+    let p = c.args.problem.now in
+    let old = c.pieces.reader in
+    let h = c.pieces.invariant.reading in
+    literals-of old.version p (founds c.pieces.auditor.records) c.in-End.ending
+    (end-stands p c.args.bytes.now old c.pieces.auditor.records c.in-End.ending (piece_of old) c.groups-groups.ensures.small h refl
+    (sym c.in-End.is ∙ c.in_ok-found.ensures.answer h.clean)).0
 
 -- what is read has one item of evidence for each group
 pub add-requires-clause-form : goal.add-requires-clause-form

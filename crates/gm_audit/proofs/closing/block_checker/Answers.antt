@@ -3,13 +3,14 @@ use Rattle.gm_base.specs.Sets.{IsSubset, all_groups}
 use Rattle.gm_base.specs.Explored.{block_clause}
 use Rattle.sat_base.specs.Derivation.{numbered}
 use Rattle.evidence_rec.specs.Records.{found_of, set_of}
-use Rattle.gm_audit.proofs.BlocksLemmas.{block-next, count-blocks, all-blocks, within-at}
+use Rattle.gm_audit.proofs.BlocksLemmas.{block-next, count-blocks, all-blocks, subset-wider, within-at}
 use Rattle.gm_audit.proofs.closing.block_checker.Goals as goal
 
 pub add_block-requires-clause-within : goal.add_block-requires-clause-within
 add_block-requires-clause-within c =
     subst (λ (n : ℕ). IsSubset (set_of c.at.result.now) (all_groups n)) (sym c.loop-at.invariant.vars)
-    (within-at c.args.problem.now c.args.records.now c.loop-at.at c.at.result.now c.requires c.at.ensures)
+    (subset-wider c.args.problem.now.groups c.args.vars (set_of c.at.result.now) c.requires.groups
+    (within-at c.args.problem.now c.args.records.now c.loop-at.at c.at.result.now c.requires.accepted c.at.ensures))
 
 pub add_block-requires-clause-no_steps : goal.add_block-requires-clause-no_steps
 add_block-requires-clause-no_steps c =

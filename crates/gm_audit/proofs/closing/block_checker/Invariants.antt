@@ -8,7 +8,7 @@ use Rattle.gm_audit.proofs.closing.block_checker.Given as goal
 abbrev pub invariant-loop-at : goal.invariant-loop-at
 invariant-loop-at l =
     record {
-      vars : l.checker.vars ≡ l.problem.groups;
+      vars : l.checker.vars ≡ l.vars;
       inputs : l.checker.inputs ≡ l.at;
       known : l.checker.known ≡ numbered 1 (take l.at (map block_clause (founds l.records)));
     }

@@ -1,15 +1,13 @@
 use Rattle.std.proofs.Common.{rules}
-use Rattle.std.specs.Option.{option_map}
 use Rattle.evidence_rec.specs.Shorten.{shorten}
-use Rattle.evidence_text.specs.declared.version.Version.TheVariants.{Two}
-use Rattle.evidence_text.specs.Text.{evidence_text}
+use Rattle.evidence_text.specs.Text.{end_map, evidence_text}
 use Rattle.gm_io.proofs.WritingLemmas.{front-of_nothing, written-finished}
 use Rattle.gm_io.proofs.evidence_file.write_evidence.Goals as goal
 
 -- nothing was opened
 pub returns-in_default-clause-front : goal.returns-in_default-clause-front
 returns-in_default-clause-front g c =
-    front-of_nothing (evidence_text Two c.args.problem.now (shorten c.args.records.now) (option_map (λ d. d.now) c.args.closing)) (g.F.Files.state c.open_out.new.self).written
+    front-of_nothing (evidence_text c.args.version c.args.problem.now (shorten c.args.records.now) (end_map (λ d. d.now) c.args.ending)) (g.F.Files.state c.open_out.new.self).written
     c.in_default.ensures.written
 
 -- the text was taken, and its output is ended

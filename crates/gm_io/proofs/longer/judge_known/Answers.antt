@@ -17,7 +17,7 @@ returns-in-Audited-Yes-clause-begun g c = λ file longer read.
     record {
       read = read;
       extends = extends-where_none c.args.old c.args.new c.first_break.result c.in_default.is c.first_break.ensures.none;
-      complete = w.field-0-0;
+      end = w.field-0-0;
       shown =
           subst (λ answer. Judges c.args.old ((g.F.Files.state c.args.files.now).held c.args.known.now) (Audited answer)) w.field-0-is w.ensures.judges;
       quiet = w.ensures.quiet (λ e. let never : ⊥ = cc in never);

@@ -23,7 +23,7 @@ returns-in-Ok g c =
 pub list_problem-requires-clause-first : goal.list_problem-requires-clause-first
 list_problem-requires-clause-first g c κs within =
     let begun = c.in-Ok.field-0 in
-    good-from begun.problem (text_of c.args.listing.resume) (g.F.Files.state c.args.files.now).held begun.complete begun.records c.in-Ok.ensures.begun.goes_on
+    good-from begun.problem (text_of c.args.listing.resume) (g.F.Files.state c.args.files.now).held begun.end begun.records c.in-Ok.ensures.begun.goes_on
 
 -- what stopped the reading ends the command
 pub returns-in-Err : goal.returns-in-Err
