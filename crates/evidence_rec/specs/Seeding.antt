@@ -2,14 +2,14 @@
 --
 -- An engine may be of a kind: then it can be told a bound, and looks for sets at which at most so many groups count. Beside the
 -- block clauses it has those of a counter (Sinz 2005), over variables behind those of the groups.
-use Rattle.std.specs.Prelude.{◌≡◌, ◌↔◌, ℕ, ◌+◌, ◌≤◌, Bool, true, false, not, List, [], ◌∷◌, ◌++◌, length, map, take, Option, Some, None, ℤ, nat_lt}
+use Rattle.std.specs.Prelude.{◌≡◌, ◌↔◌, ℕ, ◌+◌, ◌<◌, ◌≤◌, ◌^◌, Bool, true, false, not, List, [], ◌∷◌, ◌++◌, length, map, take, Option, Some, None, ℤ, nat_lt}
 use Rattle.std.specs.List.{list_all, list_any, filter}
 use Rattle.sat_base.specs.Literals.{clause_true, var_of}
 use Rattle.gm_base.specs.declared.kind.Kind.{Kind}
 use Rattle.gm_base.specs.Sets.{IsProperSubset}
 use Rattle.gm_base.specs.Explored.{Found, is_explored, block_clause, groups_true, IsUnexplored, AllExplored}
 use Rattle.gm_base.specs.Sizes.{size_for, ExploredUpTo}
-use Rattle.gm_base.specs.Levels.{level, level_limit}
+use Rattle.gm_base.specs.Levels.{level, level_vars, level_limit}
 use Rattle.gm_base.specs.Shown.{level_clauses, shows_level}
 use Rattle.sat_base.specs.Derivation.{Derivation, derives_within}
 use Rattle.lrat_steps.specs.Log.{LogStep, Input, db_of, inputs_of, learned_count}
@@ -177,10 +177,15 @@ pub record IsLevelLog (kind : Kind) (groups most : ℕ) (found : List Found) (lo
   pub inputs : inputs_of log ≡ level_clauses (level kind groups most found) found
   pub honest : IsHonest log
 
+-- the derivation shows the level, whose variables have literals
+pub record ShowsLevel (kind : Kind) (groups most : ℕ) (found : List Found) (d : Derivation) : Type 0 where
+  pub shown : shows_level kind groups most found d ≡ true
+  pub small : level_vars (level kind groups most found) < 2 ^ 31
+
 -- what an answer says, with this log and so many units left: a derivation that shows the level; or that the purse is empty and
 -- the search stands before a conflict, where no more than so many may count
 abbrev pub TellsLevel : Kind → ℕ → ℕ → List Found → List LogStep → ℕ → LevelAnswer → Type 0
-TellsLevel kind groups most found log left (level_answer.Level d) = shows_level kind groups most found d ≡ true
+TellsLevel kind groups most found log left (level_answer.Level d) = ShowsLevel kind groups most found d
 TellsLevel kind groups most found log left level_answer.Dry = (left ≡ 0) × Undecided (db_of log) (level_limit (level kind groups most found))
 
 -- a level was asked for, with so many units before and these left: one was paid for each clause that was learnt

@@ -2,10 +2,11 @@
 ghost use Rattle.std.specs.Prelude.{◌≡◌, ◌<◌, ◌≤◌, IfOk, length};
 ghost use Rattle.gm_base.specs.Problem.{IsProblem, Problem};
 ghost use Rattle.gm_base.specs.declared.kind.Kind.TheVariants.{Conflict};
-ghost use Rattle.report_text.specs.LeastReports.{IsLeastReportOf};
+ghost use Rattle.report_text.specs.LeastReports.{IsLeastReportOf, IsPartialReportOf};
 ghost use Rattle.report_text.specs.Reports.{IsReportOf};
 ghost use Rattle.evidence_rec.specs.Held.{conflicts_in, corrections_in};
-ghost use Rattle.size_levels.specs.Sizes.{sets_of_kind};
+ghost use Rattle.evidence_rec.specs.Records.{founds};
+ghost use Rattle.size_levels.specs.Sizes.{AreSetsOf, packed, sets_of_kind};
 ghost use Rattle.gm_io.specs.Counts.{drill_line};
 ghost use Rattle.gm_io.specs.Resuming.{AreGoodFirst};
 ghost use Rattle.gm_io.specs.Numbered.{IsConflictOf, IsNumberedIn, is_of};
@@ -13,7 +14,8 @@ ghost use Rattle.gm_io.specs.Numbered.{IsConflictOf, IsNumberedIn, is_of};
 use crate::drill_line::line_of_counts;
 use evidence_rec::Record;
 use gm_base::{GroupSet, Kind, Sets};
-use report_text::{in_order, least_report, report};
+use report_text::{in_order, least_report, partial_report, report};
+use size_levels::packed;
 use std::alloc::{AllocError, Global};
 
 /// The sets of records, by kind. They are lent by the records.
@@ -56,6 +58,27 @@ pub fn least_report_of(
     match kind {
         Kind::Conflict => least_report(alloc, groups, most, Kind::Conflict, &found.conflicts),
         Kind::Correction => least_report(alloc, groups, most, Kind::Correction, &found.corrections),
+    }
+}
+
+/// The text of the sets of a kind that these records have, where the greatest group is this one, and no set has fewer groups than
+/// are packed in them.
+pub fn partial_report_of(
+    alloc: Global,
+    groups: u32,
+    kind: Kind,
+    records: &[Record],
+) -> Result<Vec<u8>, AllocError>
+    requires { AreSetsOf groups (founds records.now) }
+    ensures { IfOk result (λ text. IsPartialReportOf groups (packed kind records.now) kind (sets_of_kind records.now kind) text.items) }
+{
+    let fewest = packed(alloc, kind, groups, records)?;
+    let found = sets_of(alloc, records)?;
+    match kind {
+        Kind::Conflict => partial_report(alloc, groups, fewest, Kind::Conflict, &found.conflicts),
+        Kind::Correction => {
+            partial_report(alloc, groups, fewest, Kind::Correction, &found.corrections)
+        }
     }
 }
 

@@ -205,12 +205,12 @@ module _ (q : Problem) (c : Carrying) (log : List LogStep) (old : FilesState) (m
   dry-valid : HasSmallIds empty_closing → IsValid q empty_closing
   dry-valid small = shortened-is_yes Two q [] ends.Partial tt small.few tt small.records tt tt
 
-  dry-run : (written : Result (Unit {0}) Stop) → Writes q c.evidence empty_closing (held_report q []) mid new written
+  dry-run : (written : Result (Unit {0}) Stop) → Writes (evidence_of q empty_closing) c.evidence empty_closing (held_report q []) mid new written
       → IsRun (asked_bounds c) (evidence_output c.evidence) (outside old mid.got mid.faults) new (DryLine written) (dry_finish written)
   dry-run written h =
       run-written q c.evidence empty_closing old mid new reads quiet (asked_bounds c) (DryLine written) (dry_finish written) written (dry-learned written) h (dry-fits written)
 
-  is-dried : (written : Result (Unit {0}) Stop) → Writes q c.evidence empty_closing (held_report q []) mid new written → IsCarryLog q log 0
+  is-dried : (written : Result (Unit {0}) Stop) → Writes (evidence_of q empty_closing) c.evidence empty_closing (held_report q []) mid new written → IsCarryLog q log 0
       → ((set : List ℕ) × IsGroupSet set × IsSubset set (all_groups q.groups) × Undecided (db_of log) (selectors q set)) → IsDried c q (outside old mid.got mid.faults) new (DryLine written) (dry_finish written)
   is-dried written h asked last =
       let finish = dry_finish written in

@@ -114,7 +114,7 @@ module _ (p : Problem) (asked : Option (List ℕ)) (closing : Closing) (old : Fi
   Fits finish (Err stop.EvidenceMemory) = (finish.status ≡ 8) × Gets (error_line told 8)
 
   abbrev pub IsWrittenOut : Result (Unit {0}) Stop → Type 0
-  IsWrittenOut written = Writes p asked closing (report_for p closing) mid new written
+  IsWrittenOut written = Writes (evidence_of p closing) asked closing (report_for p closing) mid new written
 
   pub among-fits : (finish : Finish) (written : Result (Unit {0}) Stop) → Fits finish written → IsAmong (0 ∷ 3 ∷ 4 ∷ 7 ∷ 8 ∷ []) finish.status
   among-fits finish (Ok done) fits = reported-known finish.status fits.0
@@ -262,12 +262,12 @@ module _ (p : Problem) (course : Course) (asked : Option (List ℕ)) (old : File
   listed-verdict (Err stop.EvidenceFault) reported = absurd (false≢true reported)
   listed-verdict (Err stop.EvidenceMemory) reported = absurd (false≢true reported)
 
-  pub listed-run : (written : Result (Unit {0}) Stop) → Writes p asked ready.left.closing (report_for p ready.left.closing) mid new written
+  pub listed-run : (written : Result (Unit {0}) Stop) → Writes (evidence_of p ready.left.closing) asked ready.left.closing (report_for p ready.left.closing) mid new written
       → IsRun course.told (evidence_output asked) (outside old mid.got mid.faults) new (ListedLine written) (listed_finish written)
   listed-run written h =
       run-written p asked ready.left.closing old mid new reads quiet course.told (ListedLine written) (listed_finish written) written (listed-spent written) h (listed-fits written)
 
-  pub is-listed : (written : Result (Unit {0}) Stop) → Writes p asked ready.left.closing (report_for p ready.left.closing) mid new written
+  pub is-listed : (written : Result (Unit {0}) Stop) → Writes (evidence_of p ready.left.closing) asked ready.left.closing (report_for p ready.left.closing) mid new written
       → IsListed p course.first course.bounds is.logs asked (outside old mid.got mid.faults) new (ListedLine written) (listed_finish written)
   is-listed written h =
       let closing = ready.left.closing in

@@ -12,6 +12,7 @@ use Rattle.gm_io.specs.declared.ending.Ending.{Ending}
 use Rattle.gm_io.specs.declared.ending.Ending.TheVariants.{Memory, Dried, DriedCutOff}
 use Rattle.gm_io.specs.declared.longer.Longer.{Longer}
 use Rattle.gm_io.specs.declared.writing.Stop.{Stop}
+use Rattle.gm_io.specs.Evidence.{evidence_of}
 use Rattle.gm_io.specs.Lines.{budget_line}
 use Rattle.gm_io.specs.Outside.{Outside}
 use Rattle.gm_io.specs.Written.{Writes}
@@ -54,7 +55,7 @@ abbrev pub Dries : Problem → List LogStep → Option (List ℕ) → Outside �
 Dries p log asked old new e =
     ((e ≡ Memory) × (new ≡ old))
     ⊎ ((ready : Prepared) × IsDryReady p log ready × (written : Result (Unit {0}) Stop) × (e ≡ dried_by ready written)
-    × Writes p asked empty_closing (held_report p []) old new written)
+    × Writes (evidence_of p empty_closing) asked empty_closing (held_report p []) old new written)
 
 -- what comes after carrying over
 abbrev pub GoesOn : Problem → ℕ → Option (List ℕ) → Outside → Outside → Ending → Over → Type 0

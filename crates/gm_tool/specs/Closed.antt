@@ -1,13 +1,12 @@
 -- What is left of an enumeration, and what it says of the problem.
-use Rattle.std.specs.Prelude.{◌≡◌, ◌≢◌, ℕ, ◌<◌, max, length, Bool, true, false, List, [], ◌∷◌, ◌++◌, slice_index_or, if◌then◌else◌}
+use Rattle.std.specs.Prelude.{◌≡◌, ◌≢◌, ℕ, ◌<◌, max, length, Bool, true, false, List, [], ◌∷◌, ◌++◌, slice_index_or, None, if◌then◌else◌}
 use Rattle.std.specs.List.{filter, AllByRecursion}
 use Rattle.gm_base.specs.Problem.{Problem}
 use Rattle.gm_base.specs.declared.kind.Kind.TheVariants.{Conflict, Correction}
 use Rattle.gm_base.specs.Minimal.{conflicts, corrections}
 use Rattle.report_text.specs.Report.{report_text}
 use Rattle.gm_words.specs.Reading.{greatest_conflicts, greatest_limit}
-use Rattle.lrat_steps.specs.Log.{LogStep, db_of}
-use Rattle.lrat_steps.specs.Undecided.{Undecided}
+use Rattle.lrat_steps.specs.Log.{LogStep}
 use Rattle.evidence_rec.specs.declared.record.Record.{Record}
 use Rattle.evidence_rec.specs.Records.{IsMinimal, founds}
 use Rattle.evidence_rec.specs.Shorten.{shorten}
@@ -17,13 +16,15 @@ use Rattle.map_core.specs.declared.entry.Reply.TheVariants.{Dry}
 use Rattle.map_core.specs.declared.entry.Entry.{Entry}
 use Rattle.map_core.specs.declared.entry.Opening.{Opening}
 use Rattle.map_core.specs.declared.entry.Goal.{Goal}
+use Rattle.map_core.specs.declared.entry.Goal.TheVariants.{All, Roles, Least, Within}
 use Rattle.map_core.specs.declared.closing.Verdict.{Verdict}
 use Rattle.map_core.specs.declared.closing.Verdict.TheVariants as verdict
 use Rattle.map_core.specs.declared.closing.Closing.{Closing}
 use Rattle.map_core.specs.Closings.{HoldsAll}
-use Rattle.map_core.specs.Core.{is_held, is_told}
+use Rattle.map_core.specs.Core.{is_held, is_told, kind_in, bound_of}
+use Rattle.map_core.specs.Levels.{AreLevelLogs, StandsBefore}
 use Rattle.map_core.specs.Own.{calls_of}
-use Rattle.map_core.specs.Sound.{AreNew}
+use Rattle.map_core.specs.Sound.{AreNew, IsDone}
 use Rattle.evidence_text.specs.declared.end.End.{End}
 use Rattle.evidence_text.specs.declared.end.End.TheVariants as ends
 use Rattle.gm_audit.specs.Audits.{AuditYes}
@@ -38,12 +39,19 @@ use Rattle.gm_io.specs.Evidence.{evidence_of}
 abbrev pub greatest_bounds : Goal → ℕ → Bounds
 greatest_bounds goal jobs = record { jobs = jobs; conflicts = greatest_conflicts; limit = greatest_limit; goal = goal; journal = false }
 
--- these records first, as many workers as are wanted, what is wanted, and a map that gives tops alone
-abbrev pub opening_for : Problem → List Record → Bounds → Opening
-opening_for p first b = record { problem = p; records = first; workers = b.jobs; budget = b.conflicts; limit = b.limit; goal = b.goal; tops = true }
+-- whether the map gives tops alone: not that which looks for the smallest sets
+abbrev pub gives_tops : Goal → Bool
+gives_tops All = true
+gives_tops Roles = true
+gives_tops (Least kind wanted) = false
+gives_tops (Within kind most) = false
 
--- what is left of a board that its history makes of this opening: an honest log of each worker, in their order, and last the
--- map's, in which as much was learnt as the history says that was used
+-- these records first, as many workers as are wanted, what is wanted, and its map
+abbrev pub opening_for : Problem → List Record → Bounds → Opening
+opening_for p first b = record { problem = p; records = first; workers = b.jobs; budget = b.conflicts; limit = b.limit; goal = b.goal; tops = gives_tops b.goal }
+
+-- what is left of a board that its history makes of this opening: an honest log of each worker, in their order, behind them the
+-- map's, and last those of the levels that were asked for, in which as much was learnt as the history says that was used
 pub record IsClosedFor (p : Problem) (first : List Record) (b : Bounds) (logs : List (List LogStep)) (closing : Closing) : Type 0 where
   pub left : pool.IsLeft (opening_for p first b) b.journal logs closing
   -- no journal failed
@@ -71,23 +79,26 @@ pub record AreDistinctMinimal (p : Problem) (records : List Record) : Type 0 whe
 abbrev pub is_complete : Verdict → Bool
 is_complete verdict.Complete = true
 is_complete verdict.Settled = false
+is_complete verdict.Levelled = false
 is_complete verdict.Journal = false
 is_complete verdict.Memory = false
 is_complete verdict.Limit = false
 is_complete verdict.Budget = false
 
 -- the budget is spent: as many clauses were learnt, the last entry found no unit left, and each search that it stopped, the
--- map's at a take and a worker's at its last refill, stands before a conflict
+-- map's or that for a level at a take and a worker's at its last refill, stands before a conflict
 pub record IsBudgetSpent (p : Problem) (b : Bounds) (logs : List (List LogStep)) (closing : Closing) : Type 0 where
   pub learned : learned_in logs ≡ b.conflicts
   pub worker_logs : List (List LogStep)
   pub map_log : List LogStep
-  pub logs_are : logs ≡ worker_logs ++ map_log ∷ []
+  pub level_logs : List (List LogStep)
+  pub logs_are : logs ≡ worker_logs ++ map_log ∷ level_logs
+  pub levels : AreLevelLogs b.goal (kind_in b.goal) p.groups (founds closing.records) level_logs
   pub before : List Entry
   pub last : Entry
   pub ends : closing.history ≡ before ++ last ∷ []
   pub dry : last.reply ≡ Dry
-  pub map_undecided : last.call ≡ Take → Undecided (db_of map_log) []
+  pub map_undecided : last.call ≡ Take → StandsBefore (kind_in b.goal) closing.bound p.groups (founds closing.records) map_log level_logs
   pub workers_undecided : (w : ℕ) (d : List LogStep) → w < b.jobs → EndsUndecided p (slice_index_or worker_logs w d) (calls_of w closing.history)
 
 -- there are just as many records as were wanted, or as it began with, where those were more
@@ -108,6 +119,10 @@ pub record IsEnumerated (p : Problem) (first : List Record) (b : Bounds) (logs :
   -- as were wanted
   pub settled : closing.verdict ≡ verdict.Settled → is_told b.goal p.groups (founds closing.records) ≡ true
   pub all : closing.verdict ≡ verdict.Complete → HoldsAll p closing.records
+  -- the bound of the records; where nothing is missing there is none, and where a level is done each set within it is explored
+  pub bound : closing.bound ≡ bound_of b.goal p.groups (founds closing.records)
+  pub unbounded : closing.verdict ≡ verdict.Complete → closing.bound ≡ None
+  pub levelled : closing.verdict ≡ verdict.Levelled → IsDone (kind_in b.goal) closing.bound p.groups (founds closing.records)
   pub budget : closing.verdict ≡ verdict.Budget → IsBudgetSpent p b logs closing
   pub limit : closing.verdict ≡ verdict.Limit → HasLimit first b closing
 

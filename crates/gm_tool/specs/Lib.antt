@@ -10,6 +10,7 @@ pub mod Drilling
 pub mod Checking
 pub mod Exporting
 pub mod Roles
+pub mod Seeking
 pub mod Words
 pub mod Steps
 pub mod JournalSteps

@@ -32,6 +32,7 @@ roles_report p = roles_text (roles p)
 abbrev pub are_told : Verdict → Bool
 are_told verdict.Complete = true
 are_told verdict.Settled = true
+are_told verdict.Levelled = false
 are_told verdict.Journal = false
 are_told verdict.Memory = false
 are_told verdict.Limit = false

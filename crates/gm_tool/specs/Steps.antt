@@ -2,6 +2,7 @@
 use Rattle.std.specs.Prelude.{◌≡◌, ◌⊎◌, Result, Ok, Err, ◌<◌, ℕ, true, List, [], ◌∷◌, length, Option, Some, None}
 use Rattle.sat_base.specs.Members.{In}
 use Rattle.gm_base.specs.Problem.{Problem}
+use Rattle.gm_base.specs.declared.kind.Kind.{Kind}
 use Rattle.gm_ports.specs.Faults.{Rose}
 use Rattle.gm_ports.specs.FilesState.{FilesState, WritingLeaves}
 use Rattle.gm_ports.specs.Told.{ToldAppends, ToldGrowsWithin}
@@ -12,6 +13,7 @@ use Rattle.gm_io.specs.declared.ending.Ending.TheVariants.{Checked, CheckCutOff,
 use Rattle.gm_io.specs.declared.writing.Stop.{Stop}
 use Rattle.gm_io.specs.declared.writing.Stop.TheVariants as stop
 use Rattle.gm_io.specs.Endings.{error_line, status_by}
+use Rattle.gm_io.specs.Evidence.{evidence_of, evidence_for}
 use Rattle.gm_io.specs.Lines.{no_conflict_line}
 use Rattle.gm_io.specs.Numbered.{IsNumberedRecord, shown_conflicts}
 use Rattle.gm_io.specs.Outside.{Outside}
@@ -23,8 +25,9 @@ use Rattle.gm_tool.specs.declared.prepared.Prepared.{Prepared}
 use Rattle.gm_tool.specs.Closed.{report_for}
 use Rattle.gm_tool.specs.Drilling.{held_counts}
 use Rattle.gm_tool.specs.Exporting.{IsRefuted, clauses_text, refutation_text}
-use Rattle.gm_tool.specs.Prepared.{IsOver, IsReady}
+use Rattle.gm_tool.specs.Prepared.{IsOver, IsReady, IsPrepared}
 use Rattle.gm_tool.specs.Roles.{TellsRoles, are_told, roles_report}
+use Rattle.gm_tool.specs.Seeking.{told_report}
 
 -- how a listing ends that was ready, and was written, or cut off
 abbrev pub listed_by : Prepared → Result (Unit {0}) Stop → Ending
@@ -38,7 +41,16 @@ abbrev pub Lists : Problem → Course → Option (List ℕ) → Outside → Outs
 Lists p course asked old new e =
     ((e ≡ Memory) × (new ≡ old))
     ⊎ ((ready : Prepared) × IsReady p course ready × (written : Result (Unit {0}) Stop) × (e ≡ listed_by ready written)
-    × Writes p asked ready.left.closing (report_for p ready.left.closing) old new written)
+    × Writes (evidence_of p ready.left.closing) asked ready.left.closing (report_for p ready.left.closing) old new written)
+
+-- the smallest sets of a problem are sought, and their evidence and their text are written, or what cut them off; or memory was
+-- wanting before
+abbrev pub SeeksBy : Problem → Kind → List Record → Bounds → Option (List ℕ) → Outside → Outside → Ending → Type 0
+SeeksBy p kind first b asked old new e =
+    ((e ≡ Memory) × (new ≡ old))
+    ⊎ ((ready : Prepared) × IsPrepared p first b (told_report p kind) ready × (written : Result (Unit {0}) Stop)
+    × (e ≡ listed_by ready written)
+    × Writes (evidence_for (Some kind) p ready.left.closing) asked ready.left.closing (told_report p kind ready.left.closing) old new written)
 
 -- a problem is listed, and the line of its counts is written, or cut off
 abbrev pub Drills : Problem → Bounds → Outside → Outside → Ending → Type 0

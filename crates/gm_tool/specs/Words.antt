@@ -6,7 +6,7 @@
 use Rattle.std.specs.Prelude.{◌≡◌, ℕ, false, List, [], ◌∷◌, map, Option, Some, None, String}
 use Rattle.std.specs.String.{string_bytes}
 use Rattle.gm_ports.specs.DiskState.{DiskState}
-use Rattle.gm_words.specs.Reading.{Asked, Listing, greatest_conflicts, words_read, listing, checking, drilling, exporting, asking, carrying}
+use Rattle.gm_words.specs.Reading.{Asked, Listing, greatest_conflicts, words_read, listing, checking, drilling, exporting, asking, carrying, seeking}
 use Rattle.map_core.specs.declared.entry.Goal.TheVariants.{All}
 use Rattle.gm_io.specs.declared.bounds.Bounds.{Bounds}
 use Rattle.gm_io.specs.declared.ending.Ending.{Ending}
@@ -22,6 +22,7 @@ use Rattle.gm_tool.specs.Listing.{IsListing, bounds_for}
 use Rattle.gm_tool.specs.Outputs.{Outputs, evidence_output, export_outputs, no_outputs}
 use Rattle.gm_tool.specs.Roles.{IsAsking, roles_bounds}
 use Rattle.gm_tool.specs.Run.{IsRun}
+use Rattle.gm_tool.specs.Seeking.{IsSeeking, seek_bounds}
 use Rattle.gm_tool.specs.Statuses.{IsAmong}
 
 -- what the words ask for, if they have a reading
@@ -42,6 +43,7 @@ bounds_of (Some (drilling d)) = drill_bounds d.jobs
 bounds_of (Some (exporting x)) = no_bounds
 bounds_of (Some (asking a)) = roles_bounds a.jobs
 bounds_of (Some (carrying c)) = carry_bounds c.jobs greatest_conflicts
+bounds_of (Some (seeking s)) = seek_bounds s
 
 -- the journal that they ask for
 abbrev pub journal_in : Option Asked → Option (List ℕ)
@@ -57,6 +59,7 @@ outputs_of (Some (drilling d)) = no_outputs
 outputs_of (Some (exporting x)) = export_outputs x.cnf x.lrat
 outputs_of (Some (asking a)) = no_outputs
 outputs_of (Some (carrying c)) = evidence_output c.evidence
+outputs_of (Some (seeking s)) = evidence_output s.evidence
 
 -- words without a reading touch nothing
 pub record IsUnread (old new : Outside) (finish : Finish) : Type 0 where
@@ -73,6 +76,7 @@ IsDone (Some (drilling d)) old new Gets finish = IsDrilling d old new Gets finis
 IsDone (Some (exporting x)) old new Gets finish = IsExporting x old new Gets finish
 IsDone (Some (asking a)) old new Gets finish = IsAsking a old new Gets finish
 IsDone (Some (carrying c)) old new Gets finish = IsCarrying c old new Gets finish
+IsDone (Some (seeking s)) old new Gets finish = IsSeeking s old new Gets finish
 
 -- that, and what holds of every run
 pub record IsObeyed (asked : Option Asked) (old new : Outside) (Gets : List ℕ → Type 0) (finish : Finish) : Type 0 where

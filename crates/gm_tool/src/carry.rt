@@ -199,6 +199,7 @@ fn tell_dry<F: Files, O: Sink>(
     let written = write_outputs(
         alloc,
         problem,
+        None,
         evidence,
         &ready.left.closing,
         text,
@@ -216,6 +217,7 @@ fn prepare_dry(alloc: Global, problem: &Problem, log: Log) -> Result<Prepared, A
     let closing = Closing {
         records: Records::new(alloc),
         verdict: Verdict::Budget,
+        bound: None,
         proof: None,
         history: History::new(alloc),
     };

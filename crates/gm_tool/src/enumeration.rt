@@ -1,14 +1,16 @@
 //! The enumeration of a problem, from its beginning to what is left of it.
 ghost use Rattle.std.specs.Prelude.{◌≡◌, ◌<◌, ◌≤◌, ◌^◌, false, map, All, Ok, IfOk, length};
 ghost use Rattle.evidence_rec.specs.Records.{AllAccepted};
-ghost use Rattle.evidence_rec.specs.Seeding.{new_engine};
+ghost use Rattle.evidence_rec.specs.Seeding.{fresh_engine, new_engine};
+ghost use Rattle.map_core.specs.Core.{kind_in};
 ghost use Rattle.gm_words.specs.Requests.{AreGoodJobs};
 ghost use Rattle.group_oracle.specs.Fresh.{IsFresh as IsUnasked};
 ghost use Rattle.worker_pool.specs.Workers.{IsFresh};
 ghost use Rattle.gm_io.specs.Resuming.{AreGoodFirst};
-ghost use Rattle.gm_tool.specs.Closed.{IsLeft, greatest_bounds};
+ghost use Rattle.gm_tool.specs.Closed.{IsLeft, gives_tops, greatest_bounds};
 
-use evidence_rec::{Record, Records};
+use bounded_map::BoundedMap;
+use evidence_rec::{MapEngine, Record, Records};
 use gm_base::Problem;
 use gm_io::{Bounds, Enumerated};
 use gm_journal::Journal;
@@ -36,7 +38,8 @@ pub fn greatest_bounds(goal: Goal, jobs: u32) -> Bounds
 }
 
 /// Enumerates the minimal conflicts and minimal corrections of a problem, of which these are known at first, by as many
-/// workers as are wanted. Where roles alone are, it ends once each group's is told.
+/// workers as are wanted. Where roles alone are, it ends once each group's is told, and where the smallest sets are, once none of
+/// them is missing.
 pub fn list_sets<G: Gate, R: Threads + Wait + Sync>(
     rt: &R,
     alloc: Global,
@@ -50,9 +53,38 @@ pub fn list_sets<G: Gate, R: Threads + Wait + Sync>(
     requires no_journal { bounds.journal ≡ false }
     ensures { IfOk result (IsLeft problem.now first bounds) }
 {
+    let groups = problem.groups();
+    match bounds.goal {
+        Goal::All | Goal::Roles => {
+            let map = fresh_map(alloc, groups, bounds.goal)?;
+            list_with(rt, alloc, problem, first, map, bounds, gate)
+        }
+        Goal::Least(kind, _) | Goal::Within(kind, _) => {
+            let map = BoundedMap::new(alloc, groups, kind)?;
+            list_with(rt, alloc, problem, first, map, bounds, gate)
+        }
+    }
+}
+
+// The same, by this map.
+fn list_with<M: MapEngine + Send + Drop, G: Gate, R: Threads + Wait + Sync>(
+    rt: &R,
+    alloc: Global,
+    problem: &Problem,
+    first: Records,
+    map: M,
+    bounds: Bounds,
+    gate: &G,
+) -> Result<Enumerated, AllocError>
+    requires jobs { AreGoodJobs bounds.jobs }
+    requires first { AreGoodFirst problem.now first }
+    requires no_journal { bounds.journal ≡ false }
+    requires tops { M.TOPS ≡ gives_tops bounds.goal }
+    requires map { M.state map ≡ fresh_engine (kind_in bounds.goal) problem.now.groups }
+    ensures { IfOk result (IsLeft problem.now first bounds) }
+{
     let _groups = problem.groups(); // The problem is well-formed.
     let oracles = fresh_oracles(rt, alloc, problem, first.as_slice(), bounds.jobs)?;
-    let map = fresh_map(alloc, problem.groups(), bounds.goal)?;
     let outcome = enumerate(
         rt,
         alloc,
@@ -84,13 +116,13 @@ pub fn list_sets<G: Gate, R: Threads + Wait + Sync>(
     })
 }
 
-/// A map of all sets of so many groups, of which none is explored.
+/// A map of all sets of so many groups, of which none is explored, for who does not look for the smallest ones.
 pub fn fresh_map(alloc: Global, groups: u32, goal: Goal) -> Result<PowerMap, AllocError>
     requires { groups < 2 ^ 31 }
     ensures { IfOk result (λ map. map ≡ new_engine groups) }
 {
     match goal {
-        Goal::All => PowerMap::new(alloc, groups),
+        Goal::All | Goal::Least(_, _) | Goal::Within(_, _) => PowerMap::new(alloc, groups),
         Goal::Roles => PowerMap::for_roles(alloc, groups),
     }
 }

@@ -8,12 +8,13 @@
 //! ```
 //!
 //! Or it checks evidence about the file, or exports a conflict that it shows, or tells the role of each group, or makes a case
-//! from two numbers and counts its minimal sets, or lists a longer file from evidence about the file that it extends. A listing may
+//! from two numbers and counts its minimal sets, or lists a longer file from evidence about the file that it extends, or looks for
+//! the smallest sets of a kind. A listing may
 //! keep a journal on a disk, which comes back.
 //!
 //! Start reading at `run` in `program`, at `specs/Run.antt`, which says what holds of every run, and at `specs/Listing.antt`,
 //! which says what each status of `list` tells of the file, the problem, the evidence and the report; `specs/Words.antt`
-//! says how another command joins. Then `list`, `check`, `drill`, `export`, `roles` and `carry`, a file a command, and
+//! says how another command joins. Then `list`, `check`, `drill`, `export`, `roles`, `carry` and `least`, a file a command, and
 //! `enumeration`: an oracle over the learning solver for each worker, a map, and what the workers of `worker_pool` leave of
 //! them, when no set of groups is left, the budget is spent or as many sets are recorded as were wanted. What commands read and
 //! write, and how they end, is in `gm_io`.
@@ -28,6 +29,7 @@ mod enumeration;
 mod export;
 mod journal;
 mod kept;
+mod least;
 mod list;
 mod prepared;
 mod program;

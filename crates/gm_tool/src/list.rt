@@ -169,6 +169,7 @@ pub fn put_out<F: Files, O: Sink>(
     let written = write_outputs(
         alloc,
         problem,
+        None,
         evidence,
         &prepared.left.closing,
         text,
@@ -228,8 +229,8 @@ fn put_before(before: Option<Log>, own: Enumerated) -> Result<Enumerated, AllocE
     }
 }
 
-/// How a listing ends that was ready, and was written, or cut off.
-fn listed_by(ready: Prepared, written: Result<(), Stop>) -> Ending
+/// How a command ends that was ready, and was written, or cut off.
+pub fn listed_by(ready: Prepared, written: Result<(), Stop>) -> Ending
     ensures { result ≡ listed_by ready written }
 {
     let Prepared {

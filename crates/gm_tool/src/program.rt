@@ -1,6 +1,6 @@
 //! The whole program, as one call.
 ghost use Rattle.std.specs.Prelude.{◌≡◌, ℕ, List, Some, None, IfSome, IsSome};
-ghost use Rattle.gm_words.specs.Reading.{Listing as Listed, Checking as Checked, Drilling as Drilled, Exporting as Exported, Asking as Asked, Carrying as Carried, listing, checking, drilling, exporting, asking, carrying};
+ghost use Rattle.gm_words.specs.Reading.{Listing as Listed, Checking as Checked, Drilling as Drilled, Exporting as Exported, Asking as Asked, Carrying as Carried, Seeking as Sought, listing, checking, drilling, exporting, asking, carrying, seeking};
 ghost use Rattle.gm_io.specs.Endings.{finish_of};
 ghost use Rattle.gm_io.specs.Outside.{GetsLine, outside};
 ghost use Rattle.gm_tool.specs.Carrying.{IsCarrying};
@@ -11,12 +11,14 @@ ghost use Rattle.gm_tool.specs.Journaled.{IsJournaled};
 ghost use Rattle.gm_tool.specs.Listing.{IsListing};
 ghost use Rattle.gm_tool.specs.Roles.{IsAsking};
 ghost use Rattle.gm_tool.specs.Run.{IsRun};
+ghost use Rattle.gm_tool.specs.Seeking.{IsSeeking};
 ghost use Rattle.gm_tool.specs.Words.{EndsWith, IsUnread, asked_in, bounds_of, journal_in, outputs_of};
 
 use crate::carry::carry_file;
 use crate::check::check_file;
 use crate::drill::drill_case;
 use crate::export::export_conflict;
+use crate::least::least_file;
 use crate::list::list_by;
 use crate::roles::ask_file;
 use gm_io::{Ending, Finish, finish_of, write_error_line};
@@ -28,7 +30,7 @@ use std::thread::Threads;
 
 /// Lists all minimal conflicts and corrections of the file that the words name, or checks evidence about it, or exports one
 /// conflict that it shows, or tells the role of each group, or counts the sets of a case that is made from two numbers, or lists
-/// a longer file from evidence about the file that it extends.
+/// a longer file from evidence about the file that it extends, or looks for the smallest sets of a kind.
 ///
 /// `words` are those behind the program's name. Status 0 of `list` says that the file is accepted and was read to its end,
 /// and that `out` got exactly the report of all its minimal conflicts and all its minimal corrections, each once, in
@@ -40,9 +42,12 @@ use std::thread::Threads;
 /// status 0 is the same. Status 0 of `drill` says that `out` got one line, with the numbers of groups, of all minimal conflicts and of
 /// all minimal corrections of the case. Status 0 of `export` says that file and evidence are accepted, and that two files got
 /// the clauses of the conflict with the number in the report's order, and a refutation of them. Status 0 of `roles` says that `out`
-/// got exactly the role of each group: in every minimal conflict, in some, or in none. Where `list`, `check` or `roles` is given
+/// got exactly the role of each group: in every minimal conflict, in some, or in none. Where `list`, `check`, `roles` or `least` is given
 /// groups in focus, the problem of all this is the file's without the clauses of other groups but the background's. The statuses
 /// 0, 3 and 4 of `carry` say of the longer file what those of `list` do; 12 says at which clause it extends the old one no more.
+/// Status 0 of `least` says that `out` got exactly the minimal sets of the kind up to a size, smaller ones first: the least size up
+/// to which there are as many as `--count` wants, or the one of `--within`. With 3 and 4 it got those that are known, and how many
+/// groups each has at least. The file of `--evidence` got the evidence of that first.
 pub fn run<R: Threads + Wait + Sync, F: Files, O: Sink, E: Sink, G: Gate, D: Disk + Send + Drop>(
     rt: &R,
     alloc: Global,
@@ -75,6 +80,9 @@ pub fn run<R: Threads + Wait + Sync, F: Files, O: Sink, E: Sink, G: Gate, D: Dis
         (outside (F.state files.old) (O.got out.old) (O.faults out.old)) (outside (F.state files.new) (O.got out.new) (O.faults out.new))
         (GetsLine (E.got err.old) (E.got err.new) (E.faults err.old) (E.faults err.new)) result.0 }
     ensures carrying { (c : Carried) → asked_in words.now ≡ Some (carrying c) → IsCarrying c
+        (outside (F.state files.old) (O.got out.old) (O.faults out.old)) (outside (F.state files.new) (O.got out.new) (O.faults out.new))
+        (GetsLine (E.got err.old) (E.got err.new) (E.faults err.old) (E.faults err.new)) result.0 }
+    ensures least { (s : Sought) → asked_in words.now ≡ Some (seeking s) → IsSeeking s
         (outside (F.state files.old) (O.got out.old) (O.faults out.old)) (outside (F.state files.new) (O.got out.new) (O.faults out.new))
         (GetsLine (E.got err.old) (E.got err.new) (E.faults err.old) (E.faults err.new)) result.0 }
     ensures without_reading { asked_in words.now ≡ None → IsUnread
@@ -113,6 +121,9 @@ fn obey<R: Threads + Wait + Sync, F: Files, O: Sink, G: Gate, D: Disk + Send + D
         Ok(Some(Request::Roles(asking))) => (ask_file(rt, alloc, asking, files, out, gate), disk),
         Ok(Some(Request::Carry(carrying))) => {
             (carry_file(rt, alloc, carrying, files, out, gate), disk)
+        }
+        Ok(Some(Request::Least(seeking))) => {
+            (least_file(rt, alloc, seeking, files, out, gate), disk)
         }
         Ok(None) => (obey_none(files, out), disk),
         Err(AllocError) => (Ending::Memory, disk),

@@ -2,9 +2,8 @@
 use Rattle.std.specs.Prelude.{◌≡◌, ◌≢◌, ℕ, ◌+◌, ◌<◌, ◌≤◌, ◌^◌, Bool, true, false, List, Option, Some, None, IfSome, MatchOption}
 use Rattle.gm_base.specs.declared.kind.Kind.{Kind}
 use Rattle.gm_base.specs.Explored.{Found}
-use Rattle.gm_base.specs.Shown.{shows_level}
 use Rattle.sat_base.specs.Derivation.{Derivation}
-use Rattle.evidence_rec.specs.Seeding.{EngineState, shows_all_explored}
+use Rattle.evidence_rec.specs.Seeding.{EngineState, ShowsLevel, shows_all_explored}
 use Rattle.map_core.specs.declared.turn.Turn.{Turn}
 use Rattle.lrat_steps.specs.Log.{LogStep}
 use Rattle.evidence_rec.specs.declared.engine.LevelAnswer.{LevelAnswer}
@@ -30,15 +29,15 @@ pub record CanTell (e : EngineState) (bound : Option ℕ) : Type 0 where
   pub none : bound ≡ None → e.bound ≡ None
 
 -- the derivation shows that each set is explored which is within the bound
-abbrev pub ShowsLevel : Option Kind → Option ℕ → ℕ → List Found → Derivation → Type 0
-ShowsLevel (Some kind) (Some most) groups found d = shows_level kind groups most found d ≡ true
-ShowsLevel (Some kind) None groups found d = ⊥
-ShowsLevel None bound groups found d = ⊥
+abbrev pub ProvesLevel : Option Kind → Option ℕ → ℕ → List Found → Derivation → Type 0
+ProvesLevel (Some kind) (Some most) groups found d = ShowsLevel kind groups most found d
+ProvesLevel (Some kind) None groups found d = ⊥
+ProvesLevel None bound groups found d = ⊥
 
 -- the derivation shows what is marked: that each set is explored, or else each within the bound
 abbrev pub Proves : Option Kind → Option ℕ → ℕ → List Found → Bool → Bool → Derivation → Type 0
 Proves kind bound groups found true levelled d = shows_all_explored groups found d ≡ true
-Proves kind bound groups found false true d = ShowsLevel kind bound groups found d
+Proves kind bound groups found false true d = ProvesLevel kind bound groups found d
 Proves kind bound groups found false false d = ⊥
 
 -- a proof is given exactly where exhausted or levelled is newly marked

@@ -1,5 +1,5 @@
 -- What is left when every worker has ended.
-use Rattle.std.specs.Prelude.{◌≡◌, ◌≢◌, ℕ, ◌+◌, ◌<◌, ◌≤◌, Bool, true, false, List, [], ◌∷◌, ◌++◌, length, Option, MatchOption}
+use Rattle.std.specs.Prelude.{◌≡◌, ◌≢◌, ℕ, ◌+◌, ◌<◌, ◌≤◌, Bool, true, false, List, [], ◌∷◌, ◌++◌, length, Option, None, MatchOption}
 use Rattle.std.specs.List.{list_any}
 use Rattle.gm_base.specs.declared.kind.Kind.{Kind}
 use Rattle.gm_base.specs.Explored.{Found}
@@ -16,7 +16,7 @@ use Rattle.map_core.specs.declared.closing.Verdict.{Verdict}
 use Rattle.map_core.specs.declared.closing.Verdict.TheVariants.{Complete, Settled, Levelled, Journal, Memory, Limit, Budget}
 use Rattle.map_core.specs.declared.closing.Closing.{Closing}
 use Rattle.map_core.specs.Core.{State, IsReached, is_told, kind_in, bound_of}
-use Rattle.map_core.specs.Asked.{ShowsLevel}
+use Rattle.map_core.specs.Asked.{ProvesLevel}
 pub use Rattle.map_core.specs.Levels.{learned_in}
 use Rattle.map_core.specs.Levels.{AreLevelLogs, StandsBefore}
 use Rattle.map_core.specs.Own.{calls_of, worker_of, is_for_journal, engine_used_in, brought_in}
@@ -36,7 +36,7 @@ verdict_by false false false false false false = Budget
 -- the derivation shows what the verdict says: that each set is explored, or each within the bound
 abbrev pub ProvesVerdict : Option Kind → Option ℕ → ℕ → List Found → Verdict → Derivation → Type 0
 ProvesVerdict kind bound groups found Complete d = shows_all_explored groups found d ≡ true
-ProvesVerdict kind bound groups found Levelled d = ShowsLevel kind bound groups found d
+ProvesVerdict kind bound groups found Levelled d = ProvesLevel kind bound groups found d
 ProvesVerdict kind bound groups found _ d = ⊥
 
 -- a retirement for the journal stands in the history
@@ -66,6 +66,9 @@ pub record IsClosing (s : State) (closing : Closing) (log : List LogStep) (level
   pub verdict : closing.verdict ≡ verdict_by s.exhausted s.settled s.levelled (is_cut_off s.history) s.stopped s.limited
   pub all : closing.verdict ≡ Complete → HoldsAll s.opening.problem s.records
   pub told : closing.verdict ≡ Settled → is_told s.opening.goal s.opening.problem.groups (founds s.records) ≡ true
+  -- the bound of the records; there is none where nothing is missing
+  pub bound : closing.bound ≡ bound_of s.opening.goal s.opening.problem.groups (founds s.records)
+  pub unbounded : closing.verdict ≡ Complete → closing.bound ≡ None
   pub levelled : closing.verdict ≡ Levelled → IsLevelled s
   pub spent : closing.verdict ≡ Budget → s.spent ≡ s.opening.budget
   pub dry :

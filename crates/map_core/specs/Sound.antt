@@ -60,6 +60,7 @@ pub record IsSound (s : State) : Type 0 where
   pub at_most : length s.records ≤ max s.opening.limit (length s.opening.records)
   -- what each mark says
   pub exhausted : s.exhausted ≡ true → AllExplored s.opening.problem.groups (founds s.records)
+  pub unbounded : s.exhausted ≡ true → bound_of s.opening.goal s.opening.problem.groups (founds s.records) ≡ None
   pub settled : s.settled ≡ true → is_told s.opening.goal s.opening.problem.groups (founds s.records) ≡ true
   pub levelled : s.levelled ≡ true → IsLevelled s
   pub limited : s.limited ≡ true → is_full s.opening s.records ≡ true

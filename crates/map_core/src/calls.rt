@@ -207,6 +207,7 @@ impl<M: MapEngine> MapCore<M> {
         requires { HaveEnded self.opening self.history }
         ensures { IsClosing self result.0 result.1 result.2 }
     {
+        let bound = bound_of(self.goal, self.problem.groups(), &self.tally);
         let MapCore {
             alloc: _,
             problem: _,
@@ -227,6 +228,7 @@ impl<M: MapEngine> MapCore<M> {
         let closing = Closing {
             records: Records::from_vec(records),
             verdict: verdict_of(common, history.as_slice()),
+            bound,
             proof,
             history: History::from_vec(history),
         };

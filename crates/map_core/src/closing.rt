@@ -29,6 +29,8 @@ pub type History = Row<Entry>;
 pub struct Closing {
     pub records: Records,
     pub verdict: Verdict,
+    /// How many groups those sets may have that were still looked for, where the smallest ones are wanted.
+    pub bound: Option<u32>,
     pub proof: Option<Derivation>,
     pub history: History,
 }

@@ -1,4 +1,5 @@
 pub mod Sizes
+pub mod Packing
 pub mod Shown
 pub mod Laws
 pub mod Rows

@@ -18,5 +18,7 @@
 
 pub mod laws;
 mod levels;
+mod packing;
 
 pub use levels::level_of;
+pub use packing::packed;

@@ -32,6 +32,6 @@ returns g c =
       c.in-Ok.ensures,
       c.write_outputs-written.result,
       c.dried_by.ensures,
-      subst (λ k. Writes p asked k (held_report p []) old new c.write_outputs-written.result) (ap (λ (e : Enumerated). e.closing) c.in-Ok.ensures.left)
-          (subst (λ report. Writes p asked ready.left.closing report old new c.write_outputs-written.result) (c.as_slice-text.ensures.value ∙ c.in-Ok.ensures.text) c.write_outputs-written.ensures),
+      subst (λ k. Writes (evidence_of p k) asked k (held_report p []) old new c.write_outputs-written.result) (ap (λ (e : Enumerated). e.closing) c.in-Ok.ensures.left)
+          (subst (λ report. Writes (evidence_of p ready.left.closing) asked ready.left.closing report old new c.write_outputs-written.result) (c.as_slice-text.ensures.value ∙ c.in-Ok.ensures.text) c.write_outputs-written.ensures),
     )

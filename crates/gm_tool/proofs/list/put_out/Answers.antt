@@ -38,7 +38,7 @@ returns-clause-lists g c = λ course before told all left.
       is,
       c.write_outputs-written.result,
       c.listed_by.ensures,
-      subst (λ report. Writes c.args.problem.now (text_of c.args.evidence) ready.left.closing report old new c.write_outputs-written.result)
+      subst (λ report. Writes (evidence_of c.args.problem.now ready.left.closing) (text_of c.args.evidence) ready.left.closing report old new c.write_outputs-written.result)
           (c.as_slice-text.ensures.value ∙ is.text)
           c.write_outputs-written.ensures,
     )
