@@ -89,7 +89,12 @@ pub trait MapEngine {
     /// A derivation that each set within the bound is explored, after an answer that says so. Its clauses are the block clauses
     /// and behind them those of a counter. What is learnt for it is paid, and stands in a log of its own, which comes with the
     /// answer. Without memory nothing was paid.
-    fn level_proof(&mut self, alloc: Global, turn: u64, purse: &mut Purse) -> Result<AskedLevel, AllocError>
+    fn level_proof(
+        &mut self,
+        alloc: Global,
+        turn: u64,
+        purse: &mut Purse,
+    ) -> Result<AskedLevel, AllocError>
         requires exhausted { (state self.old).exhausted ≡ true }
         requires bounded { HasBound (state self.old) }
         ensures asked { IfOk result (LevelIsAsked (state self.new).kind (state self.new).bound (state self.new).groups (state self.new).blocks purse.old.left purse.new.left) }

@@ -44,5 +44,7 @@ pub use error_line::write_error_line;
 pub use export_files::write_both;
 pub use longer::{Longer, begin_longer};
 pub use record_ids::ids_fit;
-pub use records_report::{conflict_numbered, counts_of, least_report_of, partial_report_of, report_of};
+pub use records_report::{
+    conflict_numbered, counts_of, least_report_of, partial_report_of, report_of,
+};
 pub use writing::{Stop, known_up_to, write_outputs};

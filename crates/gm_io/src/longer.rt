@@ -60,12 +60,7 @@ fn judge_known<F: Files>(
         return Err(break_off(alloc, place));
     }
     match judge(alloc, &old, known, files) {
-        Judged::Audited(
-            Audited::Yes {
-                ending: _,
-                records,
-            },
-        ) => Ok(Longer { old, records, new }),
+        Judged::Audited(Audited::Yes { ending: _, records }) => Ok(Longer { old, records, new }),
         Judged::Audited(Audited::No { line, why }) => Err(refuse_evidence(alloc, line, &why)),
         Judged::Failed => Err(Ending::EvidenceFault),
         Judged::Memory => Err(Ending::Memory),

@@ -74,7 +74,15 @@ fn write_asked<F: Files>(
     ids_fit(closing);
     let records = closing.records.as_slice();
     let ending = ending_of(kind, problem.groups(), closing);
-    write_evidence(alloc, version_for(kind), problem, records, ending, name, files)
+    write_evidence(
+        alloc,
+        version_for(kind),
+        problem,
+        records,
+        ending,
+        name,
+        files,
+    )
 }
 
 /// The version that holds it.
@@ -107,10 +115,7 @@ pub fn known_up_to(groups: u32, closing: &Closing) -> Option<u32>
     match closing.verdict {
         Verdict::Complete => Some(groups),
         Verdict::Levelled => closing.bound,
-        Verdict::Settled
-        | Verdict::Journal
-        | Verdict::Memory
-        | Verdict::Limit
-        | Verdict::Budget => None,
+        Verdict::Settled | Verdict::Journal | Verdict::Memory | Verdict::Limit | Verdict::Budget =>
+            None,
     }
 }

@@ -29,5 +29,7 @@ mod request;
 mod unread;
 
 pub use read::read_words;
-pub use request::{Asking, Carrying, Checking, Drilling, Exporting, Listing, Reach, Request, Seeking};
+pub use request::{
+    Asking, Carrying, Checking, Drilling, Exporting, Listing, Reach, Request, Seeking,
+};
 pub use unread::{Shown, Unread, why_unread};

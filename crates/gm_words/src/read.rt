@@ -337,8 +337,6 @@ fn seeking_by<'a>(
     let jobs = number_or(matches, JOBS, JOBS.low)?;
     let conflicts = number_or(matches, CONFLICTS, CONFLICTS.high)?;
     let limit = number_or(matches, LIMIT, LIMIT.high)?;
-    let evidence = text_given(matches, "evidence");
-    let resume = text_given(matches, "resume");
     Some(Request::Least(Seeking {
         kind,
         file,
@@ -346,8 +344,8 @@ fn seeking_by<'a>(
         jobs: jobs as u32,
         conflicts,
         limit,
-        evidence,
-        resume,
+        evidence: text_given(matches, "evidence"),
+        resume: text_given(matches, "resume"),
         focus,
     }))
 }

@@ -7,7 +7,9 @@ ghost use Rattle.sat_base.specs.Members.{In};
 ghost use Rattle.lawful_fakes.specs.Script.{found_in};
 
 use crate::block::{Block, any_takes_out, map_problem};
-use evidence_rec::{AskedLevel, MapEngine, Record, Records, Seed, Witnesses, block_lits, check_record};
+use evidence_rec::{
+    AskedLevel, MapEngine, Record, Records, Seed, Witnesses, block_lits, check_record,
+};
 use gm_base::{Derivation, GroupSet, Purse, Side};
 use lrat_steps::{Log, LogStep};
 use sat_base::Row;
