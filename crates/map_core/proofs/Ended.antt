@@ -2,23 +2,26 @@
 use Rattle.std.proofs.Common.{◌≡◌, ◌≢◌, ℕ, suc, ◌<◌, Bool, true, false, not, ◌||◌, List, [], ◌∷◌, ◌++◌, length, sum_by, Option, Some, None, refl, sym, ◌∙◌, ap, subst, inl, inr, arith, ltb}
 use Rattle.std.specs.Prelude.{MatchOption}
 use Rattle.std.specs.List.{list_any, AllByRecursion}
-use Rattle.std.proofs.lemmas.Bool.{false≢true, true≢false, or_from, cases_Bool, ltb-true, ltb-false}
+use Rattle.std.proofs.lemmas.Bool.{false≢true, true≢false, false_from_ne_true, or_from, cases_Bool, ltb-true, ltb-false}
 use Rattle.std.proofs.lemmas.List.Sums.{sum_by-cons}
 use Rattle.lrat_steps.specs.Log.{LogStep}
 use Rattle.sat_base.specs.Derivation.{Derivation}
 use Rattle.gm_base.specs.Explored.{Found}
-use Rattle.evidence_rec.specs.Seeding.{shows_all_explored}
+use Rattle.gm_base.specs.declared.kind.Kind.{Kind}
 use Rattle.map_core.specs.declared.entry.Entry.{Entry}
 use Rattle.map_core.specs.declared.entry.Reply.TheVariants.{Dry}
 use Rattle.map_core.specs.declared.turn.Worker.{Worker}
 use Rattle.map_core.specs.declared.closing.Verdict.{Verdict}
-use Rattle.map_core.specs.declared.closing.Verdict.TheVariants.{Complete, Settled, Budget}
+use Rattle.map_core.specs.declared.closing.Verdict.TheVariants.{Complete, Settled, Levelled, Budget}
 use Rattle.evidence_rec.specs.Records.{founds}
-use Rattle.map_core.specs.Core.{State, worker_at, is_told}
+use Rattle.map_core.specs.declared.entry.Goal.{Goal}
+use Rattle.map_core.specs.declared.entry.Goal.TheVariants.{All, Roles, Least, Within}
+use Rattle.map_core.specs.Core.{State, worker_at, is_told, kind_in, bound_of, bound_in}
+use Rattle.map_core.specs.Asked.{Proves}
 use Rattle.map_core.specs.Own.{calls_of, worker_of}
-use Rattle.map_core.specs.Sound.{IsSound, IsUnmarked, purse_of, is_live}
+use Rattle.map_core.specs.Sound.{IsSound, IsUnmarked, IsDone, IsLevelled, purse_of, is_live}
 use Rattle.map_core.specs.Kept.{KeepsProof, StandsDry}
-use Rattle.map_core.specs.Closings.{verdict_by, is_cut_off, HaveEnded, EndsDry, HoldsAll}
+use Rattle.map_core.specs.Closings.{verdict_by, is_cut_off, HaveEnded, EndsDry, HoldsAll, ProvesVerdict}
 use Rattle.map_core.proofs.Explored.{exhausted_holds_all}
 
 no_purse : (ws : List Worker) → ((k : ℕ) → k < length ws → (worker_at ws k).purse ≡ 0) → sum_by purse_of ws ≡ 0
@@ -39,22 +42,23 @@ all_ended : (s : State) → IsSound s → HaveEnded s.opening s.history → (k :
 all_ended s ok over k seat = ap (λ (x : Worker). x.ended) (ok.own k seat) ∙ over.at k (subst (λ n. k < n) ok.count seat)
 
 -- the verdict is that the budget is spent only where nothing is marked
-unmarked : (s : State) → verdict_by s.exhausted s.settled (is_cut_off s.history) s.stopped s.limited ≡ Budget → IsUnmarked s
+unmarked : (s : State) → verdict_by s.exhausted s.settled s.levelled (is_cut_off s.history) s.stopped s.limited ≡ Budget → IsUnmarked s
 unmarked s h =
-    let marks = by s.exhausted s.settled (is_cut_off s.history) s.stopped s.limited h in
-    record { exhausted = marks.0; settled = marks.1; limited = marks.3; stopped = marks.2 }
+    let marks = by s.exhausted s.settled s.levelled (is_cut_off s.history) s.stopped s.limited h in
+    record { exhausted = marks.0; settled = marks.1; levelled = marks.2; limited = marks.4; stopped = marks.3 }
   where
-    by : (a b j c d : Bool) → verdict_by a b j c d ≡ Budget → (a ≡ false) × (b ≡ false) × (c ≡ false) × (d ≡ false)
-    by true b j c d h = absurd (cc)
-    by false true j c d h = absurd (cc)
-    by false false true c d h = absurd (cc)
-    by false false false true d h = absurd (cc)
-    by false false false false true h = absurd (cc)
-    by false false false false false h = (refl, refl, refl, refl)
+    by : (a b l j c d : Bool) → verdict_by a b l j c d ≡ Budget → (a ≡ false) × (b ≡ false) × (l ≡ false) × (c ≡ false) × (d ≡ false)
+    by true b l j c d h = absurd (cc)
+    by false true l j c d h = absurd (cc)
+    by false false true j c d h = absurd (cc)
+    by false false false true c d h = absurd (cc)
+    by false false false false true d h = absurd (cc)
+    by false false false false false true h = absurd (cc)
+    by false false false false false false h = (refl, refl, refl, refl, refl)
 
 -- nothing is available, since no worker is left to use it, and no worker has a purse
 pub spent_all : (s : State) → IsSound s → HaveEnded s.opening s.history
-    → verdict_by s.exhausted s.settled (is_cut_off s.history) s.stopped s.limited ≡ Budget
+    → verdict_by s.exhausted s.settled s.levelled (is_cut_off s.history) s.stopped s.limited ≡ Budget
     → s.spent ≡ s.opening.budget
 spent_all s ok over h =
     let ends = all_ended s ok over in
@@ -64,10 +68,11 @@ spent_all s ok over h =
     elim (cases_Bool (ltb 0 s.available)) [
       | inl some ↦
           let later = or_from s.limited s.stopped none.limited none.stopped in
-          let told = or_from s.settled (s.limited || s.stopped) none.settled later in
-          let marks = or_from s.exhausted (s.settled || (s.limited || s.stopped)) none.exhausted told in
+          let done = or_from s.levelled (s.limited || s.stopped) none.levelled later in
+          let told = or_from s.settled (s.levelled || (s.limited || s.stopped)) none.settled done in
+          let marks = or_from s.exhausted (s.settled || (s.levelled || (s.limited || s.stopped))) none.exhausted told in
           let live = none_live s.workers ends in
-          let idle = or_from (list_any is_live s.workers) (s.exhausted || (s.settled || (s.limited || s.stopped))) live marks in
+          let idle = or_from (list_any is_live s.workers) (s.exhausted || (s.settled || (s.levelled || (s.limited || s.stopped)))) live marks in
           absurd (false≢true (sym idle ∙ ok.live (ltb-true 0 s.available some)))
       | inr nothing ↦ let low = ltb-false 0 s.available nothing in omega arith
     ]
@@ -89,7 +94,7 @@ has_entries s ok over none =
 
 -- the last entry's worker has ended by it, and it found the budget spent
 pub ends_dry : (s : State) → IsSound s → HaveEnded s.opening s.history
-    → verdict_by s.exhausted s.settled (is_cut_off s.history) s.stopped s.limited ≡ Budget
+    → verdict_by s.exhausted s.settled s.levelled (is_cut_off s.history) s.stopped s.limited ≡ Budget
     → (before : List Entry) × (e : Entry) × (s.history ≡ before ++ e ∷ []) × (e.reply ≡ Dry)
 ends_dry s ok over h =
     let (before, e, is) = last_of s.history (has_entries s ok over) in
@@ -101,59 +106,94 @@ ends_dry s ok over h =
     is_seat x = x.worker < s.opening.workers
 
 -- the same, with what the map's log says where that entry is a take's
-pub closing_dry : (s : State) (log : List LogStep) → IsSound s → HaveEnded s.opening s.history → StandsDry s.history log
-    → verdict_by s.exhausted s.settled (is_cut_off s.history) s.stopped s.limited ≡ Budget → EndsDry s.history log
-closing_dry s log ok over stands h =
+pub closing_dry : (s : State) (log : List LogStep) (levels : List (List LogStep)) → IsSound s → HaveEnded s.opening s.history → StandsDry s log levels
+    → verdict_by s.exhausted s.settled s.levelled (is_cut_off s.history) s.stopped s.limited ≡ Budget → EndsDry (kind_in s.opening.goal) (bound_in s) s.opening.problem.groups (founds s.records) s.history log levels
+closing_dry s log levels ok over stands h =
     let (before, e, is, dry) = ends_dry s ok over h in
     record { before = before; last = e; ends = is; dry = dry; undecided = λ take. stands before e is take dry }
 
-complete_by : (a b j c d : Bool) → a ≡ true → verdict_by a b j c d ≡ Complete
-complete_by true b j c d h = refl
-complete_by false b j c d h = absurd (false≢true h)
+-- a proof that is kept shows what the verdict says, and none is kept where it says neither
+pub closing_proof : (kind : Option Kind) (bound : Option ℕ) (groups : ℕ) (found : List Found) (a b l j c d : Bool) (v : Verdict) (proof : Option Derivation)
+    → v ≡ verdict_by a b l j c d → (l ≡ true → b ≡ false)
+    → KeepsProof kind bound groups found a l proof
+    → MatchOption proof ((v ≢ Complete) × (v ≢ Levelled)) (λ x. ProvesVerdict kind bound groups found v x)
+closing_proof kind bound groups found a b l j c d v None is apart h = (λ e. (neither a b l j c d h.0 h.1).0 (sym is ∙ e), λ e. (neither a b l j c d h.0 h.1).1 (sym is ∙ e))
+  where
+    neither : (a b l j c d : Bool) → a ≡ false → l ≡ false → (verdict_by a b l j c d ≢ Complete) × (verdict_by a b l j c d ≢ Levelled)
+    neither true b l j c d h k = absurd (true≢false h)
+    neither false b true j c d h k = absurd (true≢false k)
+    neither false true false j c d h k = (λ e. cc, λ e. cc)
+    neither false false false true c d h k = (λ e. cc, λ e. cc)
+    neither false false false false true d h k = (λ e. cc, λ e. cc)
+    neither false false false false false true h k = (λ e. cc, λ e. cc)
+    neither false false false false false false h k = (λ e. cc, λ e. cc)
+closing_proof kind bound groups found a b l j c d v (Some x) is apart h = subst (λ w. ProvesVerdict kind bound groups found w x) (sym is) (by a b l apart h)
+  where
+    by : (a b l : Bool) → (l ≡ true → b ≡ false) → Proves kind bound groups found a l x → ProvesVerdict kind bound groups found (verdict_by a b l j c d) x
+    by true b l apart h = h
+    by false true true apart h = absurd (true≢false (apart refl))
+    by false false true apart h = h
+    by false true false apart h = absurd h
+    by false false false apart h = absurd h
 
-not_complete : (a b j c d : Bool) → a ≡ false → verdict_by a b j c d ≢ Complete
-not_complete true b j c d h e = true≢false h
-not_complete false true j c d h e = cc
-not_complete false false true c d h e = cc
-not_complete false false false true d h e = cc
-not_complete false false false false true h e = cc
-not_complete false false false false false h e = cc
-
--- a proof that is kept goes with the verdict Complete, and with no other
-pub closing_proof : (groups : ℕ) (found : List Found) (a b j c d : Bool) (v : Verdict) (proof : Option Derivation)
-    → v ≡ verdict_by a b j c d
-    → KeepsProof groups found a proof
-    → MatchOption proof (v ≢ Complete) (λ x. (v ≡ Complete) × (shows_all_explored groups found x ≡ true))
-closing_proof groups found a b j c d v None is h = λ e. not_complete a b j c d h (sym is ∙ e)
-closing_proof groups found a b j c d v (Some x) is h = (is ∙ complete_by a b j c d h.0, h.1)
+exhausted_of : (a b l j c d : Bool) → verdict_by a b l j c d ≡ Complete → a ≡ true
+exhausted_of true b l j c d e = refl
+exhausted_of false true l j c d e = cc
+exhausted_of false false true j c d e = cc
+exhausted_of false false false true c d e = cc
+exhausted_of false false false false true d e = cc
+exhausted_of false false false false false true e = cc
+exhausted_of false false false false false false e = cc
 
 -- a complete enumeration holds all
-pub closing_all : (s : State) (v : Verdict) → IsSound s → v ≡ verdict_by s.exhausted s.settled (is_cut_off s.history) s.stopped s.limited → v ≡ Complete
+pub closing_all : (s : State) (v : Verdict) → IsSound s → v ≡ verdict_by s.exhausted s.settled s.levelled (is_cut_off s.history) s.stopped s.limited → v ≡ Complete
     → HoldsAll s.opening.problem s.records
 closing_all s v ok is complete =
-    let marked = exhausted_of s.exhausted s.settled (is_cut_off s.history) s.stopped s.limited (sym is ∙ complete) in
+    let marked = exhausted_of s.exhausted s.settled s.levelled (is_cut_off s.history) s.stopped s.limited (sym is ∙ complete) in
     record {
       conflicts = λ set is_set within. (exhausted_holds_all s set ok marked is_set within).0;
       corrections = λ set is_set within. (exhausted_holds_all s set ok marked is_set within).1;
     }
-  where
-    exhausted_of : (a b j c d : Bool) → verdict_by a b j c d ≡ Complete → a ≡ true
-    exhausted_of true b j c d e = refl
-    exhausted_of false true j c d e = cc
-    exhausted_of false false true c d e = cc
-    exhausted_of false false false true d e = cc
-    exhausted_of false false false false true e = cc
-    exhausted_of false false false false false e = cc
-
 -- where the verdict is that all is told, it is
-pub closing_told : (s : State) (v : Verdict) → IsSound s → v ≡ verdict_by s.exhausted s.settled (is_cut_off s.history) s.stopped s.limited → v ≡ Settled
+pub closing_told : (s : State) (v : Verdict) → IsSound s → v ≡ verdict_by s.exhausted s.settled s.levelled (is_cut_off s.history) s.stopped s.limited → v ≡ Settled
     → is_told s.opening.goal s.opening.problem.groups (founds s.records) ≡ true
-closing_told s v ok is told = ok.settled (settled_of s.exhausted s.settled (is_cut_off s.history) s.stopped s.limited (sym is ∙ told))
+closing_told s v ok is told = ok.settled (settled_of s.exhausted s.settled s.levelled (is_cut_off s.history) s.stopped s.limited (sym is ∙ told))
   where
-    settled_of : (a b j c d : Bool) → verdict_by a b j c d ≡ Settled → b ≡ true
-    settled_of true b j c d e = absurd (cc)
-    settled_of false true j c d e = refl
-    settled_of false false true c d e = absurd (cc)
-    settled_of false false false true d e = absurd (cc)
-    settled_of false false false false true e = absurd (cc)
-    settled_of false false false false false e = absurd (cc)
+    settled_of : (a b l j c d : Bool) → verdict_by a b l j c d ≡ Settled → b ≡ true
+    settled_of true b l j c d e = absurd (cc)
+    settled_of false true l j c d e = refl
+    settled_of false false true j c d e = absurd (cc)
+    settled_of false false false true c d e = absurd (cc)
+    settled_of false false false false true d e = absurd (cc)
+    settled_of false false false false false true e = absurd (cc)
+    settled_of false false false false false false e = absurd (cc)
+
+-- where it is that a level is done, it is
+pub closing_levelled : (s : State) (v : Verdict) → IsSound s → v ≡ verdict_by s.exhausted s.settled s.levelled (is_cut_off s.history) s.stopped s.limited → v ≡ Levelled
+    → IsLevelled s
+closing_levelled s v ok is done = ok.levelled (levelled_of s.exhausted s.settled s.levelled (is_cut_off s.history) s.stopped s.limited (sym is ∙ done))
+  where
+    levelled_of : (a b l j c d : Bool) → verdict_by a b l j c d ≡ Levelled → l ≡ true
+    levelled_of true b l j c d e = absurd (cc)
+    levelled_of false true l j c d e = absurd (cc)
+    levelled_of false false true j c d e = refl
+    levelled_of false false false true c d e = absurd (cc)
+    levelled_of false false false false true d e = absurd (cc)
+    levelled_of false false false false false true e = absurd (cc)
+    levelled_of false false false false false false e = absurd (cc)
+
+-- and where nothing is missing there is no bound
+pub closing_unbounded : (s : State) (v : Verdict) → IsSound s → v ≡ verdict_by s.exhausted s.settled s.levelled (is_cut_off s.history) s.stopped s.limited → v ≡ Complete
+    → bound_in s ≡ None
+closing_unbounded s v ok is complete = ok.unbounded (exhausted_of s.exhausted s.settled s.levelled (is_cut_off s.history) s.stopped s.limited (sym is ∙ complete))
+
+-- roles and smallest sets are not wanted together
+pub levelled_unsettled : (s : State) → IsSound s → s.levelled ≡ true → s.settled ≡ false
+levelled_unsettled s ok done =
+    false_from_ne_true s.settled (λ told. apart s.opening.goal (ok.settled told) (ok.levelled done))
+  where
+    apart : (goal : Goal) → is_told goal s.opening.problem.groups (founds s.records) ≡ true → IsDone (kind_in goal) (bound_of goal s.opening.problem.groups (founds s.records)) s.opening.problem.groups (founds s.records) → ⊥
+    apart All told done = false≢true told
+    apart Roles told done = done
+    apart (Least kind wanted) told done = false≢true told
+    apart (Within kind most) told done = false≢true told

@@ -34,7 +34,7 @@ pub steps_explore : (s t : State) (e : Entry) (set : List ℕ) → CoreStep s e 
     → is_explored (founds s.records) set ≡ true
     → is_explored (founds t.records) set ≡ true
 steps_explore s t e set step h =
-    let does = grown s (settle e.used (turn_at s e.worker)) step.turn e.call e.engine e.reply step.records step.does in
+    let does = grown s (settle e.used (turn_at s e.worker)) step.turn e.call e.engine e.reply step.records refl step.does in
     let (more, is) = is_longer s step.records does in
     ap (λ (x : State). is_explored (founds x.records) set) step.is ∙ ap (λ x. is_explored (founds x) set) is
     ∙ explored-append s.records more set h

@@ -9,7 +9,7 @@ use Rattle.evidence_rec.specs.Records.{kind_of, set_of, found_of, founds, IsAcce
 use Rattle.map_core.specs.declared.entry.Call.{Call}
 use Rattle.map_core.specs.declared.entry.Call.TheVariants.{Take, Refill, Post, Retire}
 use Rattle.map_core.specs.declared.entry.Reply.{Reply}
-use Rattle.map_core.specs.declared.entry.Reply.TheVariants.{Job, Grant, Exhausted, Settled, Limit, Dry, Stopped, New, Already, Retired, Memory}
+use Rattle.map_core.specs.declared.entry.Reply.TheVariants.{Job, Grant, Exhausted, Settled, Levelled, Limit, Dry, Stopped, New, Already, Retired, Memory}
 use Rattle.map_core.specs.declared.entry.Entry.{Entry}
 use Rattle.map_core.specs.declared.turn.Turn.{Turn}
 use Rattle.map_core.specs.Core.{State, turn_at, settle, Does, CoreStep, CoreRun}
@@ -27,6 +27,7 @@ brought_does s t u (Refill asked) engine reply records h = same s.records record
 brought_does s t u (Retire why) engine reply records h = same s.records records h.3
 brought_does s t u (Post kind set r) engine New records h = h.1.3.1
 brought_does s t u (Post kind set r) engine Already records h = same s.records records h.1.2
+brought_does s t u (Post kind set r) engine Levelled records h = same s.records records h.1.3
 brought_does s t u (Post kind set r) engine Limit records h = same s.records records h.1.3
 brought_does s t u (Post kind set r) engine Memory records h = same s.records records h.1.1
 brought_does s t u (Post kind set r) engine (Job turn seed n) records h = absurd h.1
@@ -48,6 +49,7 @@ news_does s t u (Refill asked) engine reply records h = refl
 news_does s t u (Retire why) engine reply records h = refl
 news_does s t u (Post kind set r) engine New records h = ap (λ (f : Found). f ∷ []) (of_kind kind set r h.1.3.0.kind_is h.1.3.0.set_is)
 news_does s t u (Post kind set r) engine Already records h = refl
+news_does s t u (Post kind set r) engine Levelled records h = refl
 news_does s t u (Post kind set r) engine Limit records h = refl
 news_does s t u (Post kind set r) engine Memory records h = refl
 news_does s t u (Post kind set r) engine (Job turn seed n) records h = refl
@@ -89,6 +91,7 @@ alone_does s t u (Refill asked) engine reply records h = tt
 alone_does s t u (Retire why) engine reply records h = tt
 alone_does s t u (Post kind set r) engine New records h = (h.1.3.0.accepted, tt)
 alone_does s t u (Post kind set r) engine Already records h = tt
+alone_does s t u (Post kind set r) engine Levelled records h = tt
 alone_does s t u (Post kind set r) engine Limit records h = tt
 alone_does s t u (Post kind set r) engine Memory records h = tt
 alone_does s t u (Post kind set r) engine (Job turn seed n) records h = tt

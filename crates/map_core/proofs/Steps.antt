@@ -1,5 +1,5 @@
 -- The opening state has the core's facts, and each step keeps them.
-use Rattle.std.proofs.Common.{◌≡◌, ◌≢◌, ◌⊎◌, ℕ, ◌<◌, ◌≤◌, max, Bool, true, false, not, ◌||◌, cond, List, [], ◌∷◌, ◌++◌, length, replicate, set, Option, refl, sym, ◌∙◌, ap, subst, inl, inr, arith, eqb, ltb, length-append, append_assoc, append-nil, eq-eqb, ne_eqb}
+use Rattle.std.proofs.Common.{◌≡◌, ◌≢◌, ◌⊎◌, ℕ, ◌<◌, ◌≤◌, max, Bool, true, false, not, ◌||◌, cond, List, [], ◌∷◌, ◌++◌, length, replicate, set, Option, None, refl, sym, ◌∙◌, ap, subst, inl, inr, arith, eqb, ltb, length-append, append_assoc, append-nil, eq-eqb, ne_eqb}
 use Rattle.std.specs.List.{list_any, AllByRecursion}
 use Rattle.std.proofs.Math.Bool.{or-false}
 use Rattle.std.proofs.lemmas.Bool.{false≢true, true≢false, or_cases, or_left, or_right, leb-true, leb-false, le-leb, cases_Bool, ltb-true, ltb-false}
@@ -12,37 +12,41 @@ use native.Mathlib.Decide.{ℕ_discrete}
 use Rattle.gm_base.specs.Explored.{AllExplored, is_explored, explores}
 use Rattle.gm_base.specs.declared.kind.Kind.{Kind}
 use Rattle.evidence_rec.specs.declared.record.Record.{Record}
-use Rattle.evidence_rec.proofs.AcceptedLemmas.{accepted-push, accepted-alone}
+use Rattle.evidence_rec.proofs.AcceptedLemmas.{accepted-push, accepted-alone, accepted-right, alone-right}
+use Rattle.evidence_rec.proofs.Explored.{held_at_end}
 use Rattle.evidence_rec.specs.Records.{kind_of, set_of, found_of, founds, IsAcceptedAlone, AllAccepted}
 use Rattle.map_core.specs.declared.entry.Call.{Call}
 use Rattle.map_core.specs.declared.entry.Call.TheVariants.{Take, Refill, Post, Retire}
 use Rattle.map_core.specs.declared.entry.Reply.{Reply}
-use Rattle.map_core.specs.declared.entry.Reply.TheVariants.{Job, Grant, Exhausted, Settled, Limit, Dry, Stopped, New, Already, Retired, Memory}
+use Rattle.map_core.specs.declared.entry.Reply.TheVariants.{Job, Grant, Exhausted, Settled, Levelled, Limit, Dry, Stopped, New, Already, Retired, Memory}
 use Rattle.map_core.specs.declared.entry.Entry.{Entry}
 use Rattle.map_core.specs.declared.entry.Opening.{Opening}
 use Rattle.map_core.specs.declared.entry.Goal.{Goal}
 use Rattle.map_core.specs.declared.turn.Worker.{Worker}
 use Rattle.map_core.specs.declared.turn.Turn.{Turn}
-use Rattle.map_core.specs.Core.{State, no_worker, new_worker, worker_at, opened, turn_at, settle, is_held, is_full, is_told, Posts, Does, after, CoreStep, CoreRun}
+use Rattle.map_core.specs.Core.{State, no_worker, new_worker, worker_at, opened, turn_at, settle, is_held, is_full, is_told, kind_in, bound_of, Posts, Does, after, CoreStep, CoreRun}
 use Rattle.map_core.specs.Own.{caller_of, calls_of, worker_after, worker_from, worker_of, is_retirement, engine_part}
-use Rattle.map_core.specs.Sound.{AreNew, IsOpening, purse_of, is_live, IsSound}
+use Rattle.map_core.specs.Sound.{AreNew, IsOpening, IsDone, purse_of, is_live, IsSound}
 use Rattle.map_core.proofs.Turns.{TurnFacts, turn_facts}
 use Rattle.map_core.proofs.Tallies.{told-append}
 
 -- one accepted record more, that was not held, where there was room for it
-pub record Adds (s : State) (records : List Record) (r : Record) : Type 0 where
+pub record Adds (s : State) (u : Turn) (records : List Record) (r : Record) : Type 0 where
   pub accepted : IsAcceptedAlone s.opening.problem r
   pub fresh : is_held s.records (kind_of r) (set_of r) ≡ false
   pub room : is_full s.opening s.records ≡ false
+  pub going : s.levelled ≡ false
+  pub goes : u.common.levelled ≡ false
   pub is : records ≡ s.records ++ r ∷ []
 
-grown-post : (s : State) (t u : Turn) (kind : Kind) (groups : List ℕ) (r : Record) (reply : Reply) (records : List Record)
+grown-post : (s : State) (t u : Turn) → s.levelled ≡ t.common.levelled → (kind : Kind) (groups : List ℕ) (r : Record) (reply : Reply) (records : List Record)
     → Posts s.opening.problem (is_full s.opening s.records) s.records t kind groups r reply u records
-    → (records ≡ s.records) ⊎ ((r : Record) × Adds s records r)
-grown-post s t u kind groups r Already records h = inl h.2
-grown-post s t u kind groups r Limit records h = inl h.3
-grown-post s t u kind groups r Memory records h = inl h.1
-grown-post s t u kind groups r New records h =
+    → (records ≡ s.records) ⊎ ((r : Record) × Adds s u records r)
+grown-post s t u same kind groups r Already records h = inl h.2
+grown-post s t u same kind groups r Levelled records h = inl h.3
+grown-post s t u same kind groups r Limit records h = inl h.3
+grown-post s t u same kind groups r Memory records h = inl h.1
+grown-post s t u same kind groups r New records h =
     let (of, is) = h.3 in
     inr (
       r,
@@ -50,26 +54,28 @@ grown-post s t u kind groups r New records h =
         accepted = of.accepted;
         fresh = ap (λ k. is_held s.records k (set_of r)) of.kind_is ∙ ap (is_held s.records kind) of.set_is ∙ h.0;
         room = h.1;
+        going = same ∙ h.4;
+        goes = ap (λ (x : Turn). x.common.levelled) h.2 ∙ h.4;
         is = is;
       },
     )
-grown-post s t u kind groups r (Job a b c) records h = absurd h
-grown-post s t u kind groups r (Grant a) records h = absurd h
-grown-post s t u kind groups r Exhausted records h = absurd h
-grown-post s t u kind groups r Settled records h = absurd h
-grown-post s t u kind groups r Dry records h = absurd h
-grown-post s t u kind groups r Stopped records h = absurd h
-grown-post s t u kind groups r Retired records h = absurd h
+grown-post s t u same kind groups r (Job a b c) records h = absurd h
+grown-post s t u same kind groups r (Grant a) records h = absurd h
+grown-post s t u same kind groups r Exhausted records h = absurd h
+grown-post s t u same kind groups r Settled records h = absurd h
+grown-post s t u same kind groups r Dry records h = absurd h
+grown-post s t u same kind groups r Stopped records h = absurd h
+grown-post s t u same kind groups r Retired records h = absurd h
 
 -- a call keeps the records, or adds one
 pub grown : (s : State) (t u : Turn) (call : Call) (engine : Option ℕ) (reply : Reply) (records : List Record)
-    → Does s t call engine reply u records → (records ≡ s.records) ⊎ ((r : Record) × Adds s records r)
-grown s t u Take engine reply records h = inl h.1
-grown s t u (Refill asked) engine reply records h = inl h.2
-grown s t u (Post kind groups r) engine reply records h = grown-post s t u kind groups r reply records h.1
-grown s t u (Retire why) engine reply records h = inl h.3
+    → s.levelled ≡ t.common.levelled → Does s t call engine reply u records → (records ≡ s.records) ⊎ ((r : Record) × Adds s u records r)
+grown s t u Take engine reply records same h = inl h.1
+grown s t u (Refill asked) engine reply records same h = inl h.2
+grown s t u (Post kind groups r) engine reply records same h = grown-post s t u same kind groups r reply records h.1
+grown s t u (Retire why) engine reply records same h = inl h.3
 
-pub is_longer : (s : State) (records : List Record) → (records ≡ s.records) ⊎ ((r : Record) × Adds s records r)
+pub is_longer : {u : Turn} (s : State) (records : List Record) → (records ≡ s.records) ⊎ ((r : Record) × Adds s u records r)
     → (more : List Record) × (records ≡ s.records ++ more)
 is_longer s records (inl same) = ([], same ∙ sym (append-nil s.records))
 is_longer s records (inr (r, adds)) = (r ∷ [], adds.is)
@@ -93,6 +99,12 @@ all_explored-longer groups rs more records is h =
       explored = λ set is_set within.
           ap (λ x. is_explored (founds x) set) is ∙ explored-append rs more set (h.explored set is_set within);
     }
+
+-- where the records stay, or a mark that would end them did not stand
+mark-stays : {u : Turn} (s : State) (records : List Record) (P : List Record → Type 0) → (records ≡ s.records) ⊎ ((r : Record) × Adds s u records r)
+    → ((r : Record) → Adds s u records r → ⊥) → P s.records → P records
+mark-stays s records P (inl same) none h = subst P (sym same) h
+mark-stays s records P (inr (r, adds)) none h = absurd (none r adds)
 
 -- what is told stays so
 told-longer : (goal : Goal) (groups : ℕ) (rs more records : List Record) → records ≡ rs ++ more
@@ -194,7 +206,7 @@ calls_of-other k es e other =
 after_sound : (s : State) (e : Entry) (u : Turn) (records : List Record) → IsSound s
     → (worker_at s.workers e.worker).ended ≡ false
     → TurnFacts s (turn_at s e.worker) e.used e.engine e.reply u
-    → (records ≡ s.records) ⊎ ((r : Record) × Adds s records r)
+    → (records ≡ s.records) ⊎ ((r : Record) × Adds s u records r)
     → IsSound (after s e u records)
 after_sound s e u records ok alive f more =
     let i : ℕ = e.worker in
@@ -225,7 +237,19 @@ after_sound s e u records ok alive f more =
       ];
       exhausted = λ h.
           all_explored-longer s.opening.problem.groups s.records longer.0 records longer.1
-          (elim (f.exhausted h) [ inl was ↦ ok.exhausted was | inr all ↦ all ]);
+          (elim (f.exhausted h) [ inl was ↦ ok.exhausted was | inr now ↦ now.0 ]);
+      unbounded = λ h.
+          let was = elim (f.exhausted h) [ inl marked ↦ ok.unbounded marked | inr now ↦ now.1 ] in
+          let all = elim (f.exhausted h) [ inl marked ↦ ok.exhausted marked | inr now ↦ now.0 ] in
+          mark-stays s records (λ (rs : List Record). bound_of s.opening.goal s.opening.problem.groups (founds rs) ≡ None) more
+          (λ r adds. false≢true (sym adds.fresh ∙ held_at_end s.opening.problem s.records r (accepted-right s.opening.problem s.records ok.opening.problem ok.accepted) all
+          (alone-right s.opening.problem r ok.opening.problem adds.accepted))) was;
+      levelled = λ h.
+          let was = elim (f.levelled h) [ inl marked ↦ ok.levelled marked | inr done ↦ done ] in
+          elim more [
+            | inl same ↦ subst (λ (rs : List Record). IsDone (kind_in s.opening.goal) (bound_of s.opening.goal s.opening.problem.groups (founds rs)) s.opening.problem.groups (founds rs)) (sym same) was
+            | inr (r, adds) ↦ absurd (true≢false (sym h ∙ adds.goes))
+          ];
       settled = λ h.
           told-longer s.opening.goal s.opening.problem.groups s.records longer.0 records longer.1
           (elim (f.settled h) [ inl was ↦ ok.settled was | inr told ↦ told ]);
@@ -252,18 +276,18 @@ after_sound s e u records ok alive f more =
       live = λ some.
           elim (f.live alive some) [
             | inl on ↦
-                or_left (list_any is_live (set s.workers i me)) (u.common.exhausted || (u.common.settled || (u.common.limited || u.common.stopped)))
+                or_left (list_any is_live (set s.workers i me)) (u.common.exhausted || (u.common.settled || (u.common.levelled || (u.common.limited || u.common.stopped))))
                 (list_any_at is_live (set s.workers i me) i no_worker
                 (subst (λ n. i < n) (sym (length-set s.workers i me)) low)
                 (ap is_live (worker_at-same s i me alive) ∙ ap not on))
-            | inr marks ↦ or_right (list_any is_live (set s.workers i me)) (u.common.exhausted || (u.common.settled || (u.common.limited || u.common.stopped))) marks
+            | inr marks ↦ or_right (list_any is_live (set s.workers i me)) (u.common.exhausted || (u.common.settled || (u.common.levelled || (u.common.limited || u.common.stopped)))) marks
           ];
       last = λ before x same unmarked.
           subst (λ (y : Entry). (worker_at (set s.workers i me) y.worker).ended ≡ true → y.reply ≡ Dry)
           (last-same s.history before e x same)
           (λ over.
           f.dry alive (sym (ap (λ (y : Worker). y.ended) (worker_at-same s i me alive)) ∙ over)
-          unmarked.exhausted unmarked.settled unmarked.limited unmarked.stopped);
+          unmarked.exhausted unmarked.settled unmarked.levelled unmarked.limited unmarked.stopped);
       own =
           each_worker s i me
           (λ k (x : Worker). k < length (set s.workers i me) → x ≡ worker_of (calls_of k (s.history ++ e ∷ []))) alive
@@ -286,7 +310,7 @@ step_sound s t e ok step =
     subst IsSound (sym step.is)
     (after_sound s e step.turn step.records ok step.alive
     (turn_facts s (turn_at s e.worker) e.used e.call e.engine e.reply step.turn step.records step.within step.does)
-    (grown s (settle e.used (turn_at s e.worker)) step.turn e.call e.engine e.reply step.records step.does))
+    (grown s (settle e.used (turn_at s e.worker)) step.turn e.call e.engine e.reply step.records refl step.does))
 
 -- the run of one entry more
 pub run-push : (s t u : State) (es : List Entry) (e : Entry) → CoreRun s es t → CoreStep t e u
@@ -340,13 +364,15 @@ opening_sound o ok =
       begins = ([], sym (append-nil o.records));
       at_most = omega arith;
       exhausted = λ h. absurd (false≢true h);
+      unbounded = λ h. absurd (false≢true h);
       settled = λ h. absurd (false≢true h);
+      levelled = λ h. absurd (false≢true h);
       limited = λ h. absurd (false≢true h);
       stopped = refl;
       ended = λ w _. new-purse o.workers w;
       budget = let none = sum_by-replicate purse_of o.workers new_worker in omega arith;
       spent = refl;
-      live = λ _. ap (λ b. b || (false || (false || (false || false)))) (new-live o.workers ok.some);
+      live = λ _. ap (λ b. b || (false || (false || (false || (false || false))))) (new-live o.workers ok.some);
       last = λ before e same. absurd (not_empty before e same);
       own = λ w low. new_worker_at o.workers w (omega (arith, length-new o.workers, low));
       named = tt;

@@ -15,7 +15,7 @@ use Rattle.map_core.specs.declared.entry.Opening.{Opening}
 use Rattle.map_core.specs.declared.closing.Verdict.{Verdict}
 use Rattle.map_core.specs.declared.closing.Verdict.TheVariants.{Complete, Settled, Levelled, Journal, Memory, Limit, Budget}
 use Rattle.map_core.specs.declared.closing.Closing.{Closing}
-use Rattle.map_core.specs.Core.{State, IsReached, is_told, kind_in, bound_of}
+use Rattle.map_core.specs.Core.{State, IsReached, is_told, kind_in, bound_in}
 use Rattle.map_core.specs.Asked.{ProvesLevel}
 pub use Rattle.map_core.specs.Levels.{learned_in}
 use Rattle.map_core.specs.Levels.{AreLevelLogs, StandsBefore}
@@ -67,16 +67,16 @@ pub record IsClosing (s : State) (closing : Closing) (log : List LogStep) (level
   pub all : closing.verdict ≡ Complete → HoldsAll s.opening.problem s.records
   pub told : closing.verdict ≡ Settled → is_told s.opening.goal s.opening.problem.groups (founds s.records) ≡ true
   -- the bound of the records; there is none where nothing is missing
-  pub bound : closing.bound ≡ bound_of s.opening.goal s.opening.problem.groups (founds s.records)
+  pub bound : closing.bound ≡ bound_in s
   pub unbounded : closing.verdict ≡ Complete → closing.bound ≡ None
   pub levelled : closing.verdict ≡ Levelled → IsLevelled s
   pub spent : closing.verdict ≡ Budget → s.spent ≡ s.opening.budget
   pub dry :
-      closing.verdict ≡ Budget → EndsDry (kind_in s.opening.goal) (bound_of s.opening.goal s.opening.problem.groups (founds s.records)) s.opening.problem.groups (founds s.records) s.history log levels
+      closing.verdict ≡ Budget → EndsDry (kind_in s.opening.goal) (bound_in s) s.opening.problem.groups (founds s.records) s.history log levels
   -- a derivation of the empty clause from the records' block clauses, or one that shows the level of their bound
   pub proof :
       MatchOption closing.proof ((closing.verdict ≢ Complete) × (closing.verdict ≢ Levelled))
-      (λ d. ProvesVerdict (kind_in s.opening.goal) (bound_of s.opening.goal s.opening.problem.groups (founds s.records)) s.opening.problem.groups (founds s.records) closing.verdict d)
+      (λ d. ProvesVerdict (kind_in s.opening.goal) (bound_in s) s.opening.problem.groups (founds s.records) closing.verdict d)
   pub honest : IsMapLog (kind_in s.opening.goal) s.opening.problem.groups (founds s.records) log
   pub level_logs : AreLevelLogs s.opening.goal (kind_in s.opening.goal) s.opening.problem.groups (founds s.records) levels
   pub few : length levels ≤ s.opening.workers

@@ -65,6 +65,25 @@ opened o =
       history = [];
     }
 
+-- the kind of which the smallest sets are wanted, if such are
+abbrev pub kind_in : Goal → Option Kind
+kind_in All = None
+kind_in Roles = None
+kind_in (Least kind wanted) = Some kind
+kind_in (Within kind most) = Some kind
+
+-- how many groups those sets may have that are still looked for: the size up to which as many were found as are wanted, if
+-- there are as many, or as many as was said
+abbrev pub bound_of : Goal → ℕ → List Found → Option ℕ
+bound_of All groups found = None
+bound_of Roles groups found = None
+bound_of (Least kind wanted) groups found = size_reached groups wanted (sets_found kind found)
+bound_of (Within kind most) groups found = Some (min most groups)
+
+-- the bound of what is held
+abbrev pub bound_in : State → Option ℕ
+bound_in s = bound_of s.opening.goal s.opening.problem.groups (founds s.records)
+
 -- the numbers and marks that do not belong to one worker
 abbrev pub common_of : State → Common
 common_of s = record { available = s.available; spent = s.spent; exhausted = s.exhausted; settled = s.settled; levelled = s.levelled; limited = s.limited; stopped = s.stopped }
@@ -141,21 +160,6 @@ is_told Roles groups found = are_settled groups found
 is_told (Least kind wanted) groups found = false
 is_told (Within kind most) groups found = false
 
--- the kind of which the smallest sets are wanted, if such are
-abbrev pub kind_in : Goal → Option Kind
-kind_in All = None
-kind_in Roles = None
-kind_in (Least kind wanted) = Some kind
-kind_in (Within kind most) = Some kind
-
--- how many groups those sets may have that are still looked for: the size up to which as many were found as are wanted, if
--- there are as many, or as many as was said
-abbrev pub bound_of : Goal → ℕ → List Found → Option ℕ
-bound_of All groups found = None
-bound_of Roles groups found = None
-bound_of (Least kind wanted) groups found = size_reached groups wanted (sets_found kind found)
-bound_of (Within kind most) groups found = Some (min most groups)
-
 -- a take for which no engine was asked; whether all that is wanted is told, and whether the records are at least the limit
 abbrev pub TakesUnasked : Bool → Bool → Turn → Reply → Turn → Type 0
 TakesUnasked told full t Stopped new = (t.common.stopped ≡ true) × (new ≡ end_turn t)
@@ -230,7 +234,7 @@ Posts p full held t kind set r _ new records = ⊥
 
 -- what a call does to the settled part of the worker, with its reply
 abbrev pub Does : State → Turn → Call → Option ℕ → Reply → Turn → List Record → Type 0
-Does s t Take engine reply new records = Takes s.opening.tops (kind_in s.opening.goal) (bound_of s.opening.goal s.opening.problem.groups (founds s.records)) s.opening.problem.groups (founds s.records) (is_told s.opening.goal s.opening.problem.groups (founds s.records)) (is_full s.opening s.records) (length s.history + 1) (give_back t) engine reply new × (records ≡ s.records)
+Does s t Take engine reply new records = Takes s.opening.tops (kind_in s.opening.goal) (bound_in s) s.opening.problem.groups (founds s.records) (is_told s.opening.goal s.opening.problem.groups (founds s.records)) (is_full s.opening s.records) (length s.history + 1) (give_back t) engine reply new × (records ≡ s.records)
 Does s t (Refill asked) engine reply new records = (engine ≡ None) × Refills (give_back t) reply new × (records ≡ s.records)
 Does s t (Post kind set r) engine reply new records = (engine ≡ None) × Posts s.opening.problem (is_full s.opening s.records) s.records t kind set r reply new records
 Does s t (Retire why) engine reply new records = (engine ≡ None) × (reply ≡ Retired) × (new ≡ retire t) × (records ≡ s.records)

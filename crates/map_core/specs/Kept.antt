@@ -18,7 +18,7 @@ use Rattle.map_core.specs.declared.common.Common.{Common}
 use Rattle.map_core.specs.declared.entry.Goal.{Goal}
 use Rattle.evidence_rec.specs.declared.held.Held.{Held}
 use Rattle.map_core.specs.declared.tally.Tally.{Tally}
-use Rattle.map_core.specs.Core.{State, CoreStep, IsReached, worker_at, kind_in, bound_of}
+use Rattle.map_core.specs.Core.{State, CoreStep, IsReached, worker_at, kind_in, bound_in}
 use Rattle.map_core.specs.Asked.{CanTell, Proves}
 use Rattle.map_core.specs.Levels.{learned_in, AreLevelLogs, StandsBefore}
 use Rattle.map_core.specs.Own.{engine_used_in}
@@ -51,7 +51,7 @@ KeepsProof kind bound groups found exhausted levelled proof =
 -- that of a state
 abbrev pub HasProof : State → Option Derivation → Type 0
 HasProof s proof =
-    KeepsProof (kind_in s.opening.goal) (bound_of s.opening.goal s.opening.problem.groups (founds s.records)) s.opening.problem.groups
+    KeepsProof (kind_in s.opening.goal) (bound_in s) s.opening.problem.groups
     (founds s.records) s.exhausted s.levelled proof
 
 -- where the last entry is a take that found the budget spent, a search stands before a conflict
@@ -61,7 +61,7 @@ StandsDry s log levels =
     → s.history ≡ before ++ e ∷ []
     → e.call ≡ Take
     → e.reply ≡ Dry
-    → StandsBefore (kind_in s.opening.goal) (bound_of s.opening.goal s.opening.problem.groups (founds s.records)) s.opening.problem.groups (founds s.records) log levels
+    → StandsBefore (kind_in s.opening.goal) (bound_in s) s.opening.problem.groups (founds s.records) log levels
 
 -- the engine has the blocks of the records, can be told their bound, and has learnt, with the levels that were asked for, as
 -- many clauses as the history says that it used
@@ -69,7 +69,7 @@ pub record IsDriven (s : State) (engine : EngineState) (levels : List (List LogS
   pub same_groups : engine.groups ≡ s.opening.problem.groups
   pub same_kind : engine.kind ≡ kind_in s.opening.goal
   pub same_blocks : engine.blocks ≡ founds s.records
-  pub can_tell : CanTell engine (bound_of s.opening.goal s.opening.problem.groups (founds s.records))
+  pub can_tell : CanTell engine (bound_in s)
   pub honest : HasMapLog engine
   pub levels : AreLevelLogs s.opening.goal (kind_in s.opening.goal) s.opening.problem.groups (founds s.records) levels
   pub learned : learned_count engine.log + learned_in levels ≡ engine_used_in s.history

@@ -12,7 +12,7 @@ use Rattle.map_core.specs.declared.entry.Entry.{Entry}
 use Rattle.map_core.specs.declared.entry.Reply.TheVariants.{Dry}
 use Rattle.map_core.specs.declared.entry.Opening.{Opening}
 use Rattle.map_core.specs.declared.turn.Worker.{Worker}
-use Rattle.map_core.specs.Core.{State, worker_at, is_full, is_told, kind_in, bound_of}
+use Rattle.map_core.specs.Core.{State, worker_at, is_full, is_told, kind_in, bound_in}
 use Rattle.map_core.specs.Own.{calls_of, worker_of, is_retirement, used_in, engine_used_in}
 
 -- what a core may be opened with
@@ -48,7 +48,7 @@ IsDone None bound groups found = ⊥
 
 -- the smallest sets are wanted, and each set is explored that is within the bound of what was found
 abbrev pub IsLevelled : State → Type 0
-IsLevelled s = IsDone (kind_in s.opening.goal) (bound_of s.opening.goal s.opening.problem.groups (founds s.records)) s.opening.problem.groups (founds s.records)
+IsLevelled s = IsDone (kind_in s.opening.goal) (bound_in s) s.opening.problem.groups (founds s.records)
 
 pub record IsSound (s : State) : Type 0 where
   pub opening : IsOpening s.opening
@@ -60,7 +60,7 @@ pub record IsSound (s : State) : Type 0 where
   pub at_most : length s.records ≤ max s.opening.limit (length s.opening.records)
   -- what each mark says
   pub exhausted : s.exhausted ≡ true → AllExplored s.opening.problem.groups (founds s.records)
-  pub unbounded : s.exhausted ≡ true → bound_of s.opening.goal s.opening.problem.groups (founds s.records) ≡ None
+  pub unbounded : s.exhausted ≡ true → bound_in s ≡ None
   pub settled : s.settled ≡ true → is_told s.opening.goal s.opening.problem.groups (founds s.records) ≡ true
   pub levelled : s.levelled ≡ true → IsLevelled s
   pub limited : s.limited ≡ true → is_full s.opening s.records ≡ true
