@@ -1,5 +1,6 @@
 -- The logs of the levels that were asked for, each over the records of its time.
-use Rattle.std.specs.Prelude.{◌≡◌, ◌⊎◌, ℕ, ◌≤◌, true, List, [], ◌∷◌, ◌++◌, length, take, sum_by, All, Option, Some, None}
+use Rattle.std.specs.Prelude.{◌≡◌, ◌⊎◌, ℕ, ◌≤◌, true, List, [], ◌∷◌, ◌++◌, length, take, sum_by, Option, Some, None}
+use Rattle.std.specs.List.{AllByRecursion}
 use Rattle.gm_base.specs.declared.kind.Kind.{Kind}
 use Rattle.gm_base.specs.Explored.{Found}
 use Rattle.gm_base.specs.Levels.{level, level_limit}
@@ -25,7 +26,7 @@ pub record IsLogOfLevel (goal : Goal) (kind : Kind) (groups : ℕ) (found : List
 -- the logs of levels; there are none where no smallest sets are wanted
 abbrev pub AreLevelLogs : Goal → Option Kind → ℕ → List Found → List (List LogStep) → Type 0
 AreLevelLogs goal None groups found levels = levels ≡ []
-AreLevelLogs goal (Some kind) groups found levels = All (IsLogOfLevel goal kind groups found) levels
+AreLevelLogs goal (Some kind) groups found levels = AllByRecursion (IsLogOfLevel goal kind groups found) levels
 
 -- the search for the last of these levels stands before a conflict, where no more than so many may count
 pub record LevelStands (kind : Kind) (groups most : ℕ) (found : List Found) (levels : List (List LogStep)) : Type 0 where
