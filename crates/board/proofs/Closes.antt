@@ -23,7 +23,7 @@ have_ended b seats s same all over has =
     }
 
 -- the history that is left is the one that the seats made
-pub is_closed : (o : Opening) (seats : List (SeatView Entry Opening)) (s : State) (left : Closing) (log : List LogStep) → s.opening ≡ o → HasAll caller_of IsLegal o seats s.history
-    → IsClosing s left log → IsClosed o seats left log
-is_closed o seats s left log same has is =
+pub is_closed : (o : Opening) (seats : List (SeatView Entry Opening)) (s : State) (left : Closing) (log : List LogStep) (levels : List (List LogStep)) → s.opening ≡ o → HasAll caller_of IsLegal o seats s.history
+    → IsClosing s left log levels → IsClosed o seats left log levels
+is_closed o seats s left log levels same has is =
     record { state = s; opening = same; closing = is; seats_are = subst (HasAll caller_of IsLegal o seats) (sym is.history) has }

@@ -19,3 +19,4 @@ pub mod ShortenLemmas
 pub mod ServingLemmas
 pub mod OutsideLemmas
 pub mod ApartLemmas
+pub mod EngineLemmas

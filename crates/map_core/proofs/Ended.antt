@@ -1,5 +1,5 @@
 -- What is left where every worker has ended: if nothing is marked, the budget is spent, and the last entry found it so.
-use Rattle.std.proofs.Common.{◌≡◌, ◌≢◌, ℕ, suc, ◌<◌, Bool, true, false, not, ◌||◌, List, [], ◌∷◌, ◌++◌, length, sum_by, Option, Some, None, refl, sym, ◌∙◌, ap, subst, inl, inr, arith, ltb}
+use Rattle.std.proofs.Common.{◌≡◌, ◌≢◌, ℕ, suc, ◌<◌, Bool, true, false, not, ◌||◌, ◌+◌, cond, List, [], ◌∷◌, ◌++◌, length, sum_by, Option, Some, None, refl, sym, ◌∙◌, ap, subst, inl, inr, arith, ltb}
 use Rattle.std.specs.Prelude.{MatchOption}
 use Rattle.std.specs.List.{list_any, AllByRecursion}
 use Rattle.std.proofs.lemmas.Bool.{false≢true, true≢false, false_from_ne_true, or_from, cases_Bool, ltb-true, ltb-false}
@@ -19,7 +19,7 @@ use Rattle.map_core.specs.declared.entry.Goal.TheVariants.{All, Roles, Least, Wi
 use Rattle.map_core.specs.Core.{State, worker_at, is_told, kind_in, bound_of, bound_in}
 use Rattle.map_core.specs.Asked.{Proves}
 use Rattle.map_core.specs.Own.{calls_of, worker_of}
-use Rattle.map_core.specs.Sound.{IsSound, IsUnmarked, IsDone, IsLevelled, purse_of, is_live}
+use Rattle.map_core.specs.Sound.{IsSound, IsUnmarked, IsDone, IsLevelled, purse_of, is_live, live_count}
 use Rattle.map_core.specs.Kept.{KeepsProof, StandsDry}
 use Rattle.map_core.specs.Closings.{verdict_by, is_cut_off, HaveEnded, EndsDry, HoldsAll, ProvesVerdict}
 use Rattle.map_core.proofs.Explored.{exhausted_holds_all}
@@ -40,6 +40,16 @@ none_live (w ∷ ws) h =
 all_ended : (s : State) → IsSound s → HaveEnded s.opening s.history → (k : ℕ) → k < length s.workers
     → (worker_at s.workers k).ended ≡ true
 all_ended s ok over k seat = ap (λ (x : Worker). x.ended) (ok.own k seat) ∙ over.at k (subst (λ n. k < n) ok.count seat)
+
+-- none is live
+pub no_live : (s : State) → IsSound s → HaveEnded s.opening s.history → live_count s.workers ≡ 0
+no_live s ok over = none s.workers (all_ended s ok over)
+  where
+    none : (ws : List Worker) → ((k : ℕ) → k < length ws → (worker_at ws k).ended ≡ true) → live_count ws ≡ 0
+    none [] h = refl
+    none (w ∷ ws) h =
+        let first : w.ended ≡ true = h 0 (omega arith) in
+        ap (λ b. cond (not b) 1 0 + live_count ws) first ∙ none ws (λ k lt. h (suc k) (omega arith))
 
 -- the verdict is that the budget is spent only where nothing is marked
 unmarked : (s : State) → verdict_by s.exhausted s.settled s.levelled (is_cut_off s.history) s.stopped s.limited ≡ Budget → IsUnmarked s

@@ -4,6 +4,8 @@ pub mod Turns
 pub mod Steps
 pub mod Explored
 pub mod Searched
+pub mod Bounds
+pub mod SizeLemmas
 pub mod Kept
 pub mod Told
 pub mod Ended

@@ -24,7 +24,7 @@ use Rattle.evidence_rec.specs.Records.{kind_of, set_of, found_of, founds, IsRigh
 use Rattle.evidence_rec.proofs.AcceptedLemmas.{accepted-right}
 use Rattle.evidence_rec.proofs.SetListLemmas.{In-subsets, subsets-In, In-filter, filter-In}
 use Rattle.map_core.specs.declared.entry.Goal.{Goal}
-use Rattle.map_core.specs.declared.entry.Goal.TheVariants.{All, Roles}
+use Rattle.map_core.specs.declared.entry.Goal.TheVariants.{All, Roles, Least, Within}
 use Rattle.map_core.specs.Core.{State, is_told}
 use Rattle.map_core.specs.Sound.{IsSound}
 use Rattle.map_core.specs.Laws.{told_role}
@@ -169,4 +169,6 @@ settled_tells s g ok marked within =
 
     by : (goal : Goal) → is_told goal s.opening.problem.groups (founds s.records) ≡ true → is_settled (founds s.records) g ≡ true
     by All h = absurd (false≢true h)
+    by (Least kind wanted) h = absurd (false≢true h)
+    by (Within kind most) h = absurd (false≢true h)
     by Roles h = group-at (is_settled (founds s.records)) (all_groups s.opening.problem.groups) h within

@@ -10,7 +10,7 @@ use Rattle.gm_base.proofs.SetLemmas.{range_with_len_more}
 use Rattle.gm_base.specs.Explored.{Found}
 use Rattle.gm_base.specs.Roles.{is_met, is_lacked, stands_alone, is_settled, are_settled}
 use Rattle.map_core.specs.declared.entry.Goal.{Goal}
-use Rattle.map_core.specs.declared.entry.Goal.TheVariants.{All, Roles}
+use Rattle.map_core.specs.declared.entry.Goal.TheVariants.{All, Roles, Least, Within}
 use Rattle.map_core.specs.declared.tally.Tally.{Tally}
 use Rattle.map_core.specs.Core.{is_told}
 use Rattle.map_core.specs.Tallies.{IsTally}
@@ -37,6 +37,8 @@ all-by p q (x ∷ xs) each h =
 -- what is told stays so
 pub told-append : (goal : Goal) (groups : ℕ) (sets more : List Found) → is_told goal groups sets ≡ true → is_told goal groups (sets ++ more) ≡ true
 told-append All groups sets more h = absurd (false≢true h)
+told-append (Least kind wanted) groups sets more h = absurd (false≢true h)
+told-append (Within kind most) groups sets more h = absurd (false≢true h)
 told-append Roles groups sets more h = all-by (is_settled sets) (is_settled (sets ++ more)) (all_groups groups) (settled-append sets more) h
 
 -- a test of each group, and of each place

@@ -4,7 +4,7 @@ use Rattle.evidence_rec.specs.declared.record.Record.{Record}
 use Rattle.map_core.specs.declared.entry.Call.{Call}
 use Rattle.map_core.specs.declared.entry.Call.TheVariants.{Take, Refill, Post, Retire}
 use Rattle.map_core.specs.declared.entry.Reply.{Reply}
-use Rattle.map_core.specs.declared.entry.Reply.TheVariants.{Job, Grant, Exhausted, Settled, Limit, Dry, Stopped, New, Already, Retired, Memory}
+use Rattle.map_core.specs.declared.entry.Reply.TheVariants.{Job, Grant, Exhausted, Settled, Levelled, Limit, Dry, Stopped, New, Already, Retired, Memory}
 use Rattle.map_core.specs.declared.entry.Entry.{Entry}
 use Rattle.map_core.specs.declared.turn.Turn.{Turn}
 use Rattle.map_core.specs.Core.{State, opened, settle, turn_at, Does, CoreStep, CoreRun, IsReached}
@@ -18,6 +18,7 @@ fits_does : (s : State) (t u : Turn) (call : Call) (engine : Option ℕ) (reply 
 fits_does s t u Take None Stopped records h = refl
 fits_does s t u Take None Exhausted records h = refl
 fits_does s t u Take None Settled records h = refl
+fits_does s t u Take None Levelled records h = refl
 fits_does s t u Take None Limit records h = refl
 fits_does s t u Take None Memory records h = refl
 fits_does s t u Take None (Job a b c) records h = absurd h.0
@@ -29,6 +30,7 @@ fits_does s t u Take None Retired records h = absurd h.0
 fits_does s t u Take (Some n) (Job a b c) records h = refl
 fits_does s t u Take (Some n) Exhausted records h = refl
 fits_does s t u Take (Some n) Settled records h = absurd h.0.1
+fits_does s t u Take (Some n) Levelled records h = refl
 fits_does s t u Take (Some n) Dry records h = refl
 fits_does s t u Take (Some n) Memory records h = refl
 fits_does s t u Take (Some n) (Grant a) records h = absurd h.0.1
@@ -44,6 +46,7 @@ fits_does s t u (Refill asked) engine Memory records h = refl
 fits_does s t u (Refill asked) engine (Job a b c) records h = absurd h.1
 fits_does s t u (Refill asked) engine Exhausted records h = absurd h.1
 fits_does s t u (Refill asked) engine Settled records h = absurd h.1
+fits_does s t u (Refill asked) engine Levelled records h = refl
 fits_does s t u (Refill asked) engine Limit records h = absurd h.1
 fits_does s t u (Refill asked) engine New records h = absurd h.1
 fits_does s t u (Refill asked) engine Already records h = absurd h.1
@@ -56,6 +59,7 @@ fits_does s t u (Post kind groups r) engine (Job a b c) records h = absurd h.1
 fits_does s t u (Post kind groups r) engine (Grant a) records h = absurd h.1
 fits_does s t u (Post kind groups r) engine Exhausted records h = absurd h.1
 fits_does s t u (Post kind groups r) engine Settled records h = absurd h.1
+fits_does s t u (Post kind groups r) engine Levelled records h = refl
 fits_does s t u (Post kind groups r) engine Dry records h = absurd h.1
 fits_does s t u (Post kind groups r) engine Stopped records h = absurd h.1
 fits_does s t u (Post kind groups r) engine Retired records h = absurd h.1

@@ -1,5 +1,5 @@
 //! What holds after every list of entries, by any workers in any order: each law is the contract of a function with no code.
-ghost use Rattle.map_core.specs.Laws.{OpeningIsSound, StepsKeepSound, RunsAreSound, SoundDecides, StepsExplore, JobsAreNew, JobsAreTops, HeldIsMinimal, NotBoth, NewAreHeld, NewAreBrought, ExhaustedHoldsAll, SettledTells, MarksStay, NoneIsNew, NoneIsJob, NoneIsGrant};
+ghost use Rattle.map_core.specs.Laws.{OpeningIsSound, StepsKeepSound, RunsAreSound, SoundDecides, StepsExplore, JobsAreNew, JobsAreTops, HeldIsMinimal, NotBoth, NewAreHeld, NewAreBrought, ExhaustedHoldsAll, SettledTells, LevelledIsDone, BoundFalls, MarksStay, NoneIsNew, NoneIsJob, NoneIsGrant};
 
 /// The opening state has the core's facts, and each step keeps them.
 pub fn core_is_sound()
@@ -28,6 +28,12 @@ pub fn held_is_right()
 /// What the records tell once settled is marked: the role of each group.
 pub fn settled_is_right()
     ensures { SettledTells }
+{}
+
+/// What is explored once levelled is marked, and how the bound of what was found goes.
+pub fn levelled_is_right()
+    ensures done { LevelledIsDone }
+    ensures falls { BoundFalls }
 {}
 
 /// Marks stay, and what each of them ends for good.

@@ -3,7 +3,8 @@ use Rattle.std.proofs.Common.{◌≡◌, ℕ, zero, suc, ◌-◌, Bool, Option, 
 use Rattle.std.proofs.lemmas.List.{get_or-map, length-map, map-append, append-nil}
 use Rattle.std.proofs.Math.Seq.{take-append_seam}
 use Rattle.gm_base.specs.Problem.{Problem}
-use Rattle.lrat_steps.specs.Log.{LogStep}
+use Rattle.std.proofs.lemmas.List.Sums.{sum_by-cons}
+use Rattle.lrat_steps.specs.Log.{LogStep, learned_count}
 use Rattle.turn_lock.specs.Calls.{calls_by}
 use Rattle.turn_lock.specs.Seats.{AreAll, AreNew, made_at, new_seat}
 use Rattle.evidence_rec.specs.Asking.{OracleState, IsHonestOver}
@@ -17,7 +18,7 @@ use Rattle.worker_pool.specs.declared.worker.Worker.{Worker}
 use Rattle.worker_pool.specs.Pens.{JournalView}
 use Rattle.worker_pool.specs.Workers.{IsFresh, IsNew, IsOver, HasWorked, IsDone, AreOver, oracle_of, seat_of, log_of}
 use Rattle.worker_pool.specs.Outcomes.{IsLeft, HaveCalls, learned_in}
-use Rattle.worker_pool.proofs.Learned.{used_in-all, learned_in-push}
+use Rattle.worker_pool.proofs.Learned.{used_in-all, learned_in-append}
 use Rattle.worker_pool.proofs.CutOff.{none_cut_off, not_journal}
 
 -- what a slice that was lent ends with
@@ -129,22 +130,23 @@ module _ {O D : Type 0} (j : Option JournalView) (b : LockView Opening) (p : Pro
       }
 
 -- the entries of each seat are those of its number
-pub have_calls : (b : LockView Opening) (seats : List (SeatView Entry Opening)) (left : Closing) (map_log : List LogStep) → AreAll b seats → IsClosed b.opening seats left map_log → HaveCalls left.history seats
-have_calls b seats left map_log all is w d low = ap (λ n. calls_by caller_of n left.history) (sym (all.number w d low)) ∙ is.seats_are.mine w d low
+pub have_calls : (b : LockView Opening) (seats : List (SeatView Entry Opening)) (left : Closing) (map_log : List LogStep) (levels : List (List LogStep)) → AreAll b seats → IsClosed b.opening seats left map_log levels → HaveCalls left.history seats
+have_calls b seats left map_log levels all is w d low = ap (λ n. calls_by caller_of n left.history) (sym (all.number w d low)) ∙ is.seats_are.mine w d low
 
 -- what is left when the board is closed
-pub is_left : (keeps : Bool) (b : LockView Opening) (seats : List (SeatView Entry Opening)) (logs : List (List LogStep)) (left : Closing) (map_log : List LogStep) → AreOver keeps b seats logs → IsClosed b.opening seats left map_log
-    → IsLeft b.opening keeps (logs ++ map_log ∷ []) left
-is_left keeps b seats logs left map_log over is =
+pub is_left : (keeps : Bool) (b : LockView Opening) (seats : List (SeatView Entry Opening)) (logs : List (List LogStep)) (left : Closing) (map_log : List LogStep) (levels : List (List LogStep)) → AreOver keeps b seats logs → IsClosed b.opening seats left map_log levels
+    → IsLeft b.opening keeps (logs ++ map_log ∷ levels) left
+is_left keeps b seats logs left map_log levels over is =
     let d : SeatView Entry Opening = record { lock = b.id; opening = Some b.opening; number = 0; made = 0; seen = []; mine = [] } in
     let size : length logs ≡ b.opening.workers = over.logs_count ∙ over.count in
     let count = over.count in
-    let mine : (w : ℕ) → w < length seats → (get_or seats w d).mine ≡ calls_of w left.history = λ w low. sym (have_calls b seats left map_log over.all is w d low) in
+    let mine : (w : ℕ) → w < length seats → (get_or seats w d).mine ≡ calls_of w left.history = λ w low. sym (have_calls b seats left map_log levels over.all is w d low) in
     let done : (w : ℕ) (l : List LogStep) → w < b.opening.workers → IsDone keeps b.opening.problem b.opening.tops (get_or logs w l) (calls_of w left.history) =
     λ w l low. let inside : w < length seats = omega arith in subst (IsDone keeps b.opening.problem b.opening.tops (get_or logs w l)) (mine w inside) (over.done w d l inside) in
     let named : All (λ (e : Entry). e.worker < b.opening.workers) left.history = subst (λ n. All (λ (e : Entry). e.worker < n) left.history) over.count is.seats_are.named in
     let used = used_in-all logs left.history (subst (λ n. All (λ (e : Entry). e.worker < n) left.history) (sym size) named) (λ k l low. (done k l (omega arith)).paid) in
-    let all = learned_in-push logs map_log in
+    let all = learned_in-append logs (map_log ∷ levels) in
+    let both = sum_by-cons learned_count map_log levels in
     let maps = is.closing.learned in
     let spent = is.closing.sound.spent in
     let history = is.closing.history in
@@ -153,6 +155,7 @@ is_left keeps b seats logs left map_log over is =
       opening = is.opening;
       worker_logs = logs;
       map_log = map_log;
+      level_logs = levels;
       logs_are = refl;
       count = size;
       closing_is = is.closing;
@@ -160,7 +163,7 @@ is_left keeps b seats logs left map_log over is =
       workers = done;
       learned = let same = ap used_in history in omega arith;
       no_journal = λ no. let alone = subst (λ k. (w : ℕ) (d : List LogStep) → w < b.opening.workers → IsDone k b.opening.problem b.opening.tops (get_or logs w d) (calls_of w left.history)) no done in
-          not_journal is.state.exhausted is.state.settled (is_cut_off is.state.history) is.state.stopped is.state.limited is.closing.verdict
+          not_journal is.state.exhausted is.state.settled is.state.levelled (is_cut_off is.state.history) is.state.stopped is.state.limited is.closing.verdict
           (ap is_cut_off (sym history) ∙ none_cut_off b.opening.problem b.opening.tops b.opening.workers left.history named (λ w low. (alone w [] low).course));
     }
 

@@ -62,13 +62,14 @@ none_cut_off p tops n es named each =
     none_in n es (by_recursion (λ (e : Entry). e.worker < n) es named) (λ w low. course_not p tops Free (calls_of w es) (each w low))
 
 -- so the verdict isn't that one did
-pub not_journal : (a b j c d : Bool) {v : Verdict} → v ≡ verdict_by a b j c d → j ≡ false → v ≢ Journal
-not_journal a b j c d is none on = by a b j c d none (sym is ∙ on)
+pub not_journal : (a b l j c d : Bool) {v : Verdict} → v ≡ verdict_by a b l j c d → j ≡ false → v ≢ Journal
+not_journal a b l j c d is none on = by a b l j c d none (sym is ∙ on)
   where
-    by : (a b j c d : Bool) → j ≡ false → verdict_by a b j c d ≢ Journal
-    by true b j c d none e = cc
-    by false true j c d none e = cc
-    by false false true c d none e = cc
-    by false false false true d none e = cc
-    by false false false false true none e = cc
-    by false false false false false none e = cc
+    by : (a b l j c d : Bool) → j ≡ false → verdict_by a b l j c d ≢ Journal
+    by true b l j c d none e = cc
+    by false true l j c d none e = cc
+    by false false true j c d none e = cc
+    by false false false true c d none e = cc
+    by false false false false true d none e = cc
+    by false false false false false true none e = cc
+    by false false false false false false none e = cc

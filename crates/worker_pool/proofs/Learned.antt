@@ -2,7 +2,7 @@
 use Rattle.std.proofs.Common.{◌≡◌, ◌≢◌, ℕ, suc, ◌+◌, ◌<◌, ◌≤◌, Bool, true, false, cond, List, [], ◌∷◌, ◌++◌, length, get_or, All, refl, sym, ◌∙◌, ap, arith, eqb, eq-eqb, ne_eqb}
 use Rattle.std.specs.List.{AllByRecursion}
 use Rattle.std.proofs.lemmas.List.Elements.{All-head, All-tail}
-use Rattle.std.proofs.lemmas.List.Sums.{sum_by_push, sum_by-cons}
+use Rattle.std.proofs.lemmas.List.Sums.{sum_by-append, sum_by-cons}
 use mathlib.Core.Logic.{dite}
 use native.Mathlib.Decide.{ℕ_discrete}
 use Rattle.lrat_steps.specs.Log.{LogStep, learned_count}
@@ -78,5 +78,5 @@ used_in-all logs es named each =
     used_in-from logs 0 (length logs) es (omega arith) (between-all (length logs) es (by_recursion (λ (e : Entry). e.worker < length logs) es named))
     (λ k d low. let same : k ≡ 0 + k = omega arith in each k d low ∙ ap (λ n. used_in (calls_of n es)) same)
 
-pub learned_in-push : (logs : List (List LogStep)) (log : List LogStep) → learned_in (logs ++ log ∷ []) ≡ learned_in logs + learned_count log
-learned_in-push logs log = sum_by_push learned_count logs log
+pub learned_in-append : (logs more : List (List LogStep)) → learned_in (logs ++ more) ≡ learned_in logs + learned_in more
+learned_in-append logs more = sum_by-append learned_count logs more

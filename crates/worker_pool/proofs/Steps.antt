@@ -110,6 +110,8 @@ ends_refill p log {s = s} {asked = mine} undecided c before e asked is call dry 
 pub stays-post : (w : Worker) (used : ℕ) (r : Posted) → (r ≡ posted.New) ⊎ (r ≡ posted.Already) → (worker_after w used (post_reply r)).ended ≡ w.ended
 stays-post w used posted.New is = refl
 stays-post w used posted.Already is = refl
+stays-post w used posted.Levelled (inl e) = cc
+stays-post w used posted.Levelled (inr e) = cc
 stays-post w used posted.Limit (inl e) = cc
 stays-post w used posted.Limit (inr e) = cc
 stays-post w used posted.Memory (inl e) = cc
@@ -118,6 +120,8 @@ stays-post w used posted.Memory (inr e) = cc
 pub freed-post : (here : Place) (r : Posted) → (r ≡ posted.New) ⊎ (r ≡ posted.Already) → place_after here (post_reply r) ≡ Free
 freed-post here posted.New is = refl
 freed-post here posted.Already is = refl
+freed-post here posted.Levelled (inl e) = cc
+freed-post here posted.Levelled (inr e) = cc
 freed-post here posted.Limit (inl e) = cc
 freed-post here posted.Limit (inr e) = cc
 freed-post here posted.Memory (inl e) = cc
@@ -127,6 +131,7 @@ pub ended-post : (w : Worker) (used : ℕ) (here : Place) (r : Posted) → r ≢
     → ((worker_after w used (post_reply r)).ended ≡ true) × (place_after here (post_reply r) ≡ Over)
 ended-post w used here posted.New new already = absurd (new refl)
 ended-post w used here posted.Already new already = absurd (already refl)
+ended-post w used here posted.Levelled new already = (refl, refl)
 ended-post w used here posted.Limit new already = (refl, refl)
 ended-post w used here posted.Memory new already = (refl, refl)
 
@@ -135,6 +140,7 @@ pub ended-refill : (w : Worker) (used : ℕ) (here : Place) (r : Refilled) → (
 ended-refill w used here (refilled.Grant n) other = absurd (other n refl)
 ended-refill w used here refilled.Dry other = (refl, refl)
 ended-refill w used here refilled.Stopped other = (refl, refl)
+ended-refill w used here refilled.Levelled other = (refl, refl)
 ended-refill w used here refilled.Memory other = (refl, refl)
 
 pub ended-take : (w : Worker) (used : ℕ) (here : Place) (r : Taken) → ((turn : ℕ) (seed : List ℕ) (grant : ℕ) → r ≢ taken.Job turn seed grant)
@@ -142,6 +148,7 @@ pub ended-take : (w : Worker) (used : ℕ) (here : Place) (r : Taken) → ((turn
 ended-take w used here (taken.Job turn seed grant) other = absurd (other turn seed grant refl)
 ended-take w used here taken.Exhausted other = (refl, refl)
 ended-take w used here taken.Settled other = (refl, refl)
+ended-take w used here taken.Levelled other = (refl, refl)
 ended-take w used here taken.Limit other = (refl, refl)
 ended-take w used here taken.Dry other = (refl, refl)
 ended-take w used here taken.Stopped other = (refl, refl)

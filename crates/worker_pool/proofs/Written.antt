@@ -13,7 +13,7 @@ use Rattle.map_core.specs.declared.entry.Call.{Call}
 use Rattle.map_core.specs.declared.entry.Call.TheVariants.{Take, Refill, Post, Retire}
 use Rattle.map_core.specs.declared.entry.Retirement.{Retirement}
 use Rattle.map_core.specs.declared.entry.Reply.{Reply}
-use Rattle.map_core.specs.declared.entry.Reply.TheVariants.{Job, Grant, Exhausted, Settled, Limit, Dry, Stopped, New, Already, Retired, Memory}
+use Rattle.map_core.specs.declared.entry.Reply.TheVariants.{Job, Grant, Exhausted, Settled, Levelled, Limit, Dry, Stopped, New, Already, Retired, Memory}
 use Rattle.map_core.specs.declared.entry.Entry.{Entry}
 use Rattle.map_core.specs.declared.entry.Opening.{Opening}
 use Rattle.map_core.specs.Own.{news_by, new_in, brought_by, brought_in, is_for_journal, is_retirement}
@@ -64,6 +64,7 @@ none_brought (Post kind set r) (Job turn seed n) none = refl
 none_brought (Post kind set r) (Grant n) none = refl
 none_brought (Post kind set r) Exhausted none = refl
 none_brought (Post kind set r) Settled none = refl
+none_brought (Post kind set r) Levelled none = refl
 none_brought (Post kind set r) Limit none = refl
 none_brought (Post kind set r) Dry none = refl
 none_brought (Post kind set r) Stopped none = refl

@@ -13,6 +13,7 @@ ghost use Rattle.std.specs.Prelude.{◌≡◌, ◌<◌, ◌≤◌, ◌^◌, true
 ghost use Rattle.gm_base.specs.Sets.{IsSubset, all_groups};
 ghost use Rattle.gm_base.specs.Evidence.{is_witness};
 ghost use Rattle.evidence_rec.specs.Asking.{IsSpent};
+ghost use Rattle.mss_grow.specs.Grown.{TellsGrown};
 ghost use Rattle.map_core.specs.Sound.{IsOpening};
 ghost use Rattle.map_core.specs.Own.{worker_of};
 ghost use Rattle.board.specs.Boards.{IsSameSeat};
@@ -87,15 +88,34 @@ fn grow_seed<O: Oracle>(
     ensures explored { IfOk result (TellsExplored (O.state oracle.new) seed.now purse.new.left) }
     ensures spent { IsSpent (O.state oracle.old) (O.state oracle.new) purse.old.left purse.new.left }
 {
-    let groups = problem.groups(); // The problem is well-formed.
-    let grown = if is_small(goal, seed, groups) {
-        grow_down(alloc, oracle, problem, seed, turn, purse)?
-    } else {
-        grow(alloc, oracle, problem, seed, assign, turn, purse)?
-    };
-    match grown {
+    let _groups = problem.groups(); // The problem is well-formed.
+    match grow_by(alloc, oracle, problem, seed, goal, assign, turn, purse)? {
         Grown::Done(record) => Ok(Explored::Found(record)),
         Grown::Dry(asked) => Ok(Explored::Dry(asked)),
+    }
+}
+
+// From above, where few groups are there.
+fn grow_by<O: Oracle>(
+    alloc: Global,
+    oracle: &mut O,
+    problem: &Problem,
+    seed: &GroupSet,
+    goal: Goal,
+    assign: &Assign,
+    turn: u64,
+    purse: &mut Purse,
+) -> Result<Grown, AllocError>
+    requires problem { (O.state oracle.old).problem ≡ problem.now }
+    requires within { IsSubset seed.now (all_groups problem.now.groups) }
+    requires satisfied { is_witness problem.now seed.now assign.now ≡ true }
+    ensures grown { IfOk result (λ grown. TellsGrown (O.state oracle.new) seed.now purse.new.left grown) }
+    ensures spent { IsSpent (O.state oracle.old) (O.state oracle.new) purse.old.left purse.new.left }
+{
+    if is_small(goal, seed, problem.groups()) {
+        grow_down(alloc, oracle, problem, seed, turn, purse)
+    } else {
+        grow(alloc, oracle, problem, seed, assign, turn, purse)
     }
 }
 

@@ -1,6 +1,6 @@
 use Rattle.std.proofs.Common.{◌≡◌, take}
 use Rattle.lrat_steps.specs.Log.{learned_count}
-use Rattle.evidence_rec.specs.Seeding.{IsHonestMap}
+use Rattle.evidence_rec.specs.Seeding.{HasMapLog}
 use Rattle.evidence_rec.specs.Records.{founds}
 use Rattle.evidence_rec.specs.Index.{IsIndex}
 use Rattle.map_core.specs.Tallies.{Tallies}
@@ -14,5 +14,7 @@ invariant-loop-r g l = record {
   index : IsIndex l.held (take l.r-index l.records);
   tallies : Tallies l.goal (g.M.MapEngine.state l.fn.engine).groups (founds (take l.r-index l.records)) l.tally;
   learned : learned_count (g.M.MapEngine.state l.engine).log ≡ learned_count (g.M.MapEngine.state l.fn.engine).log;
-  honest : IsHonestMap (g.M.MapEngine.state l.engine).blocks (g.M.MapEngine.state l.engine).log;
+  kind : (g.M.MapEngine.state l.engine).kind ≡ (g.M.MapEngine.state l.fn.engine).kind;
+  bound : (g.M.MapEngine.state l.engine).bound ≡ (g.M.MapEngine.state l.fn.engine).bound;
+  honest : HasMapLog (g.M.MapEngine.state l.engine);
 }

@@ -20,5 +20,5 @@ returns-in-Closed g c =
     let book = c.in-Closed.book in
     let opening = c.in-Closed.ensures.opening ∙ ap (λ (b : LockView Opening). b.opening) c.self.view_is in
     let has = subst (λ (b : LockView Opening). HasAll caller_of IsLegal b.opening c.args.seats.items book.history) c.self.view_is c.in-Closed.ensures.history in
-    is_closed c.args.self.opening c.args.seats.items book c.closing-closing.result.0 c.closing-closing.result.1 opening has
-    (subst (λ (s : State). IsClosing s c.closing-closing.result.0 c.closing-closing.result.1) c.into_core.ensures c.closing-closing.ensures)
+    is_closed c.args.self.opening c.args.seats.items book c.closing-closing.result.0 c.closing-closing.result.1 c.closing-closing.result.2 opening has
+    (subst (λ (s : State). IsClosing s c.closing-closing.result.0 c.closing-closing.result.1 c.closing-closing.result.2) c.into_core.ensures c.closing-closing.ensures)

@@ -1,4 +1,4 @@
-use Rattle.std.proofs.Common.{◌≡◌, length, List, ℕ, [], ◌∷◌, ◌++◌, sym, ap, ◌∙◌, subst, refl, arith, None}
+use Rattle.std.proofs.Common.{◌≡◌, length, List, ℕ, [], ◌∷◌, ◌++◌, sym, ap, ◌∙◌, subst, refl, inl, arith, None}
 use Rattle.gm_base.specs.declared.kind.Kind.{Kind}
 use Rattle.evidence_rec.specs.Records.{kind_of, set_of, founds, IsAcceptedAlone}
 use Rattle.map_core.specs.Core.{State, CoreStep, turn_at, settle}
@@ -10,6 +10,8 @@ use Rattle.map_core.specs.declared.entry.Reply.{Reply}
 use Rattle.map_core.specs.declared.entry.Entry.{Entry}
 use Rattle.map_core.specs.declared.entry.Call.TheVariants.{Post}
 use Rattle.map_core.proofs.Kept.{call_kept, step_made, proof_kept, posts_here, no_take}
+use Rattle.map_core.proofs.Bounds.{can_tell-grown}
+use Rattle.map_core.proofs.Steps.{grown, is_longer}
 use Rattle.map_core.proofs.calls.MapCore.post.Goals as goal
 
 -- the entry of a post
@@ -54,6 +56,7 @@ invariant_of-self g c =
     posts_here i.problem i.limit i.records.items (kind_of c.args.finding) (set_of c.args.finding) c.args.finding
     (post_reply given.result.reply) u given.new.records.items records is (given.ensures.posts i.problem accepted) in
     let same = given.ensures.exhausted ∙ ap (λ (t : Turn). t.common.exhausted) is in
+    let same' = given.ensures.levelled ∙ ap (λ (t : Turn). t.common.levelled) is in
     let history =
     written c.args.w c.args.used _ _ _ _ _ _ _ _ _ _ _ c.kind-kind.ensures given.ensures.set c.of-brought.ensures c.kept_post.ensures
     given.ensures.history f.ensures.history in
@@ -61,15 +64,22 @@ invariant_of-self g c =
     let longer = f.ensures.capacity in
     let more = given.ensures.capacity in
     call_kept f.result given.new.records.items f.new.workers.items f.new.history.items _ given.new.held given.new.tally
-    (g.M.MapEngine.state given.new.engine) i.proof e u k r (refl, posts) f.ensures.common f.ensures.workers history
+    (g.M.MapEngine.state given.new.engine) i.levels.items i.proof e u k r (refl, posts) f.ensures.common f.ensures.workers history
     (omega arith)
     (λ on. let room = given.ensures.room on in omega (arith, room, size, longer, c.len-2.ensures, i.workers.ok.0, given.new.history.ok.0))
     given.ensures.index
     (given.ensures.tallies i.problem.groups k.tallies)
-    (proof_kept e u given.new.records.items k (refl, posts) same)
+    (proof_kept e u given.new.records.items k (refl, posts) same same')
     (record {
       same_groups = given.ensures.groups;
+      same_kind = given.ensures.kind;
       blocks = given.ensures.blocked;
+      can_tell =
+          let s : State = state_of g.M.MapEngine.TOPS i.goal i.problem i.first i.budget i.limit i.common i.records.items i.workers.items i.history.items in
+          let (more, longer) = is_longer s given.new.records.items (grown s (settle c.args.used (turn_at s c.args.w)) u e.call e.engine e.reply given.new.records.items refl (refl, posts)) in
+          can_tell-grown i.goal i.problem.groups i.records.items given.new.records.items more (g.M.MapEngine.state i.engine) (g.M.MapEngine.state given.new.engine) longer
+          d.same_kind given.ensures.kind given.ensures.bound d.can_tell;
+      adds = inl refl;
       honest = given.ensures.honest d.honest;
       learned = let l = given.ensures.learned in omega arith;
       dry = λ take. absurd (no_take e.call refl take);

@@ -37,18 +37,19 @@ invariant_of-self g c =
     (c.settled.ensures.turn ∙ ap (λ s. settle c.args.used (turn_at s c.args.w)) (sym c.self.view_is)) in
     let refills = subst (λ t. Refills t (refill_reply given.result.reply) u) is given.ensures.refills in
     let same = given.ensures.exhausted ∙ ap (λ (t : Turn). t.common.exhausted) is in
+    let same' = given.ensures.levelled ∙ ap (λ (t : Turn). t.common.levelled) is in
     let history =
     written c.args.w c.args.used _ _ _ _ _ _ _ c.from_set.ensures c.kept_refill.ensures given.ensures.history f.ensures.history in
     let size = ap length given.ensures.history in
     let longer = f.ensures.capacity in
     let more = given.ensures.capacity in
     call_kept f.result i.records.items f.new.workers.items f.new.history.items _ i.held i.tally (g.M.MapEngine.state i.engine)
-    i.proof e u k r (refl, refills, refl) f.ensures.common f.ensures.workers history
+    i.levels.items i.proof e u k r (refl, refills, refl) f.ensures.common f.ensures.workers history
     (omega arith)
     (λ on. let room = given.ensures.room on in omega (arith, room, size, longer, c.len.ensures, i.workers.ok.0, given.new.history.ok.0))
     k.index
     k.tallies
-    (proof_kept e u i.records.items k (refl, refills, refl) same) (idle e k.driven refl (no_take e.call refl))
+    (proof_kept e u i.records.items k (refl, refills, refl) same same') (idle e u k.driven refl (no_take e.call refl))
 
 -- one entry more, with what was answered
 pub returns-clause-step : goal.returns-clause-step

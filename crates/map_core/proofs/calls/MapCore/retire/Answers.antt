@@ -22,12 +22,13 @@ invariant_of-self g c =
     c.retire-turn.ensures ∙ ap retire
     (c.settled.ensures.turn ∙ ap (λ s. settle c.args.used (turn_at s c.args.w)) (sym c.self.view_is)) in
     let same = ap (λ (t : Turn). t.common.exhausted) is in
+    let same' = ap (λ (t : Turn). t.common.levelled) is in
     let over = ap (λ (t : Turn). t.worker.ended) is in
     let longer = f.ensures.capacity in
     call_kept f.result i.records.items f.new.workers.items f.new.history.items _ i.held i.tally (g.M.MapEngine.state i.engine)
-    i.proof e u k r (refl, refl, is, refl) f.ensures.common f.ensures.workers f.ensures.history
+    i.levels.items i.proof e u k r (refl, refl, is, refl) f.ensures.common f.ensures.workers f.ensures.history
     (omega arith) (λ on. absurd (false≢true (sym on ∙ over))) k.index k.tallies
-    (proof_kept e u i.records.items k (refl, refl, is, refl) same) (idle e k.driven refl (no_take e.call refl))
+    (proof_kept e u i.records.items k (refl, refl, is, refl) same same') (idle e u k.driven refl (no_take e.call refl))
 
 -- one entry more, with the worker's end
 pub returns-clause-step : goal.returns-clause-step
