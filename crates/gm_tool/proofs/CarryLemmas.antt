@@ -236,6 +236,7 @@ module _ (q : Problem) (c : Carrying) (log : List LogStep) (old : FilesState) (m
 verdict-three : (v : Verdict) → status_by v ≡ 3 → v ≡ verdict.Budget
 verdict-three verdict.Complete e = absurd (omega arith)
 verdict-three verdict.Settled e = absurd (omega arith)
+verdict-three verdict.Levelled e = absurd (omega arith)
 verdict-three verdict.Limit e = absurd (omega arith)
 verdict-three verdict.Budget e = refl
 verdict-three verdict.Journal e = absurd (omega arith)
@@ -244,6 +245,7 @@ verdict-three verdict.Memory e = absurd (omega arith)
 verdict-four : (v : Verdict) → status_by v ≡ 4 → v ≡ verdict.Limit
 verdict-four verdict.Complete e = absurd (omega arith)
 verdict-four verdict.Settled e = absurd (omega arith)
+verdict-four verdict.Levelled e = absurd (omega arith)
 verdict-four verdict.Limit e = refl
 verdict-four verdict.Budget e = absurd (omega arith)
 verdict-four verdict.Journal e = absurd (omega arith)

@@ -1,5 +1,5 @@
 -- What a listing that is over tells, by the status that it ends with.
-use Rattle.std.proofs.Common.{◌≡◌, ◌≢◌, ◌+◌, ◌≤◌, Bool, true, false, List, ◌++◌, length, length-append, refl, sym, ◌∙◌, ap, subst, arith}
+use Rattle.std.proofs.Common.{◌≡◌, ◌≢◌, ◌+◌, ◌≤◌, Bool, true, false, List, ◌++◌, length, length-append, None, refl, sym, ◌∙◌, ap, subst, arith}
 use Rattle.std.specs.Prelude.{max, if◌then◌else◌}
 use Rattle.std.proofs.lemmas.Bool.{false≢true, leb-true}
 use Rattle.gm_base.specs.Problem.{Problem}
@@ -12,8 +12,9 @@ use Rattle.map_core.specs.declared.closing.Verdict.{Verdict}
 use Rattle.map_core.specs.declared.closing.Verdict.TheVariants as verdict
 use Rattle.map_core.specs.declared.closing.Closing.{Closing}
 use Rattle.map_core.specs.Closings.{HoldsAll, verdict_by, is_cut_off}
-use Rattle.map_core.specs.Core.{State, is_told}
-use Rattle.map_core.specs.Sound.{IsSound}
+use Rattle.map_core.specs.Core.{State, is_told, kind_in, bound_of, bound_in}
+use Rattle.map_core.specs.Levels.{AreLevelLogs, StandsBefore}
+use Rattle.map_core.specs.Sound.{IsSound, IsDone}
 use Rattle.evidence_rec.proofs.HeldLemmas.{accepted-minimal}
 use Rattle.gm_io.specs.declared.bounds.Bounds.{Bounds}
 use Rattle.gm_io.specs.Endings.{status_by}
@@ -38,23 +39,48 @@ settled-told {p} {b = b} h v =
 not-settled : {p : Problem} {first : List Record} {b : Bounds} {logs : List (List LogStep)} {c : Closing} → IsClosedFor p first b logs c → b.goal ≡ All → c.verdict ≢ verdict.Settled
 not-settled {p} {c = c} h all v = false≢true (subst (λ goal. is_told goal p.groups (founds c.records) ≡ true) all (settled-told h v))
 
-complete-unless : (v : Verdict) → v ≢ verdict.Settled → status_by v ≡ 0 → v ≡ verdict.Complete
-complete-unless verdict.Complete all e = refl
-complete-unless verdict.Settled all e = absurd (all refl)
-complete-unless verdict.Limit all e = absurd (omega arith)
-complete-unless verdict.Budget all e = absurd (omega arith)
-complete-unless verdict.Journal all e = absurd (omega arith)
-complete-unless verdict.Memory all e = absurd (omega arith)
+-- what is done where a level is
+pub level-done : {p : Problem} {first : List Record} {b : Bounds} {logs : List (List LogStep)} {c : Closing} → IsClosedFor p first b logs c → c.verdict ≡ verdict.Levelled
+    → IsDone (kind_in b.goal) c.bound p.groups (founds c.records)
+level-done {p} {b = b} {c = c} h v =
+    let s = h.left.state in
+    let k = h.left.closing_is in
+    subst (λ (o : Opening). IsDone (kind_in o.goal) c.bound o.problem.groups (founds c.records)) h.left.opening
+    (subst (λ x. IsDone (kind_in s.opening.goal) x s.opening.problem.groups (founds c.records)) (sym k.bound)
+    (subst (λ rs. IsDone (kind_in s.opening.goal) (bound_in s) s.opening.problem.groups (founds rs)) (sym k.records) (k.levelled v)))
+
+-- the bound of the records
+pub bound-of-records : {p : Problem} {first : List Record} {b : Bounds} {logs : List (List LogStep)} {c : Closing} → IsClosedFor p first b logs c
+    → c.bound ≡ bound_of b.goal p.groups (founds c.records)
+bound-of-records {p} {b = b} {c = c} h =
+    let s = h.left.state in
+    h.left.closing_is.bound
+    ∙ ap (λ rs. bound_of s.opening.goal s.opening.problem.groups (founds rs)) (sym h.left.closing_is.records)
+    ∙ ap (λ (o : Opening). bound_of o.goal o.problem.groups (founds c.records)) h.left.opening
+
+-- where no smallest sets are wanted no level is done
+pub not-levelled : {p : Problem} {first : List Record} {b : Bounds} {logs : List (List LogStep)} {c : Closing} → IsClosedFor p first b logs c → kind_in b.goal ≡ None → c.verdict ≢ verdict.Levelled
+not-levelled {p} {b = b} {c = c} h none v = subst (λ k. IsDone k c.bound p.groups (founds c.records)) none (level-done h v)
+
+complete-unless : (v : Verdict) → v ≢ verdict.Settled → v ≢ verdict.Levelled → status_by v ≡ 0 → v ≡ verdict.Complete
+complete-unless verdict.Complete all lev e = refl
+complete-unless verdict.Settled all lev e = absurd (all refl)
+complete-unless verdict.Levelled all lev e = absurd (lev refl)
+complete-unless verdict.Limit all lev e = absurd (omega arith)
+complete-unless verdict.Budget all lev e = absurd (omega arith)
+complete-unless verdict.Journal all lev e = absurd (omega arith)
+complete-unless verdict.Memory all lev e = absurd (omega arith)
 
 -- the verdict of status 0
 pub complete_by : {p : Problem} {first : List Record} {b : Bounds} {logs : List (List LogStep)} {c : Closing} → IsClosedFor p first b logs c → b.goal ≡ All → status_by c.verdict ≡ 0
     → c.verdict ≡ verdict.Complete
-complete_by {c = c} h all = complete-unless c.verdict (not-settled h all)
+complete_by {c = c} h all = complete-unless c.verdict (not-settled h all) (not-levelled h (ap kind_in all))
 
 -- a verdict without want of memory, and not for a journal, has a status with which the report is written
 reported-by : (v : Verdict) → v ≢ verdict.Journal → v ≢ verdict.Memory → IsReported (status_by v)
 reported-by verdict.Complete none enough = refl
 reported-by verdict.Settled none enough = refl
+reported-by verdict.Levelled none enough = refl
 reported-by verdict.Limit none enough = refl
 reported-by verdict.Budget none enough = refl
 reported-by verdict.Journal none enough = absurd (none refl)
@@ -67,18 +93,20 @@ is_reported {c = c} h = reported-by c.verdict h.no_journal
 partial-not : (v : Verdict) → IsPartial (status_by v) → is_complete v ≡ false
 partial-not verdict.Complete partial = absurd (false≢true partial)
 partial-not verdict.Settled partial = absurd (false≢true partial)
+partial-not verdict.Levelled partial = absurd (false≢true partial)
 partial-not verdict.Limit partial = refl
 partial-not verdict.Budget partial = refl
 partial-not verdict.Journal partial = absurd (false≢true partial)
 partial-not verdict.Memory partial = refl
 
-limited-by : (a b j c d : Bool) → verdict_by a b j c d ≡ verdict.Limit → d ≡ true
-limited-by true b j c d e = cc
-limited-by false true j c d e = cc
-limited-by false false true c d e = cc
-limited-by false false false true d e = cc
-limited-by false false false false true e = refl
-limited-by false false false false false e = cc
+limited-by : (a b l j c d : Bool) → verdict_by a b l j c d ≡ verdict.Limit → d ≡ true
+limited-by true b l j c d e = cc
+limited-by false true l j c d e = cc
+limited-by false false true j c d e = cc
+limited-by false false false true c d e = cc
+limited-by false false false false true d e = cc
+limited-by false false false false false true e = refl
+limited-by false false false false false false e = cc
 
 -- the report with status 0 has all, and a partial one has what is held
 pub whole-text : {p : Problem} {first : List Record} {b : Bounds} {logs : List (List LogStep)} {c : Closing} → IsClosedFor p first b logs c → b.goal ≡ All → status_by c.verdict ≡ 0
@@ -96,19 +124,28 @@ held-minimal {c = c} h =
 
 -- where the budget is spent
 budget-spent : {p : Problem} {first : List Record} {b : Bounds} {logs : List (List LogStep)} {c : Closing} → IsClosedFor p first b logs c → c.verdict ≡ verdict.Budget → IsBudgetSpent p b logs c
-budget-spent {p} {b} h v =
+budget-spent {p} {b} {c = c} h v =
     let k = h.left.closing_is in
+    let s = h.left.state in
     let d = k.dry v in
+    let levels : AreLevelLogs b.goal (kind_in b.goal) p.groups (founds c.records) h.left.level_logs =
+    subst (λ (o : Opening). AreLevelLogs o.goal (kind_in o.goal) o.problem.groups (founds c.records) h.left.level_logs) h.left.opening
+    (subst (λ rs. AreLevelLogs s.opening.goal (kind_in s.opening.goal) s.opening.problem.groups (founds rs) h.left.level_logs) (sym k.records) k.level_logs) in
     record {
       learned = h.left.learned ∙ k.spent v ∙ ap (λ o. o.budget) h.left.opening;
       worker_logs = h.left.worker_logs;
       map_log = h.left.map_log;
+      level_logs = h.left.level_logs;
       logs_are = h.left.logs_are;
+      levels = levels;
       before = d.before;
       last = d.last;
       ends = k.history ∙ d.ends;
       dry = d.dry;
-      map_undecided = d.undecided;
+      map_undecided = λ take.
+          subst (λ (o : Opening). StandsBefore (kind_in o.goal) c.bound o.problem.groups (founds c.records) h.left.map_log h.left.level_logs) h.left.opening
+          (subst (λ x. StandsBefore (kind_in s.opening.goal) x s.opening.problem.groups (founds c.records) h.left.map_log h.left.level_logs) (sym k.bound)
+          (subst (λ rs. StandsBefore (kind_in s.opening.goal) (bound_in s) s.opening.problem.groups (founds rs) h.left.map_log h.left.level_logs) (sym k.records) (d.undecided take)));
       workers_undecided = λ w log within. (h.left.workers w log within).undecided;
     }
 
@@ -124,7 +161,7 @@ limit-reached : {p : Problem} {first : List Record} {b : Bounds} {logs : List (L
 limit-reached {first = first} {b = b} {c = c} h v =
     let k = h.left.closing_is in
     let s = h.left.state in
-    let marked = limited-by s.exhausted s.settled (is_cut_off s.history) s.stopped s.limited (sym k.verdict ∙ v) in
+    let marked = limited-by s.exhausted s.settled s.levelled (is_cut_off s.history) s.stopped s.limited (sym k.verdict ∙ v) in
     let full = leb-true s.opening.limit (length s.records) (k.sound.limited marked) in
     let most : length s.records ≤ max s.opening.limit (length s.opening.records) = k.sound.at_most in
     let limit : s.opening.limit ≡ b.limit = ap (λ (o : Opening). o.limit) h.left.opening in
@@ -150,6 +187,9 @@ enumerated h enough = record {
   no_journal = h.no_journal;
   settled = settled-told h;
   all = holds-all h;
+  bound = bound-of-records h;
+  unbounded = h.left.closing_is.unbounded;
+  levelled = level-done h;
   budget = budget-spent h;
   limit = limit-reached h;
 }

@@ -36,6 +36,7 @@ report-by {p} {closing = closing} h verdict.Complete is =
     full_report-from p closing.records
     (subst (HoldsAll p) (sym h.left.closing_is.records) (subst (λ q. HoldsAll q h.left.state.records) (of-problem h) (h.left.closing_is.all is)))
 report-by h verdict.Settled is = refl
+report-by h verdict.Levelled is = refl
 report-by h verdict.Journal is = refl
 report-by h verdict.Memory is = refl
 report-by h verdict.Limit is = refl

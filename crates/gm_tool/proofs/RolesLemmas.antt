@@ -37,7 +37,7 @@ use Rattle.gm_tool.specs.Roles.{AreTold, TellsRoles, are_told, roles_bounds, rol
 use Rattle.gm_tool.specs.Statuses.{IsAmong, IsReported, IsPartial, IsAfterwards, IsToldByStatus}
 use Rattle.gm_tool.specs.Steps.{Asks}
 use Rattle.gm_tool.specs.Words.{EndsAs, IsObeyed}
-use Rattle.gm_tool.proofs.ClosedLemmas.{enumerated, is_reported, holds-all, settled-told}
+use Rattle.gm_tool.proofs.ClosedLemmas.{enumerated, is_reported, holds-all, settled-told, not-levelled}
 use Rattle.gm_tool.proofs.StoppedLemmas.{stopped, unjudged}
 use Rattle.gm_tool.proofs.ReportLemmas.{of-problem, accepted-in}
 use Rattle.gm_tool.proofs.RunLemmas.{run-bare, run-stopped, left-of, asking-memory}
@@ -62,6 +62,7 @@ tells-roles {p} {b = b} {c = c} h told = record {
     by : (v : Verdict) → c.verdict ≡ v → are_told v ≡ true → HoldsAll p c.records ⊎ (are_settled p.groups (founds c.records) ≡ true)
     by verdict.Complete is told = inl (holds-all h is)
     by verdict.Settled is told = inr (settled-by b.goal p c.records (settled-told h is))
+    by verdict.Levelled is told = absurd (false≢true told)
     by verdict.Journal is told = absurd (false≢true told)
     by verdict.Memory is told = absurd (false≢true told)
     by verdict.Limit is told = absurd (false≢true told)
@@ -76,22 +77,25 @@ within-closed {p} {c = c} h = record { at = λ at r is. (accepted-at p c.records
 told-zero : (v : Verdict) → are_told v ≡ true → status_by v ≡ 0
 told-zero verdict.Complete told = refl
 told-zero verdict.Settled told = refl
+told-zero verdict.Levelled told = absurd (false≢true told)
 told-zero verdict.Journal told = absurd (false≢true told)
 told-zero verdict.Memory told = absurd (false≢true told)
 told-zero verdict.Limit told = absurd (false≢true told)
 told-zero verdict.Budget told = absurd (false≢true told)
 
-whole-by : (p : Problem) (v : Verdict) (old new : Option (List ℕ)) → status_by v ≡ 0 → TellsRoles p (are_told v) old new → ToldAppends old new (roles_report p)
-whole-by p verdict.Complete old new zero tells = tells
-whole-by p verdict.Settled old new zero tells = tells
-whole-by p verdict.Journal old new zero tells = absurd (omega arith)
-whole-by p verdict.Memory old new zero tells = absurd (omega arith)
-whole-by p verdict.Limit old new zero tells = absurd (omega arith)
-whole-by p verdict.Budget old new zero tells = absurd (omega arith)
+whole-by : (p : Problem) (v : Verdict) (old new : Option (List ℕ)) → v ≢ verdict.Levelled → status_by v ≡ 0 → TellsRoles p (are_told v) old new → ToldAppends old new (roles_report p)
+whole-by p verdict.Complete old new lev zero tells = tells
+whole-by p verdict.Settled old new lev zero tells = tells
+whole-by p verdict.Levelled old new lev zero tells = absurd (lev refl)
+whole-by p verdict.Journal old new lev zero tells = absurd (omega arith)
+whole-by p verdict.Memory old new lev zero tells = absurd (omega arith)
+whole-by p verdict.Limit old new lev zero tells = absurd (omega arith)
+whole-by p verdict.Budget old new lev zero tells = absurd (omega arith)
 
 nothing-by : (p : Problem) (v : Verdict) (old new : Option (List ℕ)) → IsPartial (status_by v) → TellsRoles p (are_told v) old new → new ≡ old
 nothing-by p verdict.Complete old new partial tells = absurd (false≢true partial)
 nothing-by p verdict.Settled old new partial tells = absurd (false≢true partial)
+nothing-by p verdict.Levelled old new partial tells = absurd (false≢true partial)
 nothing-by p verdict.Journal old new partial tells = absurd (false≢true partial)
 nothing-by p verdict.Memory old new partial tells = tells
 nothing-by p verdict.Limit old new partial tells = tells
@@ -101,6 +105,7 @@ budget-by : (v : Verdict) → status_by v ≡ 3 → v ≡ verdict.Budget
 budget-by verdict.Budget e = refl
 budget-by verdict.Complete e = absurd (omega arith)
 budget-by verdict.Settled e = absurd (omega arith)
+budget-by verdict.Levelled e = absurd (omega arith)
 budget-by verdict.Journal e = absurd (omega arith)
 budget-by verdict.Memory e = absurd (omega arith)
 budget-by verdict.Limit e = absurd (omega arith)
@@ -109,6 +114,7 @@ limit-by : (v : Verdict) → status_by v ≡ 4 → v ≡ verdict.Limit
 limit-by verdict.Limit e = refl
 limit-by verdict.Complete e = absurd (omega arith)
 limit-by verdict.Settled e = absurd (omega arith)
+limit-by verdict.Levelled e = absurd (omega arith)
 limit-by verdict.Journal e = absurd (omega arith)
 limit-by verdict.Memory e = absurd (omega arith)
 limit-by verdict.Budget e = absurd (omega arith)
@@ -211,7 +217,7 @@ module _ (a : Asking) (old : FilesState) (mid new : Outside) (begun : Beginning)
         left = refl;
         enumerated = enumerated h.0.left.closed h.0.enough_memory;
         verdict = λ _. refl;
-        whole = λ zero. whole-by begun.problem c.verdict mid.got new.got zero h.2;
+        whole = λ zero. whole-by begun.problem c.verdict mid.got new.got (not-levelled h.0.left.closed refl) zero h.2;
         partial = λ partial. nothing-by begun.problem c.verdict mid.got new.got partial h.2;
         told = λ e. absurd (seven e);
         cut_off = λ e. absurd (seven e);

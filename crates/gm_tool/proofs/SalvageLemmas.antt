@@ -63,19 +63,20 @@ fresh-new o keeps logs closing left f there =
     ∙ among-apart s.opening.records more f (subst (AreNew []) begins c.sound.distinct) (ap (λ (x : Opening). is_among (founds x.records) f) left.opening ∙ there)
 
 -- with a bound that was reached no worker retired
-none-stopped : (exhausted settled cut_off stopped limited : Bool) → IsPartial (status_by (verdict_by exhausted settled cut_off stopped limited)) → stopped ≡ false
-none-stopped true settled cut_off stopped limited t = absurd (false≢true t)
-none-stopped false true cut_off stopped limited t = absurd (false≢true t)
-none-stopped false false true stopped limited t = absurd (false≢true t)
-none-stopped false false false true limited t = absurd (false≢true t)
-none-stopped false false false false limited t = refl
+none-stopped : (exhausted settled levelled cut_off stopped limited : Bool) → IsPartial (status_by (verdict_by exhausted settled levelled cut_off stopped limited)) → stopped ≡ false
+none-stopped true settled levelled cut_off stopped limited t = absurd (false≢true t)
+none-stopped false true levelled cut_off stopped limited t = absurd (false≢true t)
+none-stopped false false true cut_off stopped limited t = absurd (false≢true t)
+none-stopped false false false true stopped limited t = absurd (false≢true t)
+none-stopped false false false false true limited t = absurd (false≢true t)
+none-stopped false false false false false limited t = refl
 
 pub none-retired : (o : Opening) (keeps : Bool) (logs : List (List LogStep)) (closing : Closing) → pool.IsLeft o keeps logs closing → IsPartial (status_by closing.verdict) → NoneRetired closing.history
 none-retired o keeps logs closing left t =
     let s = left.state in
     let c = left.closing_is in
     ap (list_any (λ (e : Entry). is_retirement e.reply)) c.history ∙ sym c.sound.stopped
-    ∙ none-stopped s.exhausted s.settled (is_cut_off s.history) s.stopped s.limited (subst (λ (v : Verdict). IsPartial (status_by v)) c.verdict t)
+    ∙ none-stopped s.exhausted s.settled s.levelled (is_cut_off s.history) s.stopped s.limited (subst (λ (v : Verdict). IsPartial (status_by v)) c.verdict t)
 
 -- ---- what is left of the journal
 

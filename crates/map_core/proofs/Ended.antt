@@ -8,11 +8,12 @@ use Rattle.lrat_steps.specs.Log.{LogStep}
 use Rattle.sat_base.specs.Derivation.{Derivation}
 use Rattle.gm_base.specs.Explored.{Found}
 use Rattle.gm_base.specs.declared.kind.Kind.{Kind}
+use Rattle.evidence_rec.specs.Seeding.{shows_all_explored}
 use Rattle.map_core.specs.declared.entry.Entry.{Entry}
 use Rattle.map_core.specs.declared.entry.Reply.TheVariants.{Dry}
 use Rattle.map_core.specs.declared.turn.Worker.{Worker}
 use Rattle.map_core.specs.declared.closing.Verdict.{Verdict}
-use Rattle.map_core.specs.declared.closing.Verdict.TheVariants.{Complete, Settled, Levelled, Budget}
+use Rattle.map_core.specs.declared.closing.Verdict.TheVariants.{Complete, Settled, Levelled, Journal, Memory, Limit, Budget}
 use Rattle.evidence_rec.specs.Records.{founds}
 use Rattle.map_core.specs.declared.entry.Goal.{Goal}
 use Rattle.map_core.specs.declared.entry.Goal.TheVariants.{All, Roles, Least, Within}
@@ -207,3 +208,19 @@ levelled_unsettled s ok done =
     apart Roles told done = done
     apart (Least kind wanted) told done = false≢true told
     apart (Within kind most) told done = false≢true told
+
+-- where no smallest sets are wanted, a proof goes with the verdict Complete, and with no other
+pub proof_of_all : (kind : Option Kind) (bound : Option ℕ) (groups : ℕ) (found : List Found) (v : Verdict) (o : Option Derivation) → kind ≡ None
+    → MatchOption o ((v ≢ Complete) × (v ≢ Levelled)) (λ d. ProvesVerdict kind bound groups found v d)
+    → MatchOption o (v ≢ Complete) (λ d. (v ≡ Complete) × (shows_all_explored groups found d ≡ true))
+proof_of_all kind bound groups found v None none h = h.0
+proof_of_all kind bound groups found v (Some d) none h = by v (subst (λ k. ProvesVerdict k bound groups found v d) none h)
+  where
+    by : (v : Verdict) → ProvesVerdict None bound groups found v d → (v ≡ Complete) × (shows_all_explored groups found d ≡ true)
+    by Complete h = (refl, h)
+    by Levelled h = absurd h
+    by Settled h = absurd h
+    by Journal h = absurd h
+    by Memory h = absurd h
+    by Limit h = absurd h
+    by Budget h = absurd h

@@ -1,13 +1,12 @@
 -- Sets counted by their sizes, and the least size up to which there are enough.
-use Rattle.std.proofs.Common.{◌≡◌, ℕ, zero, suc, ◌+◌, ◌-◌, ◌<◌, ◌≤◌, leb, eqb, cond, Bool, true, false, List, [], ◌∷◌, ◌++◌, length, get_or, set, replicate, Option, Some, None, refl, sym, ◌∙◌, ap, subst, inl, inr, arith, length-append, le-leb, lt-leb, eq-eqb, ne_eqb}
-use Rattle.std.proofs.lemmas.Bool.{cases_Bool, leb-true, leb-false, cond-true, cond-false, eqb-true}
-use Rattle.std.proofs.lemmas.List.{get_or-set_same, get_or-set_other, length-set}
+use Rattle.std.proofs.Common.{◌≡◌, ℕ, zero, suc, ◌+◌, ◌-◌, ◌<◌, ◌≤◌, leb, eqb, cond, Bool, true, false, List, [], ◌∷◌, ◌++◌, length, Option, Some, None, refl, sym, ◌∙◌, ap, subst, inl, inr, arith, length-append}
+use Rattle.std.proofs.lemmas.Bool.{cases_Bool, leb-true, leb-false, le-leb, lt-leb, cond-true, cond-false, eq-eqb, ne_eqb}
 use Rattle.std.proofs.lemmas.List.Elements.{filter-append}
 use mathlib.Core.Logic.{dite}
 use native.Mathlib.Decide.{ℕ_discrete}
 use Rattle.gm_base.specs.Sizes.{up_to, of_size, size_for_count, size_reached}
 use Rattle.map_core.specs.declared.sizes.Sizes.{Sizes}
-use Rattle.map_core.specs.Sizes.{AreCounted, IsEnough, IsFallen, IsSizes}
+use Rattle.map_core.specs.Sizes.{IsSizes}
 
 -- one set more is up to its size and above, and of its size alone
 pub up_to-in : (most : ℕ) (sets : List (List ℕ)) (set : List ℕ) → length set ≤ most → length (up_to most (sets ++ set ∷ [])) ≡ length (up_to most sets) + 1
@@ -42,9 +41,9 @@ up_to-next size [] = refl
 up_to-next size (x ∷ xs) =
     let rest = up_to-next size xs in
     elim (cases_Bool (leb (length x) (suc size))) [
-      | inl in ↦
-          let low = leb-true (length x) (suc size) in in
-          let one = ap length (cond-true (leb (length x) (suc size)) (x ∷ up_to (suc size) xs) (up_to (suc size) xs) in) in
+      | inl fits ↦
+          let low = leb-true (length x) (suc size) fits in
+          let one = ap length (cond-true (leb (length x) (suc size)) (x ∷ up_to (suc size) xs) (up_to (suc size) xs) fits) in
           elim (cases_Bool (leb (length x) size)) [
             | inl below ↦
                 let less = leb-true (length x) size below in
