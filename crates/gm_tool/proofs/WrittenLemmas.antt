@@ -278,7 +278,7 @@ module _ (p : Problem) (course : Course) (asked : Option (List ℕ)) (old : File
         closing = closing;
         left = listed-closing written;
         enumerated = enumerated is.closed is.enough_memory;
-        put_out = put-out p asked closing old mid new reads quiet course.told (ListedLine written) finish written h fits (λ small. valid-from closing is.closed small);
+        put_out = put-out p asked closing old mid new reads quiet course.told (ListedLine written) finish written h fits (λ small. valid-from closing is.closed is.all small);
         verdict = listed-verdict written;
         whole =
             λ zero.

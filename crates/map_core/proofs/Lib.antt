@@ -6,6 +6,7 @@ pub mod Explored
 pub mod Searched
 pub mod Bounds
 pub mod SizeLemmas
+pub mod ShownLemmas
 pub mod Kept
 pub mod Told
 pub mod Ended
