@@ -1,5 +1,5 @@
 //! The files that a command line names, and what each is there for.
-use gm_words::{Carrying, Exporting, Listing, Request};
+use gm_words::{Carrying, Exporting, Listing, Request, Seeking};
 
 /// A file that the words name.
 #[derive(Clone, Copy)]
@@ -57,6 +57,7 @@ impl<'a> Names<'a> {
             Request::Export(exporting) => Names::of_export(exporting),
             Request::Roles(asking) => Names::of_kept(file_as(asking.file, INPUT), no_file()),
             Request::Carry(carrying) => Names::of_carrying(carrying),
+            Request::Least(seeking) => Names::of_seeking(seeking),
         }
     }
 
@@ -79,6 +80,21 @@ impl<'a> Names<'a> {
         let renewed = file_where(listing.resume, EVIDENCE);
         let output = file_where(listing.journal, "is the journal");
         let other_output = file_where(listing.evidence, EVIDENCE);
+        Names {
+            input,
+            other_input,
+            renewed,
+            output,
+            other_output,
+        }
+    }
+
+    fn of_seeking(seeking: &Seeking<'a>) -> Self {
+        let input = file_as(seeking.file, INPUT);
+        let other_input = no_file();
+        let renewed = file_where(seeking.resume, EVIDENCE);
+        let output = file_where(seeking.evidence, EVIDENCE);
+        let other_output = no_file();
         Names {
             input,
             other_input,

@@ -233,7 +233,7 @@ fn close(board: Shared, seats: Vec<Seat>, out: &mut String) -> Result<(), AllocE
     requires ended { HaveAllEnded board.opening seats.items }
 {
     match board.close(seats) {
-        BoardClosing::Closed(closing, log) => say_closing(out, &closing, &log),
+        BoardClosing::Closed(closing, log, _) => say_closing(out, &closing, &log),
         // A board needs no memory to close.
         BoardClosing::Held(_, _) => unreachable!(),
     }

@@ -20,7 +20,7 @@ use evidence_rec::Records;
 use gm_base::{GroupSet, Problem};
 use lawful_fakes::{Lacking, ScriptedMap};
 use lrat_steps::Log;
-use map_core::{Closing, Goal, MapCore, Posted, Refilled, Retirement, Taken, Verdict};
+use map_core::{Closing, Goal, Logs, MapCore, Posted, Refilled, Retirement, Taken, Verdict};
 use std::alloc::{AllocError, Global};
 use trial_script::Step;
 use trial_sets::{
@@ -177,7 +177,7 @@ fn close(core: MapCore<ScriptedMap>, out: &mut String) -> Result<(), AllocError>
     }
 }
 
-fn say_left(out: &mut String, left: (Closing, Log)) -> Result<(), AllocError> {
+fn say_left(out: &mut String, left: (Closing, Log, Logs)) -> Result<(), AllocError> {
     say_closing(out, &left.0, &left.1)
 }
 
