@@ -19,8 +19,8 @@ use crate::scripted::{record_in, scripted_map};
 use evidence_rec::Records;
 use gm_base::{GroupSet, Problem};
 use lawful_fakes::{Lacking, ScriptedMap};
-use lrat_steps::Log;
-use map_core::{Closing, Goal, Logs, MapCore, Posted, Refilled, Retirement, Taken, Verdict};
+use lrat_steps::{Log, Logs};
+use map_core::{Closing, Goal, MapCore, Posted, Refilled, Retirement, Taken, Verdict};
 use std::alloc::{AllocError, Global};
 use trial_script::Step;
 use trial_sets::{
