@@ -7,7 +7,6 @@ use Rattle.map_core.specs.declared.sizes.Sizes.{Sizes}
 -- the sets are counted by their sizes, and so are all, and those up to the size that is kept
 pub record AreCounted (sets : List (List ℕ)) (s : Sizes) : Type 0 where
   pub each : (size : ℕ) → size < length s.counts.items → slice_index_or s.counts.items size 0 ≡ length (of_size size sets)
-  pub small : length (up_to (length s.counts.items) sets) ≡ length sets
   pub total : s.total ≡ length sets
   pub within : s.within ≡ length (up_to s.bound sets)
   pub low : s.bound < length s.counts.items
@@ -26,6 +25,7 @@ pub record IsFallen (wanted : ℕ) (sets : List (List ℕ)) (s : Sizes) : Type 0
 -- there are enough
 pub record IsSizes (wanted groups : ℕ) (sets : List (List ℕ)) (s : Sizes) : Type 0 where
   pub all : length s.counts.items ≡ groups + 1
+  pub small : length (up_to groups sets) ≡ length sets
   pub counted : AreCounted sets s
   pub before : length sets < wanted → s.bound ≡ groups
   pub since : wanted ≤ length sets → IsFallen wanted sets s
