@@ -250,6 +250,7 @@ fn reply_word(entry: &Entry) -> &'static str {
         Reply::Grant(_) => "granted",
         Reply::Exhausted => "exhausted",
         Reply::Settled => "settled",
+        Reply::Levelled => "levelled",
         Reply::Limit => "limit",
         Reply::Dry => "dry",
         Reply::Stopped => "stopped",
