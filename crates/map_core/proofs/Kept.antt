@@ -192,7 +192,7 @@ driven_after {s = s} {levels = levels} {levels' = levels'} e u records more long
       same_blocks = on.blocks;
       can_tell = on.can_tell;
       honest = on.honest;
-      levels = logs-after s records more levels levels' u longer d.levels on.adds;
+      logs = logs-after s records more levels levels' u longer d.logs on.adds;
       learned =
           on.learned ∙ ap (λ n. n + engine_part e.engine) d.learned ∙ sym
           (sum_by_push (λ (x : Entry). engine_part x.engine) s.history e);

@@ -92,7 +92,7 @@ shown-level e number t before left used levels asked has none h going within sum
       takes = λ tops. takes-shown tops e.kind e.bound e.groups e.blocks number t used before left asked b none h sum asked.answer refl;
       reply = reply-shown t used asked.answer;
       proof = proof-shown e.kind e.bound e.groups e.blocks t used before left asked b h going asked.answer refl;
-      levels = inr (record { log = asked.log; is = refl; of = log-shown e.kind e.bound e.groups e.blocks before left asked b h; over = ended-shown t used asked.answer });
+      adds = inr (record { log = asked.log; is = refl; of = log-shown e.kind e.bound e.groups e.blocks before left asked b h; over = ended-shown t used asked.answer });
       learned = omega arith;
       dry = stands-shown e.kind e.bound e.groups e.blocks e.log levels t used before left asked b h asked.answer refl;
     }

@@ -67,6 +67,6 @@ pub record IsShown (e : EngineState) (number : ℕ) (t : Turn) (left : ℕ) (lev
   pub takes : (tops : Bool) → TakesAsked tops e.kind e.bound e.groups e.blocks number t used answer.kept answer.turn
   pub reply : take_reply answer.reply ≡ answer.kept
   pub proof : GivesProof e.kind e.bound e.groups e.blocks t answer.turn answer.proof
-  pub levels : AddsLevel e.kind e.bound e.groups e.blocks levels more answer.turn
+  pub adds : AddsLevel e.kind e.bound e.groups e.blocks levels more answer.turn
   pub learned : (learned_in more + t.common.available) ≡ (learned_in levels + left) + used
   pub dry : answer.kept ≡ Dry → StandsBefore e.kind e.bound e.groups e.blocks e.log more

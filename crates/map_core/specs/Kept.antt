@@ -71,7 +71,7 @@ pub record IsDriven (s : State) (engine : EngineState) (levels : List (List LogS
   pub same_blocks : engine.blocks ≡ founds s.records
   pub can_tell : CanTell engine (bound_in s)
   pub honest : HasMapLog engine
-  pub levels : AreLevelLogs s.opening.goal (kind_in s.opening.goal) s.opening.problem.groups (founds s.records) levels
+  pub logs : AreLevelLogs s.opening.goal (kind_in s.opening.goal) s.opening.problem.groups (founds s.records) levels
   pub learned : learned_count engine.log + learned_in levels ≡ engine_used_in s.history
   pub dry : StandsDry s engine.log levels
 

@@ -55,7 +55,7 @@ returns g c =
           (subst (λ (b : List Found). IsMapLog (kind_in i.goal) i.problem.groups b (g.M.MapEngine.state i.engine).log) d.same_blocks
           (subst (λ n. IsMapLog (kind_in i.goal) n (g.M.MapEngine.state i.engine).blocks (g.M.MapEngine.state i.engine).log) d.same_groups
           (subst (λ x. IsMapLog x (g.M.MapEngine.state i.engine).groups (g.M.MapEngine.state i.engine).blocks (g.M.MapEngine.state i.engine).log) d.same_kind d.honest)));
-      level_logs = subst (AreLevelLogs i.goal (kind_in i.goal) i.problem.groups (founds i.records.items)) (sym c.from_vec-3.ensures) d.levels;
+      level_logs = subst (AreLevelLogs i.goal (kind_in i.goal) i.problem.groups (founds i.records.items)) (sym c.from_vec-3.ensures) d.logs;
       few = let live = no_live s ok over in let count = ok.count in let few = k.few in let size = ap length c.from_vec-3.ensures in omega arith;
       learned = ap (λ l. learned_count l + learned_in c.from_vec-3.result) c.into_log.ensures.log ∙ ap (λ l. learned_count (g.M.MapEngine.state i.engine).log + learned_in l) c.from_vec-3.ensures ∙ d.learned;
     })
