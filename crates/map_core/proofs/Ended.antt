@@ -50,7 +50,10 @@ no_live s ok over = none s.workers (all_ended s ok over)
     none [] h = refl
     none (w ∷ ws) h =
         let first : w.ended ≡ true = h 0 (omega arith) in
-        ap (λ b. cond (not b) 1 0 + live_count ws) first ∙ none ws (λ k lt. h (suc k) (omega arith))
+        let one : cond {A = ℕ} (not w.ended) 1 0 ≡ 0 = ap (λ b. cond {A = ℕ} (not b) 1 0) first in
+        let rest : live_count ws ≡ 0 = none ws (λ k lt. h (suc k) (omega arith)) in
+        let sum : cond {A = ℕ} (not w.ended) 1 0 + live_count ws ≡ 0 = omega (arith, one, rest) in
+        sum
 
 -- the verdict is that the budget is spent only where nothing is marked
 unmarked : (s : State) → verdict_by s.exhausted s.settled s.levelled (is_cut_off s.history) s.stopped s.limited ≡ Budget → IsUnmarked s

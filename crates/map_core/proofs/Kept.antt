@@ -370,6 +370,7 @@ pub call_kept : {tops : Bool} {goal : Goal} {problem : Problem} {first budget li
     → IsDrivenOn (state_of tops goal problem first budget limit common records workers history) engine engine' levels levels' records' e u
     → IsKept (state_of tops goal problem first budget limit common' records' workers' history') first capacity' held'
     tally' engine' levels' proof'
+unfolding step_made
 call_kept {tops = tops} {goal = goal} {problem = problem} {first = first} {budget = budget} {limit = limit} {common = common} {records = records} {workers = workers} {history = history} {levels = levels} common' records' workers' history' capacity' held' tally' engine' levels' proof' e u k r does c w h longer on index tallies keeps driven =
     let step =
     step_made tops goal problem first budget limit common common' records records' workers workers' history history' e u

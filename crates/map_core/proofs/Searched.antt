@@ -18,8 +18,8 @@ pub used_learned : {old new : EngineState} {before left : ℕ} → IsSearched ol
 used_learned s = learned-used s.paid
 
 -- a block is no learnt clause
-pub blocked_learned : {kind : Option Kind} {old new : EngineState} {f : Found} → IsBlocked kind old f new → learned_count new.log ≡ learned_count old.log
-blocked_learned {kind = kind} {old = old} {new = new} {f = f} h = blocked-learned kind old f new h
+pub blocked_learned : (kind : Option Kind) (old new : EngineState) (f : Found) → IsBlocked kind old f new → learned_count new.log ≡ learned_count old.log
+blocked_learned kind old new f h = blocked-learned kind old f new h
 
 -- nor is a bound
 pub bounded_learned : {most : ℕ} {old new : EngineState} → IsBounded most old new → learned_count new.log ≡ learned_count old.log

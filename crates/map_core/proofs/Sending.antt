@@ -12,6 +12,8 @@ use Rattle.evidence_rec.specs.contracts.held.Held as held
 use Rattle.sat_base.specs.contracts.steps.Steps as steps
 use Rattle.sat_base.specs.contracts.cone.Cone as cone
 use Rattle.sat_base.specs.contracts.derivation.Derivation as derivation
+use Rattle.lrat_steps.specs.contracts.log.Log as log
+use Rattle.map_core.specs.contracts.sizes.Sizes as sizes
 use Rattle.map_core.specs.contracts.tally.Tally as tally
 use Rattle.evidence_rec.specs.declared.engine.MapEngine.{Ghosts}
 use Rattle.map_core.specs.contracts.calls.MapCore as core
@@ -53,9 +55,17 @@ found_send = search (derivation_send, sendable, crosses) depth 40
 pub held_send : IsSend held.the_row
 held_send = search (maps.crosses, sendable, crosses) depth 40
 
--- a tally is counts by group
+-- counts by size
+pub sizes_send : IsSend sizes.the_row
+sizes_send = search (sendable, crosses) depth 40
+
+-- a tally is counts by group and by size
 pub tally_send : IsSend tally.the_row
-tally_send = search (sendable, crosses) depth 40
+tally_send = search (sizes_send, sendable, crosses) depth 40
+
+-- a log is steps
+pub log_send : IsSend log.the_row
+log_send = search (steps_send, steps_sync, sendable, crosses) depth 40
 
 -- as a field of the core
 problem_field : IsSend (as_row problem.the_field)
@@ -67,4 +77,4 @@ module _ (M : RattleType) (g : Ghosts M.Denot) (s : IsSend M) where
   core_send =
       view_send _ _ _ _ _
       (declared_send (inside.the_type M g)
-      (search (problem_field, found_send, held_send, tally_send, entry_send, derivation_send, sendable, crosses) depth 60 fits 10000))
+      (search (problem_field, found_send, held_send, tally_send, entry_send, derivation_send, log_send, sendable, crosses) depth 60 fits 10000))

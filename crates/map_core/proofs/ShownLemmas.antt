@@ -17,12 +17,12 @@ use Rattle.map_core.specs.Levels.{learned_in, IsLogAt, AddsLevel, LevelStands, S
 use Rattle.map_core.proofs.Searched.{level_paid}
 
 -- an engine of a kind that was told a bound
-abbrev IsBounded : Option Kind → Option ℕ → Type 0
+abbrev pub IsBounded : Option Kind → Option ℕ → Type 0
 IsBounded (Some kind) (Some most) = Unit {0}
 IsBounded (Some kind) None = ⊥
 IsBounded None bound = ⊥
 
-is-bounded : (e : EngineState) → HasBound e → IsBounded e.kind e.bound
+pub is-bounded : (e : EngineState) → HasBound e → IsBounded e.kind e.bound
 is-bounded e h = subst (λ k. IsBounded k e.bound) (sym h.kind_is) (subst (λ b. IsBounded (Some h.kind) b) (sym h.bound_is) tt)
 
 takes-shown : (tops : Bool) (kind : Option Kind) (bound : Option ℕ) (groups : ℕ) (found : List Found) (number : ℕ) (t : Turn) (used before left : ℕ) (asked : AskedLevel) → IsBounded kind bound
@@ -49,7 +49,7 @@ log-shown (Some kind) (Some most) groups found before left asked b h = h.log
 log-shown (Some kind) None groups found before left asked b h = absurd b
 log-shown None bound groups found before left asked b h = absurd b
 
-paid-shown : (kind : Option Kind) (bound : Option ℕ) (groups : ℕ) (found : List Found) (before left : ℕ) (asked : AskedLevel) → IsBounded kind bound
+pub paid-shown : (kind : Option Kind) (bound : Option ℕ) (groups : ℕ) (found : List Found) (before left : ℕ) (asked : AskedLevel) → IsBounded kind bound
     → LevelIsAsked kind bound groups found before left asked → left + learned_count asked.log ≡ before
 paid-shown (Some kind) (Some most) groups found before left asked b h = h.paid
 paid-shown (Some kind) None groups found before left asked b h = absurd b

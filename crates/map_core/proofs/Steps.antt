@@ -239,13 +239,13 @@ after_sound s e u records ok alive f more =
           all_explored-longer s.opening.problem.groups s.records longer.0 records longer.1
           (elim (f.exhausted h) [ inl was ↦ ok.exhausted was | inr now ↦ now.0 ]);
       unbounded = λ h.
-          let was = elim (f.exhausted h) [ inl marked ↦ ok.unbounded marked | inr now ↦ now.1 ] in
-          let all = elim (f.exhausted h) [ inl marked ↦ ok.exhausted marked | inr now ↦ now.0 ] in
+          let was : bound_of s.opening.goal s.opening.problem.groups (founds s.records) ≡ None = elim (f.exhausted h) [ inl marked ↦ ok.unbounded marked | inr now ↦ now.1 ] in
+          let all : AllExplored s.opening.problem.groups (founds s.records) = elim (f.exhausted h) [ inl marked ↦ ok.exhausted marked | inr now ↦ now.0 ] in
           mark-stays s records (λ (rs : List Record). bound_of s.opening.goal s.opening.problem.groups (founds rs) ≡ None) more
           (λ r adds. false≢true (sym adds.fresh ∙ held_at_end s.opening.problem s.records r (accepted-right s.opening.problem s.records ok.opening.problem ok.accepted) all
           (alone-right s.opening.problem r ok.opening.problem adds.accepted))) was;
       levelled = λ h.
-          let was = elim (f.levelled h) [ inl marked ↦ ok.levelled marked | inr done ↦ done ] in
+          let was : IsDone (kind_in s.opening.goal) (bound_of s.opening.goal s.opening.problem.groups (founds s.records)) s.opening.problem.groups (founds s.records) = elim (f.levelled h) [ inl marked ↦ ok.levelled marked | inr done ↦ done ] in
           elim more [
             | inl same ↦ subst (λ (rs : List Record). IsDone (kind_in s.opening.goal) (bound_of s.opening.goal s.opening.problem.groups (founds rs)) s.opening.problem.groups (founds rs)) (sym same) was
             | inr (r, adds) ↦ absurd (true≢false (sym h ∙ adds.goes))
