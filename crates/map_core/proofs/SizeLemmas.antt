@@ -197,3 +197,53 @@ reached-is wanted groups sets s is enough =
 
 pub reached-none : (wanted groups : ℕ) (sets : List (List ℕ)) → length sets < wanted → size_reached groups wanted sets ≡ None
 reached-none wanted groups sets few = cond-false (leb wanted (length sets)) (Some (size_for_count sets wanted 0 groups)) None (lt-leb wanted (length sets) few)
+
+-- with one set more there are enough up to the size that is kept, where there are enough in all
+pub sizes-enough : (wanted groups : ℕ) (sets : List (List ℕ)) (set : List ℕ) (s : Sizes) → IsSizes wanted groups sets s → length set ≤ groups
+    → wanted ≤ length sets + 1 → wanted ≤ length (up_to s.bound (sets ++ set ∷ []))
+sizes-enough wanted groups sets set s is low enough =
+    elim (cases_Bool (leb wanted (length sets))) [
+      | inl was ↦
+          let before = (is.since (leb-true wanted (length sets) was)).enough in
+          elim (cases_Bool (leb (length set) s.bound)) [
+            | inl fit ↦ let one = up_to-in s.bound sets set (leb-true (length set) s.bound fit) in omega arith
+            | inr out ↦ let one = up_to-out s.bound sets set (leb-false (length set) s.bound out) in omega arith
+          ]
+      | inr not_yet ↦
+          let few = leb-false wanted (length sets) not_yet in
+          let top = is.before few in
+          let small = is.small in
+          let one = up_to-in groups sets set low in
+          subst (λ n. wanted ≤ length (up_to n (sets ++ set ∷ []))) (sym top) (omega arith)
+    ]
+
+-- what is kept of one set more, where there are still too few, and where there are enough
+pub sizes-few : (wanted groups : ℕ) (sets : List (List ℕ)) (set : List ℕ) (s t : Sizes) → IsSizes wanted groups sets s → length set ≤ groups
+    → AreCounted (sets ++ set ∷ []) t → length t.counts.items ≡ groups + 1 → t.bound ≡ s.bound → length sets + 1 < wanted
+    → IsSizes wanted groups (sets ++ set ∷ []) t
+sizes-few wanted groups sets set s t is low counted all bound few =
+    let sum = length-append sets (set ∷ []) in
+    let one = up_to-in groups sets set low in
+    let small = is.small in
+    record {
+      all = all;
+      small = omega arith;
+      counted = counted;
+      before = λ _. bound ∙ is.before (omega arith);
+      since = λ enough. absurd (omega arith);
+    }
+
+pub sizes-fallen : (wanted groups : ℕ) (sets : List (List ℕ)) (set : List ℕ) (s t : Sizes) → IsSizes wanted groups sets s → length set ≤ groups
+    → IsFallen wanted (sets ++ set ∷ []) t → length t.counts.items ≡ groups + 1 → wanted ≤ length sets + 1
+    → IsSizes wanted groups (sets ++ set ∷ []) t
+sizes-fallen wanted groups sets set s t is low fallen all enough =
+    let sum = length-append sets (set ∷ []) in
+    let one = up_to-in groups sets set low in
+    let small = is.small in
+    record {
+      all = all;
+      small = omega arith;
+      counted = fallen.counted;
+      before = λ few. absurd (omega arith);
+      since = λ _. fallen;
+    }
