@@ -53,7 +53,7 @@ no_live s ok over = none s.workers (all_ended s ok over)
         let one : cond {A = ℕ} (not w.ended) 1 0 ≡ 0 = ap (λ b. cond {A = ℕ} (not b) 1 0) first in
         let rest : live_count ws ≡ 0 = none ws (λ k lt. h (suc k) (omega arith)) in
         let sum : cond {A = ℕ} (not w.ended) 1 0 + live_count ws ≡ 0 = omega (arith, one, rest) in
-        sum
+        sum_by-cons (λ (x : Worker). cond {A = ℕ} (is_live x) 1 0) w ws ∙ sum
 
 -- the verdict is that the budget is spent only where nothing is marked
 unmarked : (s : State) → verdict_by s.exhausted s.settled s.levelled (is_cut_off s.history) s.stopped s.limited ≡ Budget → IsUnmarked s
@@ -168,6 +168,7 @@ closing_all s v ok is complete =
       conflicts = λ set is_set within. (exhausted_holds_all s set ok marked is_set within).0;
       corrections = λ set is_set within. (exhausted_holds_all s set ok marked is_set within).1;
     }
+
 -- where the verdict is that all is told, it is
 pub closing_told : (s : State) (v : Verdict) → IsSound s → v ≡ verdict_by s.exhausted s.settled s.levelled (is_cut_off s.history) s.stopped s.limited → v ≡ Settled
     → is_told s.opening.goal s.opening.problem.groups (founds s.records) ≡ true

@@ -131,14 +131,16 @@ logs-longer goal (Some kind) groups found more (log ∷ logs) h =
     let first = h.0 in
     let within = first.within in
     let size = length-append found more in
-    let same = take-append-le first.first found more within in
-    (record {
-      first = first.first;
-      most = first.most;
-      within = omega arith;
-      bound = ap (bound_of goal groups) same ∙ first.bound;
-      honest = subst (λ (fs : List Found). IsLevelLog kind groups first.most fs log) (sym same) first.honest;
-    }, logs-longer goal (Some kind) groups found more logs h.1)
+    let same = take-append-le first.first found more within in (
+      record {
+        first = first.first;
+        most = first.most;
+        within = omega arith;
+        bound = ap (bound_of goal groups) same ∙ first.bound;
+        honest = subst (λ (fs : List Found). IsLevelLog kind groups first.most fs log) (sym same) first.honest;
+      },
+      logs-longer goal (Some kind) groups found more logs h.1,
+    )
 
 take-all : {X : Type 0} (xs : List X) → take (length xs) xs ≡ xs
 take-all [] = refl
