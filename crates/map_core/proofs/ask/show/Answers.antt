@@ -1,7 +1,6 @@
-use Rattle.std.proofs.Common.{◌≡◌, ◌-◌, ◌+◌, ◌++◌, ◌∷◌, [], List, sym, subst, arith}
+use Rattle.std.proofs.Common.{◌≡◌, ◌-◌, ◌+◌, List, sym, subst, arith}
 use Rattle.lrat_steps.specs.Log.{LogStep}
 use Rattle.evidence_rec.specs.Seeding.{EngineState, LevelIsAsked}
-use Rattle.evidence_rec.specs.declared.engine.LevelAnswer.{LevelAnswer}
 use Rattle.map_core.specs.declared.ask.TakeAnswer.{TakeAnswer}
 use Rattle.map_core.specs.Asked.{IsShown, levelled_answer}
 use Rattle.map_core.proofs.ShownLemmas.{is-bounded, paid-shown, shown-level}
@@ -22,6 +21,5 @@ returns-in-Ok-clause-shown g c =
     let used = t.common.available - left in
     let levels = c.args.levels.now.items in
     subst (λ (a : TakeAnswer). IsShown e c.args.number t before levels c.push_reserved.new.self.items a) (sym c.levelled.ensures)
-    (subst (λ (logs : List (List LogStep)). IsShown e c.args.number t before levels logs (levelled_answer t used c.in-Ok.answer)) (sym c.push_reserved.ensures.items)
-    (subst (λ (a : LevelAnswer). IsShown e c.args.number t before levels (levels ++ asked.log ∷ []) (levelled_answer t used a)) (sym c.in-Ok.answer-is)
-    (shown-level e c.args.number t before left used levels asked c.requires.bounded c.requires.none_left of c.requires.going within (omega arith))))
+    (subst (λ (logs : List (List LogStep)). IsShown e c.args.number t before levels logs (levelled_answer t used asked.answer)) (sym c.push_reserved.ensures.items)
+    (shown-level e c.args.number t before left used levels asked c.requires.bounded c.requires.none_left of c.requires.going within (omega arith)))
