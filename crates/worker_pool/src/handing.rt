@@ -56,7 +56,7 @@ pub fn hand_in<O: Oracle, M: MapEngine, D: Disk, R: Wait>(
     };
     signs.come();
     let posted = board.post(rt, &mut worker.seat, used, finding);
-    signs.go();
+    signs.go_from_post(&posted);
     match posted {
         Posted::New => keep(rt, board, problem, journal, worker, text),
         Posted::Already => true,

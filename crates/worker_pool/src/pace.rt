@@ -7,6 +7,10 @@
 //! much longer than its own; of several, a quarter for each, and three quarters at most. A worker that had to wait long for
 //! its turns in several more of its jobs than it had not parts and watches again.
 //!
+//! Until the first record is found all workers would be at one seed, and each would derive the same by itself. So those that
+//! watch before their first job do so until then. Two oracles may wait for each other before either finds anything, so that
+//! ends too: behind as many watches as the problem has clauses, or 256.
+//!
 //! Who watches does so for some times as long as it takes to make a solver of the problem, and twice as long where that was in
 //! vain. Nobody sleeps past the end of the enumeration (`signs.rt`).
 use crate::signs::Signs;
@@ -36,6 +40,9 @@ const CLAUSES: u64 = 32;
 // So often a worker watches in a row at most, which takes a quarter of an hour. Then it joins.
 const WATCHES: u64 = 1000;
 
+// So often a worker watches at most before the first record is found. That takes eight seconds and more.
+const FIRST: u64 = 256;
+
 // So many looks that came too early are a long wait.
 const LONG: u64 = 20;
 
@@ -49,6 +56,8 @@ const SHORTER: u64 = 16;
 #[derive(Drop)]
 pub struct Pace {
     leads: bool,
+    // So often it watches at most before the first record is found.
+    first: u64,
     // The shortest time between two glances for this problem, and that for the next ones, in microseconds.
     least: u64,
     interval: u64,
@@ -64,6 +73,7 @@ impl Pace {
         let least = (clauses as u64 / CLAUSES).clamp(LEAST, MOST);
         Pace {
             leads,
+            first: (clauses as u64).min(FIRST),
             least,
             interval: least,
             looks: 0,
@@ -74,6 +84,7 @@ impl Pace {
     /// Watches before the first job.
     pub fn begin<R: Wait>(&mut self, rt: &R, signs: &Signs) {
         if !self.leads {
+            self.watch_for_a_record(rt, signs);
             self.watch(rt, signs);
             signs.join();
         }
@@ -100,6 +111,18 @@ impl Pace {
             signs.part();
             self.watch(rt, signs);
             signs.join();
+        }
+    }
+
+    // Sleeps until a record is found, or the enumeration ends, or for long enough.
+    fn watch_for_a_record<R: Wait>(&self, rt: &R, signs: &Signs) {
+        for _ in 0..self.first {
+            for _ in 0..GLANCES {
+                if signs.is_found() || signs.is_end() {
+                    return;
+                }
+                signs.sleep(rt, Duration::from_micros(self.interval));
+            }
         }
     }
 

@@ -1,9 +1,10 @@
 //! The signs: what the workers see of each other beside the board.
 //!
-//! They are three words that all workers share: whether one has ended, how many are at the board, and how many are at work.
-//! By them a worker settles whether it rests (`pace.rt`). When the first one ends, the others soon do, and none shall be waited
+//! They are four words that all workers share: whether one has ended, how many are at the board, how many are at work, and
+//! whether a record was found. By them a worker settles whether it rests (`pace.rt`). When the first one ends, the others soon do, and none shall be waited
 //! for that only sleeps: so whoever ends wakes all, and nobody sleeps from then on. Nothing is found by the signs, and no
 //! clause speaks of them.
+use map_core::Posted;
 use std::sync::Wait;
 use std::sync::atomic::{AtomicU64, Ordering};
 use std::time::Duration;
@@ -11,6 +12,8 @@ use std::time::Duration;
 const GOES_ON: u64 = 0;
 
 const ENDS: u64 = 1;
+
+const FOUND: u64 = 1;
 
 /// What the workers see of each other.
 #[derive(Drop)]
@@ -21,6 +24,8 @@ pub struct Signs {
     at_board: AtomicU64,
     // How many don't rest.
     at_work: AtomicU64,
+    // `FOUND` once a record was new at the board.
+    found: AtomicU64,
 }
 
 impl Signs {
@@ -30,6 +35,7 @@ impl Signs {
             end: AtomicU64::new(GOES_ON),
             at_board: AtomicU64::new(0),
             at_work: AtomicU64::new(1),
+            found: AtomicU64::new(0),
         }
     }
 
@@ -57,6 +63,19 @@ impl Signs {
     /// One fewer is at the board.
     pub fn go(&self) {
         self.at_board.fetch_sub(1, Ordering::SeqCst);
+    }
+
+    /// One fewer is at the board, behind a post that got this answer.
+    pub fn go_from_post(&self, posted: &Posted) {
+        if matches!(posted, Posted::New) {
+            self.found.store(FOUND, Ordering::SeqCst);
+        }
+        self.go();
+    }
+
+    /// Whether a record was new at the board since the workers began.
+    pub fn is_found(&self) -> bool {
+        self.found.load(Ordering::SeqCst) == FOUND
     }
 
     /// Whether somebody is at the board.
